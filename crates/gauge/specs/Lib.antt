@@ -1,0 +1,6 @@
+pub mod Least
+pub mod LeastLaws
+pub mod Ceil
+pub mod Shape
+pub mod ShapeLaws
+pub mod Only

@@ -1,0 +1,77 @@
+// The yard's sheet: its header and its records.
+use quantity::Modulus;
+use quantity::ShearArea;
+use quantity::Spacing;
+use quantity::Span;
+use quantity::SteelFactor;
+use quantity::Thickness;
+
+// The header of version 1.
+pub struct Header {
+    pub version: u8,
+    // L
+    pub length: Span,
+    // D0
+    pub draught: Span,
+    // H
+    pub wave: Span,
+    pub two_runs: bool,
+    // M, kNm
+    pub moment: u32,
+    // ZB, cm³
+    pub bottom_modulus: u32,
+    // n
+    pub count: u16,
+}
+
+// What a record of kind 1 to 4 carries.
+pub struct Plate {
+    // K
+    pub factor: SteelFactor,
+    pub z: Span,
+    // S
+    pub spacing: Spacing,
+    // T
+    pub thickness: Thickness,
+    pub b1: Span,
+    pub b2: Span,
+    pub ballast: bool,
+    // zL
+    pub tank_top: Span,
+    // Pa
+    pub cargo: u32,
+}
+
+// What a record of kind 5 to 8 carries.
+pub struct Member {
+    pub z: Span,
+    // S
+    pub spacing: Spacing,
+    // l
+    pub span: Span,
+    // T
+    pub thickness: Thickness,
+    // βb, βs and η, in hundredths
+    pub bending: u8,
+    pub shear: u8,
+    pub eta: u8,
+    // σ1, N/mm²
+    pub stress: u8,
+    // W
+    pub modulus: Modulus,
+    // A
+    pub area: ShearArea,
+    // K
+    pub factor: SteelFactor,
+}
+
+pub enum Body {
+    Plate(Plate),
+    Member(Member),
+}
+
+pub struct Record {
+    pub kind: u8,
+    pub id: u16,
+    pub body: Body,
+}

@@ -1,0 +1,32 @@
+-- The verdict on one member: the first rule that fails, in their order, with the least number of the gauge that meets it.
+use Prim.Native.Nat.{ℕ}
+use mathlib.Core.Bool.{Bool, cond}
+use mathlib.Core.List.{List, [], _∷_}
+use Rattle.gauge.specs.declared.Shape.{Shape}
+use Rattle.gauge.specs.Least.{leastIn, numberOf}
+use Rattle.gauge.specs.Shape.{leastOf}
+use Rattle.verdict.specs.declared.Verdict.{Verdict}
+
+-- a rule as one member has to answer to it: its number, what it asks of the scantling, the gauge's top, and the scantling that the member has
+pub record Rule : Type 0 where
+  pub number : ℕ
+  pub asks : ℕ → Bool
+  pub top : ℕ
+  pub has : ℕ
+
+-- rule 0, nothing required
+abbrev pub pass : Verdict
+pass = record { rule = 0; required = 0 }
+
+-- a failed rule and the least number of the gauge that meets it, 0 where none does
+abbrev pub failing : Rule → Verdict
+failing r = record { rule = r .number; required = numberOf (leastIn (r .asks) (r .top)) }
+
+-- the first rule that fails, in their order
+abbrev pub verdictOf : List Rule → Verdict
+verdictOf [] = pass
+verdictOf (r ∷ rs) = cond (r .asks (r .has)) (verdictOf rs) (failing r)
+
+-- the same for a rule given as a shape
+abbrev pub failedOf : ℕ → Shape → ℕ → Verdict
+failedOf number d top = record { rule = number; required = numberOf (leastOf d top) }
