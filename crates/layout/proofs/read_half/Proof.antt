@@ -1,0 +1,15 @@
+-- `layout::read_half` meets its contract.
+-- Assumes nothing.
+use borrow.Author.Needs.{needs}
+use mathlib.Core.Path.{sym, _∙_}
+use Rattle.layout.specs.BytesLaws.{read-few, read-all}
+use Rattle.layout.proofs.read_half.Statement.{statement}
+use Rattle.layout.proofs.read_half.Tie as tie
+
+pub read-half-spec : {M : Type 1} → statement M
+read-half-spec =
+    tie.close
+    (tie.spec
+    (λ c. sym (read-few 4 _ (c .if1 .taken)))
+    (λ c κs. search needs)
+    (λ c. c .half .ensures ∙ sym (read-all 4 _ (c .before .if1 .left))))

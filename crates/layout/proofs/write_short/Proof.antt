@@ -1,0 +1,33 @@
+-- `layout::write_short` meets its contract: a word and what follows it are the number's bytes together.
+-- Assumes nothing.
+use borrow.Author.Needs.{needs}
+use native.Mathlib.Omega.{arith}
+use mathlib.Core.Path.{sym, _∙_}
+use denote.Ref.{now}
+use Rattle.layout.specs.Bytes.{shortOf}
+use Rattle.layout.specs.BytesLaws.{write-few, write-all}
+use Rattle.layout.proofs.Parts.{put-law}
+use Rattle.layout.proofs.write_short.Statement.{statement}
+use Rattle.layout.proofs.write_short.Tie as tie
+
+returns : tie.Need-returns
+returns c =
+    let second = c .before .before in
+    let first = second .before .before .before .before in
+    let room = first .before .before .if1 .taken in
+    let a = first .before .before .before .before .args in
+    put-law 4 (now (a .out)) _ _ (a .n .hi) (a .n .lo) (omega arith) room (first .put-word .ensures) (second .put-half .ensures)
+    ∙ sym (write-all 12 (shortOf (a .n)) (now (a .out)) room)
+
+pub write-short-spec : {M : Type 1} → statement M
+write-short-spec =
+    tie.close
+    (tie.spec
+    (λ c κs. search needs)
+    (λ c. search needs)
+    (λ c. search needs)
+    (λ c. search needs)
+    (λ c κs. search needs)
+    (λ c. search needs)
+    returns
+    (λ c. sym (write-few 12 _ _ (c .if1 .left))))

@@ -1,0 +1,7 @@
+pub mod Layout
+pub mod Laws
+pub mod Bytes
+pub mod BytesLaws
+pub mod Line
+pub mod LineLaws
+pub mod Only

@@ -1,0 +1,110 @@
+-- The laws of lines, over any list of them.
+-- Assumes nothing.
+use Prim.Native.Nat.{ℕ, zero, suc, _+_, _^_, _<_, _≤_}
+use mathlib.Core.Path.{_≡_, refl, sym, ap, _∙_}
+use mathlib.Core.Bool.{Bool, true, false, cond, _&&_, _||_}
+use mathlib.Core.List.{List, [], _∷_}
+use native.Mathlib.Omega.{arith}
+use lib.ListN.{length}
+use lib.Dec.{leb, ltb}
+use borrow.Author.Tests.{leb-true, ltb-true}
+use Rattle.quantity.specs.Range.{Range, within}
+use Rattle.layout.specs.Layout.{Fit}
+use Rattle.layout.specs.Line.{Line, among, allows, widths, Allowed, allowsAt, faultFrom, rangesFit, linesFit}
+
+-- both halves of a conjunction
+both : (a b : Bool) → (a && b) ≡ true → (a ≡ true) × (b ≡ true)
+both true b e = (refl, e)
+both false b e = (e, cc)
+
+-- nothing is both
+clash : {A : Type 0} {b : Bool} → b ≡ true → b ≡ false → A
+clash p q = let z : _≡_ {A = ℕ} 0 1 = cc in absurd (omega arith)
+
+-- a number within a range lies from its lowest to its highest
+pub low-high : (r : Range) (v : ℕ) → within r v ≡ true → (r .low ≤ v) × (v ≤ r .high)
+low-high r v e = let h = both _ _ e in (leb-true _ _ (h .0), leb-true _ _ (h .1))
+
+-- no fault, exactly when every value is allowed
+pub none-all : (k : ℕ) (ls : List Line) (vs : List ℕ) → faultFrom (suc k) ls vs ≡ 0 → Allowed ls vs
+none-all k [] [] e = tt
+none-all k [] (v ∷ vs) e = absurd (omega arith)
+none-all k (l ∷ ls) [] e = absurd (omega arith)
+none-all k (l ∷ ls) (v ∷ vs) e = go (allows l v) refl (none-all (suc k) ls vs) e
+  where
+    go : (b : Bool) → allows l v ≡ b → (faultFrom (suc (suc k)) ls vs ≡ 0 → Allowed ls vs) → cond b (faultFrom (suc (suc k)) ls vs) (suc k) ≡ 0
+        → (allows l v ≡ true) × Allowed ls vs
+    go true q on f = (q, on f)
+    go false q on f = absurd (omega arith)
+
+pub all-none : (k : ℕ) (ls : List Line) (vs : List ℕ) → Allowed ls vs → faultFrom k ls vs ≡ 0
+all-none k [] [] a = refl
+all-none k (l ∷ ls) (v ∷ vs) a = rw (a .0) (all-none (suc k) ls vs (a .1))
+
+-- a fault is never numbered below the first field
+past : (k : ℕ) (ls : List Line) (vs : List ℕ) → 0 < faultFrom (suc k) ls vs → k < faultFrom (suc k) ls vs
+past k [] [] h = absurd (omega arith)
+past k [] (v ∷ vs) h = omega arith
+past k (l ∷ ls) [] h = omega arith
+past k (l ∷ ls) (v ∷ vs) h = go (allows l v) (past (suc k) ls vs) h
+  where
+    rest : ℕ
+    rest = faultFrom (suc (suc k)) ls vs
+
+    go : (b : Bool) → (0 < rest → suc k < rest) → 0 < cond b rest (suc k) → k < cond b rest (suc k)
+    go true on h = omega (arith, on h)
+    go false on h = omega arith
+
+-- the first faulty field is faulty, and every earlier one is not
+pub first-faulty : (k i : ℕ) (ls : List Line) (vs : List ℕ) → faultFrom (suc k) ls vs ≡ suc (k + i)
+    → (allowsAt i ls vs ≡ false) × ((j : ℕ) → j < i → allowsAt j ls vs ≡ true)
+first-faulty k i [] [] e = absurd (omega arith)
+first-faulty k i [] (v ∷ vs) e = (refl, λ j m. absurd (omega arith))
+first-faulty k i (l ∷ ls) [] e = (refl, λ j m. absurd (omega arith))
+first-faulty k zero (l ∷ ls) (v ∷ vs) e = go (allows l v) refl (past (suc k) ls vs) e
+  where
+    rest : ℕ
+    rest = faultFrom (suc (suc k)) ls vs
+
+    go : (b : Bool) → allows l v ≡ b → (0 < rest → suc k < rest) → cond b rest (suc k) ≡ suc (k + 0)
+        → (allows l v ≡ false) × ((j : ℕ) → j < 0 → allowsAt j (l ∷ ls) (v ∷ vs) ≡ true)
+    go true q on f = absurd (omega (arith, on (omega arith)))
+    go false q on f = (q, λ j m. absurd (omega arith))
+first-faulty k (suc i) (l ∷ ls) (v ∷ vs) e = go (allows l v) refl (first-faulty (suc k) i ls vs) e
+  where
+    earlier : (j : ℕ) → j < suc i → allows l v ≡ true → ((n : ℕ) → n < i → allowsAt n ls vs ≡ true) → allowsAt j (l ∷ ls) (v ∷ vs) ≡ true
+    earlier zero m q g = q
+    earlier (suc j) m q g = g j (omega arith)
+
+    go : (b : Bool) → allows l v ≡ b → (faultFrom (suc (suc k)) ls vs ≡ suc (suc k + i)
+        → (allowsAt i ls vs ≡ false) × ((j : ℕ) → j < i → allowsAt j ls vs ≡ true))
+        → cond b (faultFrom (suc (suc k)) ls vs) (suc k) ≡ suc (k + suc i)
+        → (allowsAt i ls vs ≡ false) × ((j : ℕ) → j < suc i → allowsAt j (l ∷ ls) (v ∷ vs) ≡ true)
+    go true q on f = let r = on (omega arith) in (r .0, λ j m. earlier j m q (r .1))
+    go false q on f = absurd (omega arith)
+
+-- and the other way round: a faulty field with no earlier one is the first
+pub faulty-first : (k i : ℕ) (ls : List Line) (vs : List ℕ) → length vs ≡ length ls → i < length ls
+    → allowsAt i ls vs ≡ false → ((j : ℕ) → j < i → allowsAt j ls vs ≡ true) → faultFrom (suc k) ls vs ≡ suc (k + i)
+faulty-first k i [] vs h l f g = absurd (omega arith)
+faulty-first k i (l ∷ ls) [] h m f g = absurd (omega arith)
+faulty-first k zero (l ∷ ls) (v ∷ vs) h m f g = rw f (omega arith)
+faulty-first k (suc i) (l ∷ ls) (v ∷ vs) h m f g =
+    rw (g zero (omega arith)) (faulty-first (suc k) i ls vs (omega arith) (omega arith) f (λ j n. g (suc j) (omega arith)) ∙ omega arith)
+
+-- a value among ranges that fit fits
+among-fit : (w : ℕ) (rs : List Range) (v : ℕ) → rangesFit w rs ≡ true → among rs v ≡ true → v < 2 ^ w
+among-fit w [] v f a = clash a refl
+among-fit w (r ∷ []) v f a = omega (arith, ltb-true (r .high) (2 ^ w) (both _ (rangesFit w []) f .0), low-high r v a .1)
+among-fit w (r ∷ s ∷ rs) v f a = go (within r v) refl (among-fit w (s ∷ rs) v (both (ltb (r .high) (2 ^ w)) (rangesFit w (s ∷ rs)) f .1)) a
+  where
+    go : (b : Bool) → within r v ≡ b → (among (s ∷ rs) v ≡ true → v < 2 ^ w) → (b || among (s ∷ rs) v) ≡ true → v < 2 ^ w
+    go true q on e = omega (arith, ltb-true (r .high) (2 ^ w) (both _ (rangesFit w (s ∷ rs)) f .0), low-high r v q .1)
+    go false q on e = on e
+
+-- allowed values fit their widths
+pub allowed-fit : (ls : List Line) (vs : List ℕ) → linesFit ls ≡ true → Allowed ls vs → Fit (widths ls) vs
+allowed-fit [] [] f a = tt
+allowed-fit (l ∷ ls) (v ∷ vs) f a =
+    let h = both _ _ f in
+    (among-fit (l .width) (l .values) v (h .0) (a .0), allowed-fit ls vs (h .1) (a .1))
