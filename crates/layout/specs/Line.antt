@@ -55,11 +55,12 @@ faultFrom k [] (v ∷ vs) = k
 faultFrom k (l ∷ ls) [] = k
 faultFrom k (l ∷ ls) (v ∷ vs) = cond (allows l v) (faultFrom (suc k) ls vs) k
 
--- whether every value that the lines allow fits its width
-abbrev pub rangesFit : ℕ → List Range → Bool
-rangesFit w [] = true
-rangesFit w (r ∷ rs) = ltb (r .high) (2 ^ w) && rangesFit w rs
+-- whether all ranges end below a number
+abbrev pub endBelow : ℕ → List Range → Bool
+endBelow m [] = true
+endBelow m (r ∷ rs) = ltb (r .high) m && endBelow m rs
 
+-- whether every value that the lines allow fits its width
 abbrev pub linesFit : List Line → Bool
 linesFit [] = true
-linesFit (l ∷ ls) = rangesFit (l .width) (l .values) && linesFit ls
+linesFit (l ∷ ls) = endBelow (2 ^ l .width) (l .values) && linesFit ls

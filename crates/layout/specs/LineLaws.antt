@@ -10,7 +10,7 @@ use lib.Dec.{leb, ltb}
 use borrow.Author.Tests.{leb-true, ltb-true}
 use Rattle.quantity.specs.Range.{Range, within}
 use Rattle.layout.specs.Layout.{Fit}
-use Rattle.layout.specs.Line.{Line, among, allows, widths, Allowed, allowsAt, faultFrom, rangesFit, linesFit}
+use Rattle.layout.specs.Line.{Line, among, allows, widths, Allowed, allowsAt, faultFrom, endBelow, linesFit}
 
 -- both halves of a conjunction
 both : (a b : Bool) → (a && b) ≡ true → (a ≡ true) × (b ≡ true)
@@ -83,6 +83,20 @@ first-faulty k (suc i) (l ∷ ls) (v ∷ vs) e = go (allows l v) refl (first-fau
     go true q on f = let r = on (omega arith) in (r .0, λ j m. earlier j m q (r .1))
     go false q on f = absurd (omega arith)
 
+-- nor past the last
+most : (k : ℕ) (ls : List Line) (vs : List ℕ) → length vs ≡ length ls → 0 < faultFrom (suc k) ls vs → faultFrom (suc k) ls vs ≤ k + length ls
+most k [] [] h l = absurd (omega arith)
+most k [] (v ∷ vs) h l = absurd (omega arith)
+most k (l ∷ ls) [] h m = absurd (omega arith)
+most k (l ∷ ls) (v ∷ vs) h m = go (allows l v) (most (suc k) ls vs (omega arith)) m
+  where
+    rest : ℕ
+    rest = faultFrom (suc (suc k)) ls vs
+
+    go : (b : Bool) → (0 < rest → rest ≤ suc k + length ls) → 0 < cond b rest (suc k) → cond b rest (suc k) ≤ k + length (l ∷ ls)
+    go true on n = omega (arith, on n)
+    go false on n = omega arith
+
 -- and the other way round: a faulty field with no earlier one is the first
 pub faulty-first : (k i : ℕ) (ls : List Line) (vs : List ℕ) → length vs ≡ length ls → i < length ls
     → allowsAt i ls vs ≡ false → ((j : ℕ) → j < i → allowsAt j ls vs ≡ true) → faultFrom (suc k) ls vs ≡ suc (k + i)
@@ -92,14 +106,14 @@ faulty-first k zero (l ∷ ls) (v ∷ vs) h m f g = rw f (omega arith)
 faulty-first k (suc i) (l ∷ ls) (v ∷ vs) h m f g =
     rw (g zero (omega arith)) (faulty-first (suc k) i ls vs (omega arith) (omega arith) f (λ j n. g (suc j) (omega arith)) ∙ omega arith)
 
--- a value among ranges that fit fits
-among-fit : (w : ℕ) (rs : List Range) (v : ℕ) → rangesFit w rs ≡ true → among rs v ≡ true → v < 2 ^ w
-among-fit w [] v f a = clash a refl
-among-fit w (r ∷ []) v f a = omega (arith, ltb-true (r .high) (2 ^ w) (both _ (rangesFit w []) f .0), low-high r v a .1)
-among-fit w (r ∷ s ∷ rs) v f a = go (within r v) refl (among-fit w (s ∷ rs) v (both (ltb (r .high) (2 ^ w)) (rangesFit w (s ∷ rs)) f .1)) a
+-- a value among ranges that end below a number is below it
+pub among-below : (m : ℕ) (rs : List Range) (v : ℕ) → endBelow m rs ≡ true → among rs v ≡ true → v < m
+among-below m [] v f a = clash a refl
+among-below m (r ∷ []) v f a = omega (arith, ltb-true (r .high) m (both _ (endBelow m []) f .0), low-high r v a .1)
+among-below m (r ∷ s ∷ rs) v f a = go (within r v) refl (among-below m (s ∷ rs) v (both (ltb (r .high) m) (endBelow m (s ∷ rs)) f .1)) a
   where
-    go : (b : Bool) → within r v ≡ b → (among (s ∷ rs) v ≡ true → v < 2 ^ w) → (b || among (s ∷ rs) v) ≡ true → v < 2 ^ w
-    go true q on e = omega (arith, ltb-true (r .high) (2 ^ w) (both _ (rangesFit w (s ∷ rs)) f .0), low-high r v q .1)
+    go : (b : Bool) → within r v ≡ b → (among (s ∷ rs) v ≡ true → v < m) → (b || among (s ∷ rs) v) ≡ true → v < m
+    go true q on e = omega (arith, ltb-true (r .high) m (both _ (endBelow m (s ∷ rs)) f .0), low-high r v q .1)
     go false q on e = on e
 
 -- allowed values fit their widths
@@ -107,4 +121,20 @@ pub allowed-fit : (ls : List Line) (vs : List ℕ) → linesFit ls ≡ true → 
 allowed-fit [] [] f a = tt
 allowed-fit (l ∷ ls) (v ∷ vs) f a =
     let h = both _ _ f in
-    (among-fit (l .width) (l .values) v (h .0) (a .0), allowed-fit ls vs (h .1) (a .1))
+    (among-below (2 ^ l .width) (l .values) v (h .0) (a .0), allowed-fit ls vs (h .1) (a .1))
+
+-- the field at an index, from 0, is at fault and no earlier one is
+pub record FirstFault (i : ℕ) (ls : List Line) (vs : List ℕ) : Type 0 where
+  pub inside : i < length ls
+  pub faulty : allowsAt i ls vs ≡ false
+  pub earlier : (j : ℕ) → j < i → allowsAt j ls vs ≡ true
+
+-- the fault is numbered i + 1 exactly when the field at i is the first at fault
+module _ (ls : List Line) (vs : List ℕ) (same : length vs ≡ length ls) (i : ℕ) where
+  pub fault-first : faultFrom 1 ls vs ≡ suc i → FirstFault i ls vs
+  fault-first e =
+      let r = first-faulty 0 i ls vs (e ∙ omega arith) in
+      record { inside = omega (arith, most 0 ls vs same (omega arith)); faulty = r .0; earlier = r .1 }
+
+  pub first-fault : FirstFault i ls vs → faultFrom 1 ls vs ≡ suc i
+  first-fault f = faulty-first 0 i ls vs same (f .inside) (f .faulty) (f .earlier) ∙ omega arith

@@ -2,9 +2,11 @@
 -- Assumes nothing.
 use Prim.Native.Nat.{ℕ, _/_, _%_, _*_, _+_, _^_, _<_}
 use mathlib.Core.Path.{_≡_, refl, sym, ap, ap₂, _∙_}
+use mathlib.Core.Bool.{cond}
 use mathlib.Core.List.{List}
 use native.Mathlib.Nat.{mod-eq-of-lt, mul-add-mod-self-right}
 use lib.Pow.{high}
+use Rattle.quantity.specs.Range.{within, from}
 use Rattle.layout.specs.declared.Short.{Short}
 use Rattle.layout.specs.declared.Long.{Long}
 use Rattle.layout.specs.Bytes.{shortOf, longOf, readOf, writtenOf}
@@ -33,3 +35,6 @@ pub read-long-only : (s : List ℕ) (a b : Long) → a .lo < 2 ^ 64 → b .lo < 
 read-long-only s a b m n p q =
     let e = parts 64 (a .hi) (a .lo) (b .hi) (b .lo) m n (p ∙ sym q) in
     ap₂ {C = Long} (λ h l. record { hi = h; lo = l }) (e .0) (e .1)
+
+pub fault-unless-only : (x low high field rest a b : ℕ) → a ≡ cond (within (from low high) x) rest field → b ≡ cond (within (from low high) x) rest field → a ≡ b
+fault-unless-only x low high field rest a b p q = p ∙ sym q

@@ -1,6 +1,8 @@
 // Numbers of 32, 64, 96 and 128 bits in bytes, most significant byte first: read from the front of a slice and written there. Too short a
 // slice is read as 0 and stays as it is, so that nobody has to look at its length first.
 ghost use mathlib.Core.Path.{_≡_};
+ghost use mathlib.Core.Bool.{cond};
+ghost use Rattle.quantity.specs.Range.{within, from};
 ghost use Prim.Native.Nat.{_≤_, _<_};
 ghost use lib.ListN.{length, take, drop};
 ghost use mathlib.Core.List.{_++_};
@@ -151,4 +153,18 @@ pub fn write_long(out: &mut [u8], n: Long)
         put_word(out, n.hi);
         put_word(&mut out[8..], n.lo);
     }
+}
+
+// One line of a layout, as the search for the first fault asks it: the field's number where x lies outside low..high, else what the later
+// fields gave.
+pub fn fault_unless(x: u32, low: u32, high: u32, field: u8, rest: u8) -> u8
+    ensures { λ r. ⌜ r ≡ cond (within (from low high) x) rest field ⌝ }
+{
+    if x < low {
+        return field;
+    }
+    if high < x {
+        return field;
+    }
+    rest
 }

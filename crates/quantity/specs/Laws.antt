@@ -2,8 +2,12 @@
 -- Assumes nothing.
 use Prim.Native.Nat.{ℕ, _<_, _≤_}
 use mathlib.Core.Path.{_≡_, refl, sym, ap, _∙_}
-use borrow.Author.Tests.{le-leb, lt-leb}
-use Rattle.quantity.specs.Range.{Range, span, spacing, thickness, modulus, shearArea, pressure, lineLoad, steelFactor}
+use mathlib.Core.Bool.{Bool, true, false, _&&_}
+use native.Mathlib.Omega.{arith}
+use native.Mathlib.Decide.{decLe}
+use lib.Dec.{leb, eqb}
+use borrow.Author.Tests.{le-leb, lt-leb, eq-eqb, ne-eqb}
+use Rattle.quantity.specs.Range.{Range, from, within, span, spacing, thickness, modulus, shearArea, pressure, lineLoad, steelFactor}
 use Rattle.quantity.specs.Made.{Held, held, refused, Makes, toldSpan, toldSpacing, toldThickness, toldModulus, toldShearArea, toldPressure, toldLineLoad, toldSteelFactor}
 use Rattle.quantity.specs.declared.MadeSpan.{MadeSpan}
 use Rattle.quantity.specs.declared.MadeSpan.the-variants.{Span as isSpan, Refused as noSpan}
@@ -124,3 +128,12 @@ steelFactorAgain noSteelFactor = refl
 
 pub steelFactor-only : (low high x : ℕ) (a b : MadeSteelFactor) → Makes steelFactor low high x (toldSteelFactor a) → Makes steelFactor low high x (toldSteelFactor b) → a ≡ b
 steelFactor-only = only toldSteelFactor steelFactorBack steelFactorAgain steelFactor
+
+-- a range of one value
+pub one-value : (a x : ℕ) → within (from a a) x ≡ eqb x a
+one-value a x = go (decLe a x) (decLe x a)
+  where
+    go : Dec (a ≤ x) → Dec (x ≤ a) → within (from a a) x ≡ eqb x a
+    go (yes h) (yes k) = rw (le-leb a x h, le-leb x a k, eq-eqb x a (omega arith))
+    go (yes h) (no k) = rw (le-leb a x h, lt-leb x a (omega arith), ne-eqb x a (λ e. k (omega arith)))
+    go (no h) k = rw (lt-leb a x (omega arith), ne-eqb x a (λ e. h (omega arith)))

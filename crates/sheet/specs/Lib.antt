@@ -1,2 +1,9 @@
 pub mod Kinds
+pub mod Lines
+pub mod Refusals
+pub mod Writes
+pub mod Header
+pub mod Record
 pub mod Ranges
+pub mod RefusalLaws
+pub mod HeaderLaws

@@ -1,4 +1,5 @@
-// The yard's sheet: its header and its records.
+// The yard's sheet: what its header and its records hold, and why one is turned away. A value outside its range can be held, so that writing can
+// refuse it.
 use quantity::Modulus;
 use quantity::ShearArea;
 use quantity::Spacing;
@@ -74,4 +75,32 @@ pub struct Record {
     pub kind: u8,
     pub id: u16,
     pub body: Body,
+}
+
+// Why a sheet, a header or a record is turned away, in the order of the table. What a case carries is its place.
+pub enum Refusal {
+    SheetShort,
+    Version,
+    HeaderField(u32),
+    SheetLength,
+    OutputShort,
+    Kind(u32),
+    Field(u32),
+    Order(u32),
+}
+
+// Nothing is at fault, or the first thing that is.
+pub enum Outcome {
+    Fine,
+    Refused(Refusal),
+}
+
+pub enum HeaderRead {
+    Good(Header),
+    Refused(Refusal),
+}
+
+pub enum RecordRead {
+    Good(Record),
+    Refused(Refusal),
 }

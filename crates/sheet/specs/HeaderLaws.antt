@@ -1,0 +1,94 @@
+-- The header: what its validity gives, when each refusal is given, and that nothing is lost there and back.
+-- Assumes nothing.
+use Prim.Native.Nat.{ℕ, zero, suc, _^_, _≤_, _<_}
+use mathlib.Core.Path.{_≡_, refl, sym, ap, ap₂, subst, _∙_}
+use mathlib.Core.Bool.{Bool, true, false, cond}
+use mathlib.Core.List.{List, [], _∷_, _++_}
+use native.Mathlib.Omega.{arith}
+use native.Mathlib.Nat.{mod-lt}
+use lib.ListN.{length, getD, take, drop, length-append}
+use lib.Seq.{take-at}
+use lib.Dec.{ltb, eqb}
+use borrow.Author.Tests.{lt-ltb, le-ltb, ltb-true, ltb-false, eq-eqb, eqb-true}
+use Rattle.quantity.specs.Range.{Range, within, from}
+use Rattle.layout.specs.Layout.{pack, unpack, bytes, Fit}
+use Rattle.layout.specs.Laws.{pack-lt, pack-unpack-lt, unpack-pack, length-unpack}
+use Rattle.layout.specs.Line.{Allowed, faultFrom}
+use Rattle.layout.specs.LineLaws.{none-all, all-none, allowed-fit, low-high, among-below, FirstFault, fault-first, first-fault}
+use Rattle.sheet.specs.declared.Header.{Header}
+use Rattle.sheet.specs.Lines.{headerLines, headerWidths, waves}
+use Rattle.sheet.specs.Header.{headerValues, headerAt, headerFault, headerIn, readHeader, headerBytes, writeHeader}
+use Rattle.sheet.specs.Ranges.{HeaderRanges}
+use Rattle.sheet.specs.Refusals.{Answer, given, refused, headerRefused}
+use Rattle.sheet.specs.RefusalLaws.{given-refused, at-none, at-first, at-later, by-first, by-later, by-none}
+
+-- a flag's bit is within its line, and is the flag again
+pub flag-within : (b : Bool) → within (from 0 1) (cond b 1 0) ≡ true
+flag-within true = refl
+flag-within false = refl
+
+pub flag-read : (b : Bool) → eqb (cond b 1 0) 1 ≡ b
+flag-read true = refl
+flag-read false = refl
+
+pub flag-written : (x : ℕ) → x < 2 → cond (eqb x 1) 1 0 ≡ x
+flag-written zero h = refl
+flag-written (suc zero) h = refl
+flag-written (suc (suc x)) h = absurd (omega arith)
+
+-- the values of the header that a number's fields are are those fields
+values-at : (n : ℕ) → let vs = unpack headerWidths n in headerValues (headerAt vs) (getD vs 8 0) ≡ vs
+values-at n = let vs = unpack headerWidths n in rw (flag-written (getD vs 4 0) (mod-lt _ (omega arith)))
+
+-- reading a number goes by the fault of the header in it
+pub header-in : (n : ℕ) → let vs = unpack headerWidths n in headerIn n ≡ headerRefused (headerFault (headerAt vs) (getD vs 8 0)) (given (headerAt vs))
+unfolding headerIn headerFault
+header-in n =
+    let vs = unpack headerWidths n in
+    ap (λ (l : List ℕ). headerRefused (faultFrom 1 headerLines l) (given (headerAt vs))) (sym (values-at n))
+
+-- ---- a header with no fault
+
+module _ (h : Header) (spare : ℕ) (e : headerFault h spare ≡ 0) where
+  header-allowed : Allowed headerLines (headerValues h spare)
+  unfolding headerFault
+  header-allowed = none-all 0 headerLines (headerValues h spare) e
+
+  -- its numbers are within their ranges
+  pub header-ranges : HeaderRanges h
+  header-ranges =
+      let a = header-allowed in
+      let length = low-high _ _ (a .1 .0) in
+      let draught = low-high _ _ (a .1 .1 .0) in
+      let moment = low-high _ _ (a .1 .1 .1 .1 .1 .0) in
+      let modulus = low-high _ _ (a .1 .1 .1 .1 .1 .1 .0) in
+      let count = low-high _ _ (a .1 .1 .1 .1 .1 .1 .1 .0) in
+      record {
+        length-low = length .0;
+        length-high = length .1;
+        draught-low = draught .0;
+        draught-high = draught .1;
+        wave-high = omega (arith, among-below 121 waves (h .wave .0) refl (a .1 .1 .1 .0));
+        moment-high = moment .1;
+        modulus-low = modulus .0;
+        modulus-high = modulus .1;
+        count-high = count .1;
+      }
+
+-- and they fit their fields
+pub header-fit : (h : Header) → headerFault h 0 ≡ 0 → Fit headerWidths (headerValues h 0)
+header-fit h e = allowed-fit headerLines (headerValues h 0) refl (header-allowed h 0 e)
+
+-- ---- reading, by the length
+
+-- the fields in the first twelve bytes
+abbrev pub headerFields : List ℕ → List ℕ
+headerFields s = unpack headerWidths (pack (bytes 12) (take 12 s))
+
+header-long : (s : List ℕ) → 12 ≤ length s → readHeader s ≡ headerIn (pack (bytes 12) (take 12 s))
+unfolding readHeader
+header-long s l = rw (le-ltb _ _ l)
+
+header-short : (s : List ℕ) → length s < 12 → readHeader s ≡ refused 1 0
+unfolding readHeader
+header-short s l = rw (lt-ltb _ _ l)

@@ -1,0 +1,79 @@
+-- The sheet, bit by bit: every field's width and values, in the document's order. A range that is a quantity's own comes from its type.
+use Prim.Native.Nat.{ℕ}
+use mathlib.Core.Bool.{Bool, true, false, cond}
+use mathlib.Core.List.{List, [], _∷_}
+use Rattle.quantity.specs.Range.{Range, from, span, spacing, thickness, modulus, shearArea, steelFactor}
+use Rattle.layout.specs.Line.{Line, line, zeros, widths}
+use Rattle.sheet.specs.Kinds.{isLong, isBottom, isFloor, isDeep}
+
+-- one range where a test holds, else another
+abbrev pub either : Bool → Range → Range → Range
+either t r s = from (cond t (r .low) (s .low)) (cond t (r .high) (s .high))
+
+-- a field that carries nothing
+abbrev pub none : Range
+none = from 0 0
+
+-- wave heights 0, 0.6 m and 1.2 m
+abbrev pub waves : List Range
+waves = from 0 0 ∷ from 60 60 ∷ from 120 120 ∷ []
+
+-- the header: version, L, D0, H, runs, M, ZB, n, zero
+abbrev pub headerLines : List Line
+headerLines =
+    line 4 (from 1 1)
+    ∷ line 14 (from 4000 (span .high))
+    ∷ line 10 (from 1 1000)
+    ∷ record { width = 8; values = waves }
+    ∷ line 1 (from 0 1)
+    ∷ line 20 (from 0 1000000)
+    ∷ line 27 (from 1 100000000)
+    ∷ line 9 (from 0 400)
+    ∷ zeros 3
+    ∷ []
+
+-- a plate: kind, id, K, z, S, T, b1, b2, ballast, zL, cargo pressure, zero; kinds 2 and 4 carry no b1 and b2, kinds 1 and 2 no cargo, and zL is
+-- from z to 1200 with ballast
+abbrev pub plateLines : (kind : ℕ) (ballast : Bool) (z : ℕ) → List Line
+plateLines kind ballast z =
+    line 4 (from 1 4)
+    ∷ line 10 (from 1 1000)
+    ∷ line 10 steelFactor
+    ∷ line 10 (from 0 1000)
+    ∷ line 12 (from (spacing .low) 2000)
+    ∷ line 12 thickness
+    ∷ line 10 (either (isLong kind) none (from 10 1000))
+    ∷ line 10 (either (isLong kind) none (from 10 1000))
+    ∷ line 1 (from 0 1)
+    ∷ line 11 (either ballast (from z 1200) none)
+    ∷ line 18 (either (isBottom kind) none (from 0 200000))
+    ∷ zeros 20
+    ∷ []
+
+-- a member: kind, id, z, S, l, T, βb, βs, η, σ1, W, A, K; kinds 6 to 8 carry no z, and in kinds 6 and 7 η is 100 and σ1 is 0
+abbrev pub memberLines : (kind : ℕ) → List Line
+memberLines kind =
+    line 4 (from 5 8)
+    ∷ line 10 (from 1 1000)
+    ∷ line 10 (either (isDeep kind) none (from 0 1000))
+    ∷ line 12 spacing
+    ∷ line 10 (from 10 1000)
+    ∷ line 12 thickness
+    ∷ line 7 (from 1 100)
+    ∷ line 7 (from 1 100)
+    ∷ line 7 (either (isFloor kind) (from 100 100) (from 1 100))
+    ∷ line 8 (either (isFloor kind) none (from 0 255))
+    ∷ line 17 modulus
+    ∷ line 14 shearArea
+    ∷ line 10 steelFactor
+    ∷ []
+
+-- the widths alone, which rest on no field
+abbrev pub headerWidths : List ℕ
+headerWidths = widths headerLines
+
+abbrev pub plateWidths : List ℕ
+plateWidths = widths (plateLines 1 false 0)
+
+abbrev pub memberWidths : List ℕ
+memberWidths = widths (memberLines 5)
