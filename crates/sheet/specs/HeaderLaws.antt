@@ -13,7 +13,7 @@ use borrow.Author.Tests.{lt-ltb, le-ltb, ltb-true, ltb-false, eq-eqb, eqb-true}
 use Rattle.quantity.specs.Range.{Range, within, from}
 use Rattle.layout.specs.Layout.{pack, unpack, bytes, Fit}
 use Rattle.layout.specs.Laws.{pack-lt, pack-unpack-lt, unpack-pack, length-unpack}
-use Rattle.layout.specs.Line.{Allowed, faultFrom}
+use Rattle.layout.specs.Line.{among, Allowed, faultFrom}
 use Rattle.layout.specs.LineLaws.{none-all, all-none, allowed-fit, low-high, among-below, FirstFault, fault-first, first-fault}
 use Rattle.sheet.specs.declared.Header.{Header}
 use Rattle.sheet.specs.Lines.{headerLines, headerWidths, waves}
@@ -54,6 +54,9 @@ module _ (h : Header) (spare : ℕ) (e : headerFault h spare ≡ 0) where
   unfolding headerFault
   header-allowed = none-all 0 headerLines (headerValues h spare) e
 
+  wave : (x : ℕ) → among waves x ≡ true → x ≤ 120
+  wave x a = omega (arith, among-below 121 waves x refl a)
+
   -- its numbers are within their ranges
   pub header-ranges : HeaderRanges h
   header-ranges =
@@ -68,7 +71,7 @@ module _ (h : Header) (spare : ℕ) (e : headerFault h spare ≡ 0) where
         length-high = length .1;
         draught-low = draught .0;
         draught-high = draught .1;
-        wave-high = omega (arith, among-below 121 waves (h .wave .0) refl (a .1 .1 .1 .0));
+        wave-high = wave (h .wave .0) (a .1 .1 .1 .0);
         moment-high = moment .1;
         modulus-low = modulus .0;
         modulus-high = modulus .1;

@@ -7,3 +7,4 @@ pub mod Record
 pub mod Ranges
 pub mod RefusalLaws
 pub mod HeaderLaws
+pub mod RecordLaws

@@ -34,39 +34,46 @@ headerLines =
 
 -- a plate: kind, id, K, z, S, T, b1, b2, ballast, zL, cargo pressure, zero; kinds 2 and 4 carry no b1 and b2, kinds 1 and 2 no cargo, and zL is
 -- from z to 1200 with ballast
-abbrev pub plateLines : (kind : ℕ) (ballast : Bool) (z : ℕ) → List Line
-plateLines kind ballast z =
+abbrev pub plateTable : (long bottom ballast : Bool) (z : ℕ) → List Line
+plateTable long bottom ballast z =
     line 4 (from 1 4)
     ∷ line 10 (from 1 1000)
     ∷ line 10 steelFactor
     ∷ line 10 (from 0 1000)
     ∷ line 12 (from (spacing .low) 2000)
     ∷ line 12 thickness
-    ∷ line 10 (either (isLong kind) none (from 10 1000))
-    ∷ line 10 (either (isLong kind) none (from 10 1000))
+    ∷ line 10 (either long none (from 10 1000))
+    ∷ line 10 (either long none (from 10 1000))
     ∷ line 1 (from 0 1)
     ∷ line 11 (either ballast (from z 1200) none)
-    ∷ line 18 (either (isBottom kind) none (from 0 200000))
+    ∷ line 18 (from 0 (cond bottom 0 200000))
     ∷ zeros 20
     ∷ []
 
 -- a member: kind, id, z, S, l, T, βb, βs, η, σ1, W, A, K; kinds 6 to 8 carry no z, and in kinds 6 and 7 η is 100 and σ1 is 0
-abbrev pub memberLines : (kind : ℕ) → List Line
-memberLines kind =
+abbrev pub memberTable : (deep floor : Bool) → List Line
+memberTable deep floor =
     line 4 (from 5 8)
     ∷ line 10 (from 1 1000)
-    ∷ line 10 (either (isDeep kind) none (from 0 1000))
+    ∷ line 10 (from 0 (cond deep 0 1000))
     ∷ line 12 spacing
     ∷ line 10 (from 10 1000)
     ∷ line 12 thickness
     ∷ line 7 (from 1 100)
     ∷ line 7 (from 1 100)
-    ∷ line 7 (either (isFloor kind) (from 100 100) (from 1 100))
-    ∷ line 8 (either (isFloor kind) none (from 0 255))
+    ∷ line 7 (either floor (from 100 100) (from 1 100))
+    ∷ line 8 (from 0 (cond floor 0 255))
     ∷ line 17 modulus
     ∷ line 14 shearArea
     ∷ line 10 steelFactor
     ∷ []
+
+-- the lines that records of a kind answer to
+abbrev pub plateLines : (kind : ℕ) (ballast : Bool) (z : ℕ) → List Line
+plateLines kind ballast z = plateTable (isLong kind) (isBottom kind) ballast z
+
+abbrev pub memberLines : (kind : ℕ) → List Line
+memberLines kind = memberTable (isDeep kind) (isFloor kind)
 
 -- the widths alone, which rest on no field
 abbrev pub headerWidths : List ℕ

@@ -1,0 +1,12 @@
+-- `record::is_floor` meets its contract.
+-- Assumes nothing.
+use borrow.Author.Tests.{eq-eqb, ne-eqb}
+use Rattle.record.proofs.is_floor.Statement.{statement}
+use Rattle.record.proofs.is_floor.Tie as tie
+
+pub is-floor-spec : {M : Type 1} → statement M
+is-floor-spec =
+    tie.close
+    (tie.spec
+    (λ c. simp (eq-eqb _ _ (c .if1 .taken)))
+    (λ c. simp (ne-eqb _ _ (c .if1 .left))))
