@@ -1,0 +1,51 @@
+-- Every larger scantling meets a rule too.
+-- Assumes nothing.
+use Prim.Native.Nat.{ℕ, _+_, _-_, _*_, _<_}
+use mathlib.Core.Bool.{Bool, true, false, cond}
+use mathlib.Core.Path.{_≡_, refl, sym, _∙_}
+use lib.Dec.{lit<, leb, ltb}
+use Rattle.gauge.specs.Ceil.{ceilOf}
+use Rattle.gauge.specs.Least.{Monotone}
+use Rattle.gauge.specs.Shape.{meetsOf}
+use Rattle.gauge.specs.ShapeLaws.{monotone, over-floor, excess}
+use Rattle.gauge.specs.declared.Shape.{Shape}
+use Rattle.gauge.specs.declared.Shape.the-variants.{Never, Floor, Square}
+use Rattle.sheet.specs.Kinds.{isFloor, isDeep}
+use Rattle.framing.specs.Rules.{rule4, rule5, rule6, squared, spared}
+use Rattle.framing.specs.Shapes.{sparedShape, spared-said}
+
+-- a test that says what a shape does is monotone
+as-shape : (d : Shape) (test : ℕ → Bool) → ((x : ℕ) → meetsOf d x ≡ test x) → Monotone test
+as-shape d test h x y l e = sym (h y) ∙ monotone d x y l (h x ∙ e)
+
+-- one of two monotone tests
+one-of : (b : Bool) (f g : ℕ → Bool) → Monotone f → Monotone g → Monotone (λ (x : ℕ). cond b (f x) (g x))
+one-of true f g p q = p
+one-of false f g p q = q
+
+squared-monotone : (a step short p : ℕ) → 0 < a → Monotone (λ (x : ℕ). squared a (step * x) short p)
+squared-monotone a step short p h = as-shape (Square step short (ceilOf p a)) _ (λ x. excess step short p a x h)
+
+floor-monotone : (a p : ℕ) → 0 < a → Monotone (λ (x : ℕ). leb p (a * x))
+floor-monotone a p h = as-shape (Floor (ceilOf p a)) _ (λ x. over-floor a p x h)
+
+spared-monotone : (a limit σ1 p : ℕ) → 0 < a → Monotone (λ (x : ℕ). spared a limit σ1 x p)
+spared-monotone a limit σ1 p h = as-shape (sparedShape a limit σ1 p) _ (λ x. spared-said a limit σ1 p x h)
+
+pub rule4-monotone : (kind L K S : ℕ) → Monotone (rule4 kind L K S)
+unfolding rule4
+rule4-monotone kind L K S =
+    one-of (isDeep kind) _ _ (squared-monotone 3125 100 38000 _ (lit< tt))
+    (one-of (ltb L 12000) _ _ (squared-monotone 6250 100 _ _ (lit< tt)) (squared-monotone 1 10 S _ (lit< tt)))
+
+pub rule5-monotone : (kind βb η σ1 q l : ℕ) → Monotone (rule5 kind βb η σ1 q l)
+unfolding rule5
+rule5-monotone kind βb η σ1 q l =
+    one-of (isFloor kind) _ _ (floor-monotone 5000000000 _ (lit< tt))
+    (one-of (isDeep kind) _ _ (spared-monotone 2000000000 197 σ1 _ (lit< tt)) (spared-monotone 100000000000 214 σ1 _ (lit< tt)))
+
+pub rule6-monotone : (kind βs η q l : ℕ) → Monotone (rule6 kind βs η q l)
+unfolding rule6
+rule6-monotone kind βs η q l =
+    one-of (isFloor kind) _ _ (floor-monotone 20000000 _ (lit< tt))
+    (one-of (isDeep kind) _ _ (floor-monotone 12500000 _ (lit< tt)) (floor-monotone 2000000000 _ (lit< tt)))
