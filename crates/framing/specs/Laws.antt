@@ -35,17 +35,17 @@ spared-monotone a limit σ1 p h = as-shape (sparedShape a limit σ1 p) _ (λ x. 
 pub rule4-monotone : (kind L K S : ℕ) → Monotone (rule4 kind L K S)
 unfolding rule4
 rule4-monotone kind L K S =
-    one-of (isDeep kind) _ _ (squared-monotone 3125 100 38000 _ (lit< tt))
-    (one-of (ltb L 12000) _ _ (squared-monotone 6250 100 _ _ (lit< tt)) (squared-monotone 1 10 S _ (lit< tt)))
+    one-of (isDeep kind) _ _ (squared-monotone _ _ _ _ (lit< tt))
+    (one-of (ltb L 12000) _ _ (squared-monotone _ _ _ _ (lit< tt)) (squared-monotone _ _ _ _ (lit< tt)))
 
 pub rule5-monotone : (kind βb η σ1 q l : ℕ) → Monotone (rule5 kind βb η σ1 q l)
 unfolding rule5
 rule5-monotone kind βb η σ1 q l =
-    one-of (isFloor kind) _ _ (floor-monotone 5000000000 _ (lit< tt))
-    (one-of (isDeep kind) _ _ (spared-monotone 2000000000 197 σ1 _ (lit< tt)) (spared-monotone 100000000000 214 σ1 _ (lit< tt)))
+    one-of (isFloor kind) _ _ (floor-monotone _ _ (lit< tt))
+    (one-of (isDeep kind) _ _ (spared-monotone _ _ σ1 _ (lit< tt)) (spared-monotone _ _ σ1 _ (lit< tt)))
 
 pub rule6-monotone : (kind βs η q l : ℕ) → Monotone (rule6 kind βs η q l)
 unfolding rule6
 rule6-monotone kind βs η q l =
-    one-of (isFloor kind) _ _ (floor-monotone 20000000 _ (lit< tt))
-    (one-of (isDeep kind) _ _ (floor-monotone 12500000 _ (lit< tt)) (floor-monotone 2000000000 _ (lit< tt)))
+    one-of (isFloor kind) _ _ (floor-monotone _ _ (lit< tt))
+    (one-of (isDeep kind) _ _ (floor-monotone _ _ (lit< tt)) (floor-monotone _ _ (lit< tt)))

@@ -52,13 +52,19 @@ memberLoad h kind m =
 unfoldable pub memberLine : Header → ℕ → Member → ℕ
 memberLine h kind m = lineLoad (memberLoad h kind m) (m .spacing .0)
 
--- the rules that a member answers to, in their order
+-- the rules as a member has to answer to them
+abbrev pub webRule : Header → ℕ → Member → Rule
+webRule h kind m =
+    record { number = 4; asks = rule4 kind (h .length .0) (m .factor .0) (m .spacing .0); top = thickness .high; has = m .thickness .0 }
+
+abbrev pub bendingRule : Header → ℕ → Member → Rule
+bendingRule h kind m =
+    record { number = 5; asks = rule5 kind (m .bending) (m .eta) (m .stress) (memberLine h kind m) (m .span .0); top = modulus .high; has = m .modulus .0 }
+
+abbrev pub shearRule : Header → ℕ → Member → Rule
+shearRule h kind m =
+    record { number = 6; asks = rule6 kind (m .shear) (m .eta) (memberLine h kind m) (m .span .0); top = shearArea .high; has = m .area .0 }
+
+-- in their order
 abbrev pub memberRules : Header → ℕ → Member → List Rule
-memberRules h kind m =
-    let K = m .factor .0 in
-    let q = memberLine h kind m in
-    let l = m .span .0 in
-    let web : Rule = record { number = 4; asks = rule4 kind (h .length .0) K (m .spacing .0); top = thickness .high; has = m .thickness .0 } in
-    let bending : Rule = record { number = 5; asks = rule5 kind (m .bending) (m .eta) (m .stress) q l; top = modulus .high; has = m .modulus .0 } in
-    let shear : Rule = record { number = 6; asks = rule6 kind (m .shear) (m .eta) q l; top = shearArea .high; has = m .area .0 } in
-    web ∷ bending ∷ shear ∷ []
+memberRules h kind m = webRule h kind m ∷ bendingRule h kind m ∷ shearRule h kind m ∷ []

@@ -62,13 +62,14 @@ fn rule4(kind: u8, length: Span, factor: SteelFactor, spacing: Spacing) -> Shape
     ensures { λ d. ⌜ Says d (thickness .high) (rule4Of kind (length .0) (factor .0) (spacing .0)) ⌝ }
 {
     let l = length.0 as u64;
+    let l2 = l * l;
     let k = factor.0 as u64;
     let s = spacing.0 as u64;
     if 6 <= kind {
-        return squared(100, 38000, 8 * (l * l) * k, 3125);
+        return squared(100, 38000, 8 * l2 * k, 3125);
     }
     if l < 12000 {
-        return squared(100, 16300 + 45 * s, l * l * k, 6250);
+        return squared(100, 16300 + 45 * s, l2 * k, 6250);
     }
     squared(10, s, 15210 * k, 1)
 }
@@ -79,18 +80,14 @@ fn rule5(kind: u8, bending: u8, eta: u8, stress: u8, q: LineLoad, span: Span) ->
     ensures { λ d. ⌜ Says d (modulus .high) (rule5Of kind bending eta stress (q .0) (span .0)) ⌝ }
 {
     let l = span.0 as u64;
+    let l2 = l * l;
     if kind < 6 {
-        return spared(
-            100000000000,
-            214,
-            stress,
-            product(833, bending, eta, q, l * l),
-        );
+        return spared(100000000000, 214, stress, product(833, bending, eta, q, l2));
     }
     if kind < 8 {
-        return at_least(product(29, bending, 1, q, l * l), 5000000000);
+        return at_least(product(29, bending, 1, q, l2), 5000000000);
     }
-    spared(2000000000, 197, stress, product(25, bending, eta, q, l * l))
+    spared(2000000000, 197, stress, product(25, bending, eta, q, l2))
 }
 
 // The shear area. A girder's has no η.

@@ -1,106 +1,130 @@
+-- `framing::member_verdict` meets its contract: rule by rule the shape fails, or is met and leaves the verdict to the later rules.
+-- Assumes nothing.
+use Prim.Native.Nat.{_≤_}
+use mathlib.Core.List.{[], _∷_}
+use mathlib.Core.Path.{_≡_, sym, _∙_}
 use borrow.Author.Needs.{needs}
+use borrow.Author.Tests.{not-true, not-false}
+use Rattle.quantity.specs.Range.{modulus, shearArea, lineLoad}
+use Rattle.gauge.specs.ShapeLaws.{Says}
+use Rattle.verdict.specs.Verdict.{Rule, verdictOf}
+use Rattle.framing.specs.Rules.{webRule, bendingRule, shearRule}
+use Rattle.framing.specs.Bounds.{member-line-high}
+use Rattle.framing.proofs.Verdicts.{first-failed, first-met}
 use Rattle.framing.proofs.member_verdict.Statement.{statement}
 use Rattle.framing.proofs.member_verdict.Tie as tie
-use Rattle.framing.proofs.member_verdict.Reads as reads
-use Rattle.framing.proofs.member_verdict.Lts as lts
-use Rattle.framing.proofs.member_load.Reads as member-load-reads
-use Rattle.framing.proofs.rule4.Reads as rule4-reads
-use Rattle.framing.proofs.rule5.Reads as rule5-reads
-use Rattle.framing.proofs.rule6.Reads as rule6-reads
-use Rattle.gauge.proofs.meets.Reads as meets-reads
-use Rattle.verdict.proofs.failed.Reads as failed-reads
 
--- src/lib.rt:127:9
-rule4-requires : tie.Need-rule4-requires
-rule4-requires c κs = search needs
+-- the three rules, and the start from the places where one of them is met
+abbrev web : tie.Start → Rule
+web s = webRule (s .args .h) (s .args .kind) (s .args .m)
 
--- src/lib.rt:128:27
-cast-meets : tie.Need-cast-meets
-cast-meets c = search needs
+abbrev bending : tie.Start → Rule
+bending s = bendingRule (s .args .h) (s .args .kind) (s .args .m)
 
--- src/lib.rt:128:9
-meets-requires : tie.Need-meets-requires
-meets-requires c κs = search needs
+abbrev shear : tie.Start → Rule
+shear s = shearRule (s .args .h) (s .args .kind) (s .args .m)
 
--- src/lib.rt:129:40
-cast-failed : tie.Need-cast-failed
-cast-failed c = search needs
+abbrev start : tie.Else1 → tie.Start
+start c = c .before .before .before .before
 
--- src/lib.rt:129:9
-failed-requires : tie.Need-failed-requires
-failed-requires c κs = search needs
+abbrev start2 : tie.Else2 → tie.Start
+start2 c = start (c .before .before .before .before)
 
--- src/lib.rt:129:9
+line-high : (c : tie.After-member-load) → c .member-load .result .0 ≤ lineLoad .high
+line-high c =
+    let s = start (c .before) in
+    rw (c .member-load .ensures) (member-line-high (s .args .h) (s .args .kind) (s .args .m) (s .pre .0) (s .pre .1))
+
+bending-said : (c : tie.After-rule5) → Says (c .rule5 .result) (modulus .high) (bending (start (c .before .before)) .asks)
+bending-said c = rw (c .before .member-load .ensures) at (c .rule5 .ensures)
+
+shear-said : (c : tie.After-rule6) → Says (c .rule6 .result) (shearArea .high) (shear (start2 (c .before)) .asks)
+shear-said c = rw (c .before .before .before .before .member-load .ensures) at (c .rule6 .ensures)
+
+web-met : (c : tie.Else1) →
+    verdictOf (bending (start c) ∷ shear (start c) ∷ []) ≡ verdictOf (web (start c) ∷ bending (start c) ∷ shear (start c) ∷ [])
+web-met c =
+    let s = start c in
+    let r = c .before .before .before .rule4 in
+    first-met (r .result) (web s) (bending s ∷ shear s ∷ []) (r .ensures) (s .pre .1 .thickness-low) (s .pre .1 .thickness-high)
+    (sym (c .before .meets .ensures) ∙ not-false _ (c .if1 .left))
+
+bending-met : (c : tie.Else2) →
+    verdictOf (shear (start2 c) ∷ []) ≡ verdictOf (web (start2 c) ∷ bending (start2 c) ∷ shear (start2 c) ∷ [])
+bending-met c =
+    let s = start2 c in
+    let r = c .before .before in
+    first-met (r .rule5 .result) (bending s) (shear s ∷ []) (bending-said r) (s .pre .1 .modulus-low) (s .pre .1 .modulus-high)
+    (sym (c .before .meets2 .ensures) ∙ not-false _ (c .if2 .left))
+    ∙ web-met (r .before .before)
+
 returns : tie.Need-returns
-returns c = ?
+returns c =
+    let w = c .before .before in
+    let s = w .before .before .before in
+    let r = w .before .before .rule4 in
+    c .failed .ensures
+    ∙ first-failed (r .result) (web s) (bending s ∷ shear s ∷ []) (r .ensures) (s .pre .1 .thickness-low) (s .pre .1 .thickness-high)
+    (sym (w .meets .ensures) ∙ not-true _ (c .before .if1 .taken))
 
--- src/lib.rt:131:9
-member-load-requires : tie.Need-member-load-requires
-member-load-requires c κs = search needs
-
--- src/lib.rt:132:9
 rule5-requires : tie.Need-rule5-requires
-rule5-requires c κs = ?
+rule5-requires c κs =
+    let m = start (c .before) .pre .1 in
+    record { ends-high = m .bending-high; eta-high = m .eta-high; load-high = line-high c; span-high = m .span-high }
 
--- src/lib.rt:133:9
-meets-requires-2 : tie.Need-meets-requires-2
-meets-requires-2 c κs = search needs
-
--- src/lib.rt:134:9
-failed-requires-2 : tie.Need-failed-requires-2
-failed-requires-2 c κs = search needs
-
--- src/lib.rt:134:9
 returns-2 : tie.Need-returns-2
-returns-2 c = ?
+returns-2 c =
+    let w = c .before .before in
+    let r = w .before in
+    let s = start (r .before .before) in
+    c .failed2 .ensures
+    ∙ first-failed (r .rule5 .result) (bending s) (shear s ∷ []) (bending-said r) (s .pre .1 .modulus-low) (s .pre .1 .modulus-high)
+    (sym (w .meets2 .ensures) ∙ not-true _ (c .before .if2 .taken))
+    ∙ web-met (r .before .before)
 
--- src/lib.rt:136:9
 rule6-requires : tie.Need-rule6-requires
-rule6-requires c κs = ?
+rule6-requires c κs =
+    let m = start2 c .pre .1 in
+    record { ends-high = m .shear-high; eta-high = m .eta-high; load-high = line-high (c .before .before .before); span-high = m .span-high }
 
--- src/lib.rt:137:29
-cast-meets-2 : tie.Need-cast-meets-2
-cast-meets-2 c = search needs
-
--- src/lib.rt:137:9
-meets-requires-3 : tie.Need-meets-requires-3
-meets-requires-3 c κs = search needs
-
--- src/lib.rt:138:42
-cast-failed-2 : tie.Need-cast-failed-2
-cast-failed-2 c = search needs
-
--- src/lib.rt:138:9
-failed-requires-3 : tie.Need-failed-requires-3
-failed-requires-3 c κs = search needs
-
--- src/lib.rt:138:9
 returns-3 : tie.Need-returns-3
-returns-3 c = ?
+returns-3 c =
+    let w = c .before .before in
+    let r = w .before .before in
+    let s = start2 (r .before) in
+    c .failed3 .ensures
+    ∙ first-failed (r .rule6 .result) (shear s) [] (shear-said r) (s .pre .1 .area-low) (s .pre .1 .area-high)
+    (sym (w .meets3 .ensures) ∙ not-true _ (c .before .if3 .taken))
+    ∙ bending-met (r .before)
 
--- src/lib.rt:122:1
 returns-4 : tie.Need-returns-4
-returns-4 c = ?
+returns-4 c =
+    let w = c .before in
+    let r = w .before .before in
+    let s = start2 (r .before) in
+    first-met (r .rule6 .result) (shear s) [] (shear-said r) (s .pre .1 .area-low) (s .pre .1 .area-high)
+    (sym (w .meets3 .ensures) ∙ not-false _ (c .if3 .left))
+    ∙ bending-met (r .before)
 
 pub member-verdict-spec : {M : Type 1} → statement M
 member-verdict-spec =
     tie.close
     (tie.spec
-    rule4-requires
-    cast-meets
-    meets-requires
-    cast-failed
-    failed-requires
+    (λ c κs. search needs)
+    (λ c. search needs)
+    (λ c κs. search needs)
+    (λ c. search needs)
+    (λ c κs. search needs)
     returns
-    member-load-requires
+    (λ c κs. search needs)
     rule5-requires
-    meets-requires-2
-    failed-requires-2
+    (λ c κs. search needs)
+    (λ c κs. search needs)
     returns-2
     rule6-requires
-    cast-meets-2
-    meets-requires-3
-    cast-failed-2
-    failed-requires-3
+    (λ c. search needs)
+    (λ c κs. search needs)
+    (λ c. search needs)
+    (λ c κs. search needs)
     returns-3
     returns-4)

@@ -1,28 +1,32 @@
+-- `framing::product` meets its contract: its factors are small enough.
+-- Assumes nothing.
+use Prim.Native.Nat.{ℕ, _*_, _≤_}
 use borrow.Author.Needs.{needs}
+use native.Mathlib.Omega.{arith}
+use native.Mathlib.Nat.{mul-le-mul}
+use Rattle.framing.specs.Bounds.{Product}
 use Rattle.framing.proofs.product.Statement.{statement}
 use Rattle.framing.proofs.product.Tie as tie
-use Rattle.framing.proofs.product.Reads as reads
-use Rattle.framing.proofs.product.Lts as lts
 
--- src/lib.rt:57:5
-mul-result : tie.Need-mul-result
-mul-result c = ?
+record InRange (n ends eta q x : ℕ) : Type 0 where
+  first : n * ends ≤ 83300
+  second : n * ends * eta ≤ 8330000
+  third : n * ends * eta * q ≤ 3468736950000
+  whole : n * ends * eta * q * x ≤ 3468736950000000000
 
--- src/lib.rt:57:5
-mul-result-2 : tie.Need-mul-result-2
-mul-result-2 c = ?
-
--- src/lib.rt:57:5
-mul-result-3 : tie.Need-mul-result-3
-mul-result-3 c = ?
-
--- src/lib.rt:57:5
-mul-result-4 : tie.Need-mul-result-4
-mul-result-4 c = ?
-
--- src/lib.rt:53:1
-returns : tie.Need-returns
-returns c = search needs
+in-range : {n ends eta q x : ℕ} → Product n ends eta q x → InRange n ends eta q x
+in-range h =
+    let a = mul-le-mul (h .n-high) (h .ends-high) in
+    let b = mul-le-mul a (h .eta-high) in
+    let c = mul-le-mul b (h .load-high) in
+    record { first = a; second = b; third = c; whole = mul-le-mul c (h .x-high) }
 
 pub product-spec : {M : Type 1} → statement M
-product-spec = tie.close (tie.spec mul-result mul-result-2 mul-result-3 mul-result-4 returns)
+product-spec =
+    tie.close
+    (tie.spec
+    (λ c. omega (arith, in-range (c .pre)))
+    (λ c. omega (arith, in-range (c .pre)))
+    (λ c. omega (arith, in-range (c .before .pre)))
+    (λ c. omega (arith, in-range (c .before .pre)))
+    (λ c. search needs))

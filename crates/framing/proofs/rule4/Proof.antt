@@ -1,96 +1,56 @@
+-- `framing::rule4` meets its contract: each of its forms is a shape.
+-- Assumes nothing.
+use Prim.Native.Nat.{ℕ, _*_, _≤_}
 use borrow.Author.Needs.{needs}
+use borrow.Author.Tests.{le-leb, lt-leb, lt-ltb, le-ltb}
+use native.Mathlib.Omega.{arith}
+use native.Mathlib.Nat.{mul-le-mul}
+use lib.Dec.{lit<}
+use Rattle.gauge.specs.ShapeLaws.{excess}
+use Rattle.framing.specs.Rules.{rule4}
 use Rattle.framing.proofs.rule4.Statement.{statement}
 use Rattle.framing.proofs.rule4.Tie as tie
-use Rattle.framing.proofs.rule4.Reads as reads
-use Rattle.framing.proofs.rule4.Lts as lts
-use Rattle.framing.proofs.squared.Reads as squared-reads
 
--- src/lib.rt:64:13
-cast-l : tie.Need-cast-l
-cast-l c = search needs
+square : (c : tie.After-struct-known) → c .before .args .length .0 * c .before .args .length .0 ≤ 4294836225
+square c =
+    let l : c .before .args .length .0 ≤ 65535 = omega arith in
+    mul-le-mul l l
 
--- src/lib.rt:65:13
-cast-k : tie.Need-cast-k
-cast-k c = search needs
+cube : (c : tie.After-struct-known3) →
+    c .before .before .before .args .length .0 * c .before .before .before .args .length .0 * c .before .before .before .args .factor .0 ≤ 281462092005375
+cube c =
+    let k : c .before .before .before .args .factor .0 ≤ 65535 = omega arith in
+    mul-le-mul (square (c .before .before)) k
 
--- src/lib.rt:66:13
-cast-s : tie.Need-cast-s
-cast-s c = search needs
-
--- src/lib.rt:68:41
-mul-squared : tie.Need-mul-squared
-mul-squared c = ?
-
--- src/lib.rt:68:36
-mul-squared-2 : tie.Need-mul-squared-2
-mul-squared-2 c = ?
-
--- src/lib.rt:68:36
-mul-squared-3 : tie.Need-mul-squared-3
-mul-squared-3 c = ?
-
--- src/lib.rt:68:9
-squared-requires : tie.Need-squared-requires
-squared-requires c κs = search needs
-
--- src/lib.rt:68:9
 returns : tie.Need-returns
-returns c = ?
+unfolding rule4
+returns c = λ x m n. rw (c .squared .ensures, le-leb _ _ (c .before .if1 .taken)) (excess _ _ _ _ x (lit< tt))
 
--- src/lib.rt:71:37
-mul-squared-4 : tie.Need-mul-squared-4
-mul-squared-4 c = search needs
-
--- src/lib.rt:71:29
-add-squared : tie.Need-add-squared
-add-squared c = search needs
-
--- src/lib.rt:71:45
-mul-squared-5 : tie.Need-mul-squared-5
-mul-squared-5 c = ?
-
--- src/lib.rt:71:45
-mul-squared-6 : tie.Need-mul-squared-6
-mul-squared-6 c = ?
-
--- src/lib.rt:71:9
-squared-requires-2 : tie.Need-squared-requires-2
-squared-requires-2 c κs = search needs
-
--- src/lib.rt:71:9
 returns-2 : tie.Need-returns-2
-returns-2 c = ?
+unfolding rule4
+returns-2 c = λ x m n. rw (c .squared2 .ensures, lt-leb _ _ (c .before .before .if1 .left), lt-ltb _ _ (c .before .if2 .taken)) (excess _ _ _ _ x (lit< tt))
 
--- src/lib.rt:73:20
-mul-squared-7 : tie.Need-mul-squared-7
-mul-squared-7 c = search needs
-
--- src/lib.rt:73:5
-squared-requires-3 : tie.Need-squared-requires-3
-squared-requires-3 c κs = search needs
-
--- src/lib.rt:61:1
 returns-3 : tie.Need-returns-3
-returns-3 c = ?
+unfolding rule4
+returns-3 c = λ x m n. rw (c .squared3 .ensures, lt-leb _ _ (c .before .before .if1 .left), le-ltb _ _ (c .before .if2 .left)) (excess _ _ _ _ x (lit< tt))
 
 pub rule4-spec : {M : Type 1} → statement M
 rule4-spec =
     tie.close
     (tie.spec
-    cast-l
-    cast-k
-    cast-s
-    mul-squared
-    mul-squared-2
-    mul-squared-3
-    squared-requires
+    (λ c. search needs)
+    (λ c. omega (arith, square c))
+    (λ c. search needs)
+    (λ c. search needs)
+    (λ c. omega (arith, square (c .before .before .before)))
+    (λ c. omega (arith, cube (c .before)))
+    (λ c κs. search needs)
     returns
-    mul-squared-4
-    add-squared
-    mul-squared-5
-    mul-squared-6
-    squared-requires-2
+    (λ c. search needs)
+    (λ c. search needs)
+    (λ c. omega (arith, cube (c .before .before)))
+    (λ c κs. search needs)
     returns-2
-    mul-squared-7
-    squared-requires-3
+    (λ c. search needs)
+    (λ c κs. search needs)
     returns-3)

@@ -1,78 +1,59 @@
+-- `framing::rule5` meets its contract: each of its forms is a shape.
+-- Assumes nothing.
+use Prim.Native.Nat.{ℕ, _*_, _≤_}
 use borrow.Author.Needs.{needs}
+use borrow.Author.Tests.{le-leb, lt-leb}
+use native.Mathlib.Omega.{arith}
+use native.Mathlib.Nat.{mul-le-mul, mul-one}
+use lib.Dec.{lit<, lit≤}
+use Rattle.gauge.specs.ShapeLaws.{over-floor}
+use Rattle.framing.specs.Rules.{rule5}
+use Rattle.framing.specs.Shapes.{spared-said}
+use Rattle.framing.specs.Bounds.{Bounded, Product}
+use Rattle.framing.proofs.Floors.{below-floors, floors, above-floors}
 use Rattle.framing.proofs.rule5.Statement.{statement}
 use Rattle.framing.proofs.rule5.Tie as tie
-use Rattle.framing.proofs.rule5.Reads as reads
-use Rattle.framing.proofs.rule5.Lts as lts
-use Rattle.framing.proofs.at_least.Reads as at-least-reads
-use Rattle.framing.proofs.product.Reads as product-reads
-use Rattle.framing.proofs.spared.Reads as spared-reads
 
--- src/lib.rt:81:13
-cast-l : tie.Need-cast-l
-cast-l c = search needs
+square : {ends eta q l : ℕ} → Bounded ends eta q l → l * l ≤ 1000000
+square h = mul-le-mul (h .span-high) (h .span-high)
 
--- src/lib.rt:87:43
-mul-product : tie.Need-mul-product
-mul-product c = ?
+-- the factors of a product, with η or with 1 in its place
+factors : (n : ℕ) {ends eta q l : ℕ} → n ≤ 833 → Bounded ends eta q l → Product n ends eta q (l * l)
+factors n p h = record { n-high = p; ends-high = h .ends-high; eta-high = h .eta-high; load-high = h .load-high; x-high = square h }
 
--- src/lib.rt:87:13
-product-requires : tie.Need-product-requires
-product-requires c κs = ?
+factors-1 : (n : ℕ) {ends eta q l : ℕ} → n ≤ 833 → Bounded ends eta q l → Product n ends 1 q (l * l)
+factors-1 n p h = record { n-high = p; ends-high = h .ends-high; eta-high = lit≤ tt; load-high = h .load-high; x-high = square h }
 
--- src/lib.rt:83:9
-spared-requires : tie.Need-spared-requires
-spared-requires c κs = search needs
-
--- src/lib.rt:83:9
 returns : tie.Need-returns
-returns c = ?
+unfolding rule5
+returns c =
+    let b = c .before .before in
+    λ x m n. rw (c .spared .ensures, c .before .product .ensures, below-floors _ (b .if1 .taken), lt-leb _ _ (b .if1 .taken)) (spared-said _ _ (b .before .before .args .stress) _ x (lit< tt))
 
--- src/lib.rt:91:52
-mul-product-2 : tie.Need-mul-product-2
-mul-product-2 c = ?
-
--- src/lib.rt:91:25
-product-requires-2 : tie.Need-product-requires-2
-product-requires-2 c κs = ?
-
--- src/lib.rt:91:9
-at-least-requires : tie.Need-at-least-requires
-at-least-requires c κs = search needs
-
--- src/lib.rt:91:9
 returns-2 : tie.Need-returns-2
-returns-2 c = ?
+unfolding rule5
+returns-2 c =
+    let b = c .before .before in
+    λ x m n. rw (c .at-least .ensures, c .before .product2 .ensures, floors _ (b .before .if1 .left) (b .if2 .taken), mul-one) (over-floor _ _ x (lit< tt))
 
--- src/lib.rt:93:66
-mul-product-3 : tie.Need-mul-product-3
-mul-product-3 c = ?
-
--- src/lib.rt:93:37
-product-requires-3 : tie.Need-product-requires-3
-product-requires-3 c κs = ?
-
--- src/lib.rt:93:5
-spared-requires-2 : tie.Need-spared-requires-2
-spared-requires-2 c κs = search needs
-
--- src/lib.rt:77:1
 returns-3 : tie.Need-returns-3
-returns-3 c = ?
+unfolding rule5
+returns-3 c =
+    let b = c .before .before in
+    λ x m n. rw (c .spared2 .ensures, c .before .product3 .ensures, above-floors _ (b .if2 .left), le-leb _ _ (b .before .if1 .left)) (spared-said _ _ (b .before .before .before .args .stress) _ x (lit< tt))
 
 pub rule5-spec : {M : Type 1} → statement M
 rule5-spec =
     tie.close
     (tie.spec
-    cast-l
-    mul-product
-    product-requires
-    spared-requires
+    (λ c. search needs)
+    (λ c. omega (arith, square (c .before .pre)))
+    (λ c κs. factors 833 (lit≤ tt) (c .before .before .pre))
+    (λ c κs. search needs)
     returns
-    mul-product-2
-    product-requires-2
-    at-least-requires
+    (λ c κs. factors-1 29 (lit≤ tt) (c .before .before .before .pre))
+    (λ c κs. search needs)
     returns-2
-    mul-product-3
-    product-requires-3
-    spared-requires-2
+    (λ c κs. factors 25 (lit≤ tt) (c .before .before .before .pre))
+    (λ c κs. search needs)
     returns-3)

@@ -1,62 +1,44 @@
+-- `framing::rule6` meets its contract: each of its forms is a shape.
+-- Assumes nothing.
 use borrow.Author.Needs.{needs}
+use borrow.Author.Tests.{le-leb, lt-leb}
+use native.Mathlib.Nat.{mul-one}
+use lib.Dec.{lit<}
+use Rattle.gauge.specs.ShapeLaws.{over-floor}
+use Rattle.framing.specs.Rules.{rule6}
+use Rattle.framing.proofs.Floors.{below-floors, floors, above-floors}
 use Rattle.framing.proofs.rule6.Statement.{statement}
 use Rattle.framing.proofs.rule6.Tie as tie
-use Rattle.framing.proofs.rule6.Reads as reads
-use Rattle.framing.proofs.rule6.Lts as lts
-use Rattle.framing.proofs.at_least.Reads as at-least-reads
-use Rattle.framing.proofs.product.Reads as product-reads
 
--- src/lib.rt:101:13
-cast-l : tie.Need-cast-l
-cast-l c = search needs
-
--- src/lib.rt:103:25
-product-requires : tie.Need-product-requires
-product-requires c κs = search needs
-
--- src/lib.rt:103:9
-at-least-requires : tie.Need-at-least-requires
-at-least-requires c κs = search needs
-
--- src/lib.rt:103:9
 returns : tie.Need-returns
-returns c = ?
+unfolding rule6
+returns c =
+    let l = c .before .before .if1 .taken in
+    λ x m n. rw (c .at-least .ensures, c .before .product .ensures, below-floors _ l, lt-leb _ _ l) (over-floor _ _ x (lit< tt))
 
--- src/lib.rt:106:25
-product-requires-2 : tie.Need-product-requires-2
-product-requires-2 c κs = search needs
-
--- src/lib.rt:106:9
-at-least-requires-2 : tie.Need-at-least-requires-2
-at-least-requires-2 c κs = search needs
-
--- src/lib.rt:106:9
 returns-2 : tie.Need-returns-2
-returns-2 c = ?
+unfolding rule6
+returns-2 c =
+    let b = c .before .before in
+    λ x m n. rw (c .at-least2 .ensures, c .before .product2 .ensures, floors _ (b .before .if1 .left) (b .if2 .taken), mul-one) (over-floor _ _ x (lit< tt))
 
--- src/lib.rt:108:14
-product-requires-3 : tie.Need-product-requires-3
-product-requires-3 c κs = search needs
-
--- src/lib.rt:108:5
-at-least-requires-3 : tie.Need-at-least-requires-3
-at-least-requires-3 c κs = search needs
-
--- src/lib.rt:97:1
 returns-3 : tie.Need-returns-3
-returns-3 c = ?
+unfolding rule6
+returns-3 c =
+    let b = c .before .before in
+    λ x m n. rw (c .at-least3 .ensures, c .before .product3 .ensures, above-floors _ (b .if2 .left), le-leb _ _ (b .before .if1 .left), mul-one) (over-floor _ _ x (lit< tt))
 
 pub rule6-spec : {M : Type 1} → statement M
 rule6-spec =
     tie.close
     (tie.spec
-    cast-l
-    product-requires
-    at-least-requires
+    (λ c. search needs)
+    (λ c κs. search needs)
+    (λ c κs. search needs)
     returns
-    product-requires-2
-    at-least-requires-2
+    (λ c κs. search needs)
+    (λ c κs. search needs)
     returns-2
-    product-requires-3
-    at-least-requires-3
+    (λ c κs. search needs)
+    (λ c κs. search needs)
     returns-3)

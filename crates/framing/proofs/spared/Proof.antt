@@ -1,35 +1,28 @@
+-- `framing::spared` meets its contract.
+-- Assumes nothing.
+use Prim.Native.Nat.{_*_, _-_, _≤_, _<_}
+use mathlib.Core.Path.{_∙_}
 use borrow.Author.Needs.{needs}
+use borrow.Author.Tests.{lt-ltb, le-ltb}
+use native.Mathlib.Omega.{arith}
+use native.Mathlib.Nat.{mul-le-mul, mul-pos}
 use Rattle.framing.proofs.spared.Statement.{statement}
 use Rattle.framing.proofs.spared.Tie as tie
-use Rattle.framing.proofs.spared.Reads as reads
-use Rattle.framing.proofs.spared.Lts as lts
-use Rattle.framing.proofs.at_least.Reads as at-least-reads
 
--- src/lib.rt:47:33
-sub-at-least : tie.Need-sub-at-least
-sub-at-least c = search needs
-
--- src/lib.rt:47:32
-cast-at-least : tie.Need-cast-at-least
-cast-at-least c = search needs
-
--- src/lib.rt:47:28
 mul-at-least : tie.Need-mul-at-least
-mul-at-least c = ?
+mul-at-least c =
+    let a = c .before .args in
+    let h : a .limit - a .stress ≤ 255 = omega arith in
+    omega (arith, mul-le-mul (c .before .pre .1) h)
 
--- src/lib.rt:47:9
 at-least-requires : tie.Need-at-least-requires
-at-least-requires c κs = ?
+at-least-requires c κs = mul-pos (c .before .pre .0) (omega arith)
 
--- src/lib.rt:47:9
 returns : tie.Need-returns
-returns c = ?
+returns c = rw (lt-ltb _ _ (c .before .if1 .taken)) (c .at-least .ensures)
 
--- src/lib.rt:42:1
 returns-2 : tie.Need-returns-2
-returns-2 c = ?
+returns-2 c = rw (le-ltb _ _ (c .if1 .left))
 
 pub spared-spec : {M : Type 1} → statement M
-spared-spec =
-    tie.close
-    (tie.spec sub-at-least cast-at-least mul-at-least at-least-requires returns returns-2)
+spared-spec = tie.close (tie.spec (λ c. search needs) (λ c. search needs) mul-at-least at-least-requires returns returns-2)
