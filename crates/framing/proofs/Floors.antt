@@ -1,4 +1,4 @@
--- The kinds by their order: longitudinals are below 6, floors from 6 and below 8, girders from 8.
+-- The kinds from 6 on by their order: floors below 8, girders from 8.
 -- Assumes nothing.
 use Prim.Native.Nat.{ℕ, _≤_, _<_}
 use mathlib.Core.Bool.{true, false}
@@ -7,9 +7,6 @@ use native.Mathlib.Omega.{arith}
 use native.Mathlib.Decide.{decLe}
 use borrow.Author.Tests.{eq-eqb, ne-eqb}
 use Rattle.sheet.specs.Kinds.{isFloor}
-
-pub below-floors : (kind : ℕ) → kind < 6 → isFloor kind ≡ false
-below-floors kind l = rw (ne-eqb kind 6 (λ e. omega arith), ne-eqb kind 7 (λ e. omega arith))
 
 pub floors : (kind : ℕ) → 6 ≤ kind → kind < 8 → isFloor kind ≡ true
 floors kind l h = go (decLe kind 6)

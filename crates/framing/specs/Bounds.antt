@@ -1,10 +1,7 @@
 -- The bounds that keep the rules' products within 64 bits, and that a member within its values meets them.
 -- Assumes nothing.
 use Prim.Native.Nat.{ℕ, _≤_}
-use native.Mathlib.Omega.{arith}
-use mathlib.Core.Bool.{Bool, true, false}
 use Rattle.quantity.specs.Range.{lineLoad}
-use Rattle.loads.specs.Loads.{sea, deepLoad}
 use Rattle.loads.specs.Bounds.{either, sea-bound, deep-bound, line-bound}
 use Rattle.sheet.specs.Kinds.{isDeep}
 use Rattle.sheet.specs.Ranges.{HeaderRanges, MemberRanges}
@@ -21,7 +18,7 @@ pub record Bounded (ends eta q l : ℕ) : Type 0 where
 
 -- the factors of the right-hand side of a rule: n·β·η·q·l or n·β·η·q·l²
 pub record Product (n ends eta q x : ℕ) : Type 0 where
-  pub n-high : n ≤ 833
+  pub n-high : n ≤ 1000
   pub ends-high : ends ≤ 100
   pub eta-high : eta ≤ 100
   pub load-high : q ≤ lineLoad .high

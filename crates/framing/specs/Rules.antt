@@ -24,22 +24,28 @@ rule4 kind L K S T =
     (cond (ltb L 12000) (squared 6250 (100 * T) (16300 + 45 * S) (L * L * K)) (squared 1 (10 * T) S (15210 * K)))
 
 -- a·W(limit − σ1) ≥ p; at σ1 = limit and above nothing meets it, not even with p = 0
-abbrev pub spared : ℕ → ℕ → ℕ → ℕ → ℕ → Bool
-spared a limit σ1 W p = ltb σ1 limit && leb p (a * W * (limit - σ1))
+abbrev pub stressed : ℕ → ℕ → ℕ → ℕ → ℕ → Bool
+stressed a limit σ1 W p = ltb σ1 limit && leb p (a * W * (limit - σ1))
+
+-- the form for kind 5, for kinds 6 and 7, or for kind 8
+abbrev pub byKind : ℕ → Bool → Bool → Bool → Bool
+byKind kind longitudinal floor girder = cond (isDeep kind) (cond (isFloor kind) floor girder) longitudinal
 
 -- the modulus. Kind 5: 10¹¹·W(214 − σ1) ≥ 833βbηql². Kinds 6, 7: 5·10⁹·W ≥ 29βbql². Kind 8: 2·10⁹·W(197 − σ1) ≥ 25βbηql²
 unfoldable pub rule5 : ℕ → ℕ → ℕ → ℕ → ℕ → ℕ → ℕ → Bool
 rule5 kind βb η σ1 q l W =
-    cond (isFloor kind)
+    byKind kind
+    (stressed 100000000000 214 σ1 W (833 * βb * η * q * (l * l)))
     (leb (29 * βb * q * (l * l)) (5000000000 * W))
-    (cond (isDeep kind) (spared 2000000000 197 σ1 W (25 * βb * η * q * (l * l))) (spared 100000000000 214 σ1 W (833 * βb * η * q * (l * l))))
+    (stressed 2000000000 197 σ1 W (25 * βb * η * q * (l * l)))
 
 -- shear. Kind 5: 2·10⁹·A ≥ 9βsηql. Kinds 6, 7: 2·10⁷·A ≥ 9βsql. Kind 8: 12,500,000·A ≥ 7βsql
 unfoldable pub rule6 : ℕ → ℕ → ℕ → ℕ → ℕ → ℕ → Bool
 rule6 kind βs η q l A =
-    cond (isFloor kind)
+    byKind kind
+    (leb (9 * βs * η * q * l) (2000000000 * A))
     (leb (9 * βs * q * l) (20000000 * A))
-    (cond (isDeep kind) (leb (7 * βs * q * l) (12500000 * A)) (leb (9 * βs * η * q * l) (2000000000 * A)))
+    (leb (7 * βs * q * l) (12500000 * A))
 
 -- kind 5: sea at z; kinds 6 to 8: that of the whole draught
 abbrev pub memberLoad : Header → ℕ → Member → ℕ

@@ -12,13 +12,13 @@ use sheet::Member;
 use verdict::Verdict;
 ghost use mathlib.Core.Path.{_≡_};
 ghost use Prim.Native.Nat.{_*_, _<_, _≤_, _^_};
-ghost use Rattle.quantity.specs.Range.{thickness, modulus, shearArea, lineLoad};
+ghost use Rattle.quantity.specs.Range.{thickness, modulus, shearArea};
 ghost use Rattle.gauge.specs.Ceil.{ceilOf};
 ghost use Rattle.gauge.specs.ShapeLaws.{Says};
 ghost use Rattle.sheet.specs.Ranges.{HeaderRanges, MemberRanges};
 ghost use Rattle.verdict.specs.Verdict.{verdictOf};
 ghost use Rattle.framing.specs.Rules.{rule4 as rule4Of, rule5 as rule5Of, rule6 as rule6Of, memberLine, memberRules};
-ghost use Rattle.framing.specs.Shapes.{sparedShape};
+ghost use Rattle.framing.specs.Shapes.{stressedShape};
 ghost use Rattle.framing.specs.Bounds.{Product, Bounded};
 
 // a·x ≥ p.
@@ -38,10 +38,10 @@ fn squared(step: u32, short: u64, p: u64, a: u64) -> Shape
     Shape::Square { step, short, n }
 }
 
-// a·x·(limit − σ1) ≥ p. At σ1 = limit and above there is nothing left to bend, so that nothing meets it, not even with p = 0.
-fn spared(a: u64, limit: u8, stress: u8, p: u64) -> Shape
+// a·x·(limit − σ1) ≥ p. At σ1 = limit and above no stress is left to bend with: nothing meets it, not even with p = 0.
+fn stressed(a: u64, limit: u8, stress: u8, p: u64) -> Shape
     requires { ⌜ (0 < a) × (a ≤ 2 ^ 40) ⌝ }
-    ensures { λ d. ⌜ d ≡ sparedShape a limit stress p ⌝ }
+    ensures { λ d. ⌜ d ≡ stressedShape a limit stress p ⌝ }
 {
     if stress < limit {
         return at_least(p, a * (limit - stress) as u64);
@@ -49,7 +49,7 @@ fn spared(a: u64, limit: u8, stress: u8, p: u64) -> Shape
     Shape::Never
 }
 
-// What is known of a member's numbers keeps n·β·η·q·x within 64 bits.
+// n·β·η·q·x, which a member's values keep within 64 bits.
 fn product(n: u64, ends: u8, eta: u8, q: LineLoad, x: u64) -> u64
     requires { ⌜ Product n ends eta (q .0) x ⌝ }
     ensures { λ r. ⌜ r ≡ n * ends * eta * q .0 * x ⌝ }
@@ -82,12 +82,12 @@ fn rule5(kind: u8, bending: u8, eta: u8, stress: u8, q: LineLoad, span: Span) ->
     let l = span.0 as u64;
     let l2 = l * l;
     if kind < 6 {
-        return spared(100000000000, 214, stress, product(833, bending, eta, q, l2));
+        return stressed(100000000000, 214, stress, product(833, bending, eta, q, l2));
     }
     if kind < 8 {
         return at_least(product(29, bending, 1, q, l2), 5000000000);
     }
-    spared(2000000000, 197, stress, product(25, bending, eta, q, l2))
+    stressed(2000000000, 197, stress, product(25, bending, eta, q, l2))
 }
 
 // The shear area. A girder's has no η.

@@ -1,6 +1,6 @@
 -- Within the sheet's values the pressures and the line loads lie within the ranges of their quantities.
 -- Assumes nothing.
-use Prim.Native.Nat.{ℕ, _+_, _-_, _*_, _≤_, max}
+use Prim.Native.Nat.{ℕ, _*_, _≤_, max}
 use mathlib.Core.Bool.{Bool, true, false, cond}
 use mathlib.Core.Path.{_≡_, refl}
 use native.Mathlib.Omega.{arith}

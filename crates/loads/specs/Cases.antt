@@ -1,7 +1,6 @@
 -- The document's cases 1, 2 and 3, and the line load of case 10, computed.
 -- Assumes nothing.
 use Prim.Native.Nat.{ℕ}
-use mathlib.Core.Bool.{true, false}
 use mathlib.Core.List.{List, [], _∷_}
 use mathlib.Core.Path.{_≡_, refl}
 use Rattle.gauge.specs.Ceil.{ceilOf}

@@ -9,10 +9,10 @@ use Rattle.framing.proofs.product.Statement.{statement}
 use Rattle.framing.proofs.product.Tie as tie
 
 record InRange (n ends eta q x : ℕ) : Type 0 where
-  first : n * ends ≤ 83300
-  second : n * ends * eta ≤ 8330000
-  third : n * ends * eta * q ≤ 3468736950000
-  whole : n * ends * eta * q * x ≤ 3468736950000000000
+  first : n * ends ≤ 100000
+  second : n * ends * eta ≤ 10000000
+  third : n * ends * eta * q ≤ 4164150000000
+  whole : n * ends * eta * q * x ≤ 4164150000000000000
 
 in-range : {n ends eta q x : ℕ} → Product n ends eta q x → InRange n ends eta q x
 in-range h =

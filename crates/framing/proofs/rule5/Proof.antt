@@ -8,9 +8,9 @@ use native.Mathlib.Nat.{mul-le-mul, mul-one}
 use lib.Dec.{lit<, lit≤}
 use Rattle.gauge.specs.ShapeLaws.{over-floor}
 use Rattle.framing.specs.Rules.{rule5}
-use Rattle.framing.specs.Shapes.{spared-said}
+use Rattle.framing.specs.Shapes.{stressed-said}
 use Rattle.framing.specs.Bounds.{Bounded, Product}
-use Rattle.framing.proofs.Floors.{below-floors, floors, above-floors}
+use Rattle.framing.proofs.Floors.{floors, above-floors}
 use Rattle.framing.proofs.rule5.Statement.{statement}
 use Rattle.framing.proofs.rule5.Tie as tie
 
@@ -18,29 +18,29 @@ square : {ends eta q l : ℕ} → Bounded ends eta q l → l * l ≤ 1000000
 square h = mul-le-mul (h .span-high) (h .span-high)
 
 -- the factors of a product, with η or with 1 in its place
-factors : (n : ℕ) {ends eta q l : ℕ} → n ≤ 833 → Bounded ends eta q l → Product n ends eta q (l * l)
+factors : (n : ℕ) {ends eta q l : ℕ} → n ≤ 1000 → Bounded ends eta q l → Product n ends eta q (l * l)
 factors n p h = record { n-high = p; ends-high = h .ends-high; eta-high = h .eta-high; load-high = h .load-high; x-high = square h }
 
-factors-1 : (n : ℕ) {ends eta q l : ℕ} → n ≤ 833 → Bounded ends eta q l → Product n ends 1 q (l * l)
+factors-1 : (n : ℕ) {ends eta q l : ℕ} → n ≤ 1000 → Bounded ends eta q l → Product n ends 1 q (l * l)
 factors-1 n p h = record { n-high = p; ends-high = h .ends-high; eta-high = lit≤ tt; load-high = h .load-high; x-high = square h }
 
 returns : tie.Need-returns
 unfolding rule5
 returns c =
     let b = c .before .before in
-    λ x m n. rw (c .spared .ensures, c .before .product .ensures, below-floors _ (b .if1 .taken), lt-leb _ _ (b .if1 .taken)) (spared-said _ _ (b .before .before .args .stress) _ x (lit< tt))
+    λ x m n. rw (c .stressed .ensures, ← c .before .product .ensures, lt-leb _ _ (b .if1 .taken)) (stressed-said _ _ (b .before .before .args .stress) (c .before .product .result) x (lit< tt))
 
 returns-2 : tie.Need-returns-2
 unfolding rule5
 returns-2 c =
     let b = c .before .before in
-    λ x m n. rw (c .at-least .ensures, c .before .product2 .ensures, floors _ (b .before .if1 .left) (b .if2 .taken), mul-one) (over-floor _ _ x (lit< tt))
+    λ x m n. rw (c .at-least .ensures, c .before .product2 .ensures, le-leb _ _ (b .before .if1 .left), floors _ (b .before .if1 .left) (b .if2 .taken), mul-one) (over-floor _ _ x (lit< tt))
 
 returns-3 : tie.Need-returns-3
 unfolding rule5
 returns-3 c =
     let b = c .before .before in
-    λ x m n. rw (c .spared2 .ensures, c .before .product3 .ensures, above-floors _ (b .if2 .left), le-leb _ _ (b .before .if1 .left)) (spared-said _ _ (b .before .before .before .args .stress) _ x (lit< tt))
+    λ x m n. rw (c .stressed2 .ensures, ← c .before .product3 .ensures, le-leb _ _ (b .before .if1 .left), above-floors _ (b .if2 .left)) (stressed-said _ _ (b .before .before .before .args .stress) (c .before .product3 .result) x (lit< tt))
 
 pub rule5-spec : {M : Type 1} → statement M
 rule5-spec =

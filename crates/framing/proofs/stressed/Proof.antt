@@ -1,13 +1,12 @@
--- `framing::spared` meets its contract.
+-- `framing::stressed` meets its contract.
 -- Assumes nothing.
-use Prim.Native.Nat.{_*_, _-_, _≤_, _<_}
-use mathlib.Core.Path.{_∙_}
+use Prim.Native.Nat.{_-_, _≤_}
 use borrow.Author.Needs.{needs}
 use borrow.Author.Tests.{lt-ltb, le-ltb}
 use native.Mathlib.Omega.{arith}
 use native.Mathlib.Nat.{mul-le-mul, mul-pos}
-use Rattle.framing.proofs.spared.Statement.{statement}
-use Rattle.framing.proofs.spared.Tie as tie
+use Rattle.framing.proofs.stressed.Statement.{statement}
+use Rattle.framing.proofs.stressed.Tie as tie
 
 mul-at-least : tie.Need-mul-at-least
 mul-at-least c =
@@ -24,5 +23,5 @@ returns c = rw (lt-ltb _ _ (c .before .if1 .taken)) (c .at-least .ensures)
 returns-2 : tie.Need-returns-2
 returns-2 c = rw (le-ltb _ _ (c .if1 .left))
 
-pub spared-spec : {M : Type 1} → statement M
-spared-spec = tie.close (tie.spec (λ c. search needs) (λ c. search needs) mul-at-least at-least-requires returns returns-2)
+pub stressed-spec : {M : Type 1} → statement M
+stressed-spec = tie.close (tie.spec (λ c. search needs) (λ c. search needs) mul-at-least at-least-requires returns returns-2)
