@@ -25,6 +25,7 @@ abbrev pub member : ℕ → ℕ → ℕ → Member
 member l η σ1 =
     record { z = record { 0 = 0 }; spacing = record { 0 = 500 }; span = record { 0 = l }; thickness = record { 0 = 1 }; bending = 100; shear = 100; eta = η; stress = σ1; modulus = record { 0 = 1 }; area = record { 0 = 1 }; factor = record { 0 = 1000 } }
 
+-- the least number that meets each rule
 abbrev pub required : List Rule → List Least
 required = map (λ (r : Rule). leastIn (r .asks) (r .top))
 

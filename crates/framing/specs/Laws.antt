@@ -3,7 +3,7 @@
 use Prim.Native.Nat.{ℕ, _*_, _<_}
 use mathlib.Core.Bool.{Bool, true, false, cond}
 use mathlib.Core.Path.{_≡_, sym, _∙_}
-use lib.Dec.{lit<, leb, ltb}
+use lib.Dec.{lit<, leb}
 use Rattle.gauge.specs.Ceil.{ceilOf}
 use Rattle.gauge.specs.Least.{Monotone}
 use Rattle.gauge.specs.Shape.{meetsOf}
@@ -11,7 +11,7 @@ use Rattle.gauge.specs.ShapeLaws.{monotone, over-floor, excess}
 use Rattle.gauge.specs.declared.Shape.{Shape}
 use Rattle.gauge.specs.declared.Shape.the-variants.{Floor, Square}
 use Rattle.sheet.specs.Kinds.{isFloor, isDeep}
-use Rattle.framing.specs.Rules.{rule4, rule5, rule6, squared, stressed, byKind}
+use Rattle.framing.specs.Rules.{rule4, rule5, rule6, isShort, squared, stressed, byKind}
 use Rattle.framing.specs.Shapes.{stressedShape, stressed-said}
 
 -- a test that says what a shape does is monotone
@@ -39,7 +39,7 @@ pub rule4-monotone : (kind L K S : ℕ) → Monotone (rule4 kind L K S)
 unfolding rule4
 rule4-monotone kind L K S =
     one-of (isDeep kind) _ _ (squared-monotone _ _ _ _ (lit< tt))
-    (one-of (ltb L 12000) _ _ (squared-monotone _ _ _ _ (lit< tt)) (squared-monotone _ _ _ _ (lit< tt)))
+    (one-of (isShort L) _ _ (squared-monotone _ _ _ _ (lit< tt)) (squared-monotone _ _ _ _ (lit< tt)))
 
 pub rule5-monotone : (kind βb η σ1 q l : ℕ) → Monotone (rule5 kind βb η σ1 q l)
 unfolding rule5

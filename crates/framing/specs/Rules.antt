@@ -15,13 +15,17 @@ use Rattle.verdict.specs.Verdict.{Rule}
 abbrev pub squared : ℕ → ℕ → ℕ → ℕ → Bool
 squared a t short p = let X = t - short in leb short t && leb p (a * (X * X))
 
+-- a vessel under L = 12000
+abbrev pub isShort : ℕ → Bool
+isShort L = ltb L 12000
+
 -- the web. Kind 5 under L = 12000: X = 100T − 16300 − 45S ≥ 0, 6250X² ≥ L²K; from 12000: X = 10T − S ≥ 0, X² ≥ 15210K.
 -- Kinds 6 to 8: X = 100T − 38000 ≥ 0, 3125X² ≥ 8L²K
 unfoldable pub rule4 : ℕ → ℕ → ℕ → ℕ → ℕ → Bool
 rule4 kind L K S T =
     cond (isDeep kind)
     (squared 3125 (100 * T) 38000 (8 * (L * L) * K))
-    (cond (ltb L 12000) (squared 6250 (100 * T) (16300 + 45 * S) (L * L * K)) (squared 1 (10 * T) S (15210 * K)))
+    (cond (isShort L) (squared 6250 (100 * T) (16300 + 45 * S) (L * L * K)) (squared 1 (10 * T) S (15210 * K)))
 
 -- a·W(limit − σ1) ≥ p; at σ1 = limit and above nothing meets it, not even with p = 0
 abbrev pub stressed : ℕ → ℕ → ℕ → ℕ → ℕ → Bool
@@ -54,23 +58,25 @@ memberLoad h kind m =
     let H = h .wave .0 in
     cond (isDeep kind) (deepLoad D0 H (h .«two_runs»)) (sea D0 H (m .z .0))
 
--- q
+-- q, the line load of that on the member's spacing
 unfoldable pub memberLine : Header → ℕ → Member → ℕ
 memberLine h kind m = lineLoad (memberLoad h kind m) (m .spacing .0)
 
--- the rules as a member has to answer to them
+-- rule 4 as a member has to answer to it: its web
 abbrev pub webRule : Header → ℕ → Member → Rule
 webRule h kind m =
     record { number = 4; asks = rule4 kind (h .length .0) (m .factor .0) (m .spacing .0); top = thickness .high; has = m .thickness .0 }
 
+-- rule 5: its section modulus
 abbrev pub bendingRule : Header → ℕ → Member → Rule
 bendingRule h kind m =
     record { number = 5; asks = rule5 kind (m .bending) (m .eta) (m .stress) (memberLine h kind m) (m .span .0); top = modulus .high; has = m .modulus .0 }
 
+-- rule 6: its shear area
 abbrev pub shearRule : Header → ℕ → Member → Rule
 shearRule h kind m =
     record { number = 6; asks = rule6 kind (m .shear) (m .eta) (memberLine h kind m) (m .span .0); top = shearArea .high; has = m .area .0 }
 
--- in their order
+-- the three in their order
 abbrev pub memberRules : Header → ℕ → Member → List Rule
 memberRules h kind m = webRule h kind m ∷ bendingRule h kind m ∷ shearRule h kind m ∷ []

@@ -38,7 +38,7 @@ fn squared(step: u32, short: u64, p: u64, a: u64) -> Shape
     Shape::Square { step, short, n }
 }
 
-// a·x·(limit − σ1) ≥ p. At σ1 = limit and above no stress is left to bend with: nothing meets it, not even with p = 0.
+// a·x·(limit − σ1) ≥ p. At σ1 = limit and above no strength is left: nothing meets it, not even with p = 0.
 fn stressed(a: u64, limit: u8, stress: u8, p: u64) -> Shape
     requires { ⌜ (0 < a) × (a ≤ 2 ^ 40) ⌝ }
     ensures { λ d. ⌜ d ≡ stressedShape a limit stress p ⌝ }

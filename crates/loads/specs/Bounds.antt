@@ -1,6 +1,6 @@
 -- Within the sheet's values the pressures and the line loads lie within the ranges of their quantities.
 -- Assumes nothing.
-use Prim.Native.Nat.{ℕ, _*_, _≤_, max}
+use Prim.Native.Nat.{ℕ, _≤_}
 use mathlib.Core.Bool.{Bool, true, false, cond}
 use mathlib.Core.Path.{_≡_, refl}
 use native.Mathlib.Omega.{arith}
@@ -8,7 +8,7 @@ use native.Mathlib.Nat.{max-le, mul-le-mul}
 use lib.Dec.{lit<, leb, eqb}
 use Rattle.quantity.specs.Range.{pressure, lineLoad as lineLoads}
 use Rattle.gauge.specs.Ceil.{ceilOf, ceil-most}
-use Rattle.loads.specs.Loads.{wind, sea, bottomLoad, innerLoad, deepLoad, lineLoad}
+use Rattle.loads.specs.Loads.{water, wind, crest, twoRunWater, sea, bottomLoad, innerLoad, deepLoad, lineLoad}
 
 -- one of two numbers that are at most n
 pub either : (b : Bool) (x y n : ℕ) → x ≤ n → y ≤ n → cond b x y ≤ n
@@ -24,14 +24,14 @@ module _ (D0 H : ℕ) (draught : D0 ≤ 1000) (wave : H ≤ 120) where
   unfolding sea
   sea-bound z =
       let w : wind H ≤ 408000 = either (eqb H 120) _ _ _ (omega arith) (omega arith) in
-      let m : max (50150 * H) 3000000 ≤ 6018000 = max-le (omega arith) (omega arith) in
+      let m : crest H ≤ 6018000 = max-le (omega arith) (omega arith) in
       either (leb z D0) _ _ _ (omega arith) (omega arith)
 
   pub deep-bound : (twoRuns : Bool) → deepLoad D0 H twoRuns ≤ greatestSea
   unfolding deepLoad
   deep-bound twoRuns =
-      let c : ceilOf (564075 * D0) 10 ≤ 56407500 = ceil-most _ 10 _ (lit< tt) (omega arith) in
-      let f = either twoRuns (ceilOf (564075 * D0) 10) (98100 * D0) 98100000 (omega arith) (omega arith) in
+      let c : twoRunWater D0 ≤ 56407500 = ceil-most _ 10 _ (lit< tt) (omega arith) in
+      let f = either twoRuns (twoRunWater D0) (water D0) 98100000 (omega arith) (omega arith) in
       omega arith
 
   pub bottom-bound : (z : ℕ) (isBallast : Bool) (zL : ℕ) → zL ≤ 1200 → bottomLoad D0 H z isBallast zL ≤ pressure .high

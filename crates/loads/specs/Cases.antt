@@ -6,6 +6,7 @@ use mathlib.Core.Path.{_≡_, refl}
 use Rattle.gauge.specs.Ceil.{ceilOf}
 use Rattle.loads.specs.Loads.{sea, relief, lineLoad}
 
+-- case 1; case 2; case 3; the line load of case 10
 abbrev pub computed : List ℕ
 computed =
     sea 250 60 0 ∷ sea 250 60 250 ∷ sea 250 60 251
@@ -14,6 +15,7 @@ computed =
     ∷ lineLoad (sea 250 60 0) 500
     ∷ []
 
+-- the numbers of the document
 abbrev pub printed : List ℕ
 printed =
     27526860 ∷ 3001860 ∷ 3259000

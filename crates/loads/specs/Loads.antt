@@ -5,11 +5,11 @@ use mathlib.Core.Bool.{Bool, cond}
 use lib.Dec.{leb, eqb}
 use Rattle.gauge.specs.Ceil.{ceilOf}
 
--- that of x cm of water
+-- the pressure of x cm of water
 abbrev pub water : ℕ → ℕ
 water x = 98100 * x
 
--- that of the waves
+-- that of the waves, up to the draught
 abbrev pub waves : ℕ → ℕ
 waves H = 50031 * H
 
@@ -17,9 +17,13 @@ waves H = 50031 * H
 abbrev pub wind : ℕ → ℕ
 wind H = cond (eqb H 120) (3400 * H) 250000
 
+-- that of the waves above the draught: max(50150H, 3,000,000)
+abbrev pub crest : ℕ → ℕ
+crest H = max (50150 * H) 3000000
+
 -- z ≤ D0: 98100(D0 − z) + 50031H; z > D0: max(50150H, 3,000,000) + wind
 unfoldable pub sea : ℕ → ℕ → ℕ → ℕ
-sea D0 H z = cond (leb z D0) (water (D0 - z) + waves H) (max (50150 * H) 3000000 + wind H)
+sea D0 H z = cond (leb z D0) (water (D0 - z) + waves H) (crest H + wind H)
 
 -- pB = 98100(zL − z + 100), or 0 where that is negative
 abbrev pub ballast : ℕ → ℕ → ℕ
@@ -37,9 +41,13 @@ bottomLoad D0 H z isBallast zL = cond isBallast (max (sea D0 H z) (ballast zL z 
 unfoldable pub innerLoad : ℕ → ℕ → Bool → ℕ → ℕ
 innerLoad cargo z isBallast zL = cond isBallast (max (cargo * 1000) (ballast zL z)) (cargo * 1000)
 
+-- 56407.5·x, rounded up
+abbrev pub twoRunWater : ℕ → ℕ
+twoRunWater x = ceilOf (564075 * x) 10
+
 -- kinds 6 to 8: 98100·D0 + 50031H; in two runs 56407.5·D0 in place of the first term, rounded up
 unfoldable pub deepLoad : ℕ → ℕ → Bool → ℕ
-deepLoad D0 H twoRuns = cond twoRuns (ceilOf (564075 * D0) 10) (water D0) + waves H
+deepLoad D0 H twoRuns = cond twoRuns (twoRunWater D0) (water D0) + waves H
 
 -- q = P·S/1,000,000, rounded up
 unfoldable pub lineLoad : ℕ → ℕ → ℕ

@@ -17,12 +17,9 @@ use Rattle.framing.proofs.rule5.Tie as tie
 square : {ends eta q l : ℕ} → Bounded ends eta q l → l * l ≤ 1000000
 square h = mul-le-mul (h .span-high) (h .span-high)
 
--- the factors of a product, with η or with 1 in its place
-factors : (n : ℕ) {ends eta q l : ℕ} → n ≤ 1000 → Bounded ends eta q l → Product n ends eta q (l * l)
-factors n p h = record { n-high = p; ends-high = h .ends-high; eta-high = h .eta-high; load-high = h .load-high; x-high = square h }
-
-factors-1 : (n : ℕ) {ends eta q l : ℕ} → n ≤ 1000 → Bounded ends eta q l → Product n ends 1 q (l * l)
-factors-1 n p h = record { n-high = p; ends-high = h .ends-high; eta-high = lit≤ tt; load-high = h .load-high; x-high = square h }
+-- the factors of a product, with η or another number e in its place
+factors : {n e ends eta q l : ℕ} → n ≤ 1000 → e ≤ 100 → Bounded ends eta q l → Product n ends e q (l * l)
+factors p r h = record { n-high = p; ends-high = h .ends-high; eta-high = r; load-high = h .load-high; x-high = square h }
 
 returns : tie.Need-returns
 unfolding rule5
@@ -48,12 +45,12 @@ rule5-spec =
     (tie.spec
     (λ c. search needs)
     (λ c. omega (arith, square (c .before .pre)))
-    (λ c κs. factors 833 (lit≤ tt) (c .before .before .pre))
+    (λ c κs. factors (lit≤ tt) (c .before .before .pre .eta-high) (c .before .before .pre))
     (λ c κs. search needs)
     returns
-    (λ c κs. factors-1 29 (lit≤ tt) (c .before .before .before .pre))
+    (λ c κs. factors (lit≤ tt) (lit≤ tt) (c .before .before .before .pre))
     (λ c κs. search needs)
     returns-2
-    (λ c κs. factors 25 (lit≤ tt) (c .before .before .before .pre))
+    (λ c κs. factors (lit≤ tt) (c .before .before .before .pre .eta-high) (c .before .before .before .pre))
     (λ c κs. search needs)
     returns-3)
