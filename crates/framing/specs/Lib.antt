@@ -1,0 +1,5 @@
+pub mod Rules
+pub mod Bounds
+pub mod Cases
+pub mod Shapes
+pub mod Laws
