@@ -24,12 +24,12 @@ rule1 kind L K S T =
     let short = allowance kind + 36 * S in
     let X = 100 * T - short in
     leb short (100 * T)
-    && cond (isBottom kind) (leb (9 * (L * L) * K) (1000 * (X * X))) (leb (8 * (L * L) * K) (3125 * (X * X)))
+    && cond (isBottom kind) (leb (9 * (L * L * K)) (1000 * (X * X))) (leb (8 * (L * L * K)) (3125 * (X * X)))
 
 -- kinds 1, 3: 39,062,500,000·T² ≥ S²KP; kinds 2, 4: 625,000,000,000·T² ≥ 9S²KP
 abbrev pub rule2 : ℕ → ℕ → ℕ → ℕ → ℕ → Bool
 rule2 kind K S P T =
-    cond (isLong kind) (leb (9 * (S * S) * K * P) (625000000000 * (T * T))) (leb (S * S * K * P) (39062500000 * (T * T)))
+    cond (isLong kind) (leb (9 * (S * S * K * P)) (625000000000 * (T * T))) (leb (S * S * K * P) (39062500000 * (T * T)))
 
 -- where the second form of rule 3 replaces the first; kind 1: 1156KR > 121,000,000,000; kind 2: 6084KR > 625,000,000,000; the inner bottom never
 abbrev pub isSecond : ℕ → ℕ → ℕ → Bool
@@ -49,8 +49,8 @@ first kind S K2 R T =
 abbrev pub second : ℕ → ℕ → ℕ → ℕ → ℕ → ℕ → Bool
 second kind K S K2 R T =
     ltb R limit
-    && cond (isLong kind) (leb (1681 * (S * S) * K) (10 * (T * T) * (limit - R)))
-        (leb (504100000 * (S * S) * K) (T * T * (K2 * K2) * (limit - R)))
+    && cond (isLong kind) (leb (1681 * (S * S * K)) (10 * (T * T) * (limit - R)))
+    (leb (504100000 * (S * S * K)) (T * T * (K2 * K2) * (limit - R)))
 
 -- the second form where it replaces the first, and else the first
 abbrev pub rule3 : ℕ → ℕ → ℕ → ℕ → ℕ → ℕ → Bool

@@ -1,0 +1,85 @@
+-- Every larger thickness meets a rule too; and how great K2 and R are.
+-- Assumes nothing.
+use Prim.Native.Nat.{ℕ, _+_, _-_, _*_, _/_, _≤_, _<_, min}
+use mathlib.Core.Bool.{Bool, true, false, _&&_, cond}
+use mathlib.Core.Path.{_≡_, refl}
+use native.Mathlib.Omega.{arith}
+use native.Mathlib.Nat.{mul-le-mul, mul-le-mul-left, mul-le-mul-right, mul-pos, le-div-iff-mul-le}
+use lib.Dec.{leb, ltb, eqb}
+use borrow.Author.Tests.{le-leb, leb-true, lt-ltb, ltb-true, le-ltb}
+use Rattle.gauge.specs.Ceil.{ceil-most}
+use Rattle.gauge.specs.Least.{Monotone}
+use Rattle.sheet.specs.Kinds.{isLong, isBottom}
+use Rattle.plating.specs.Rules.{R, K2, allowance, rule1, rule2, rule3, isSecond, first, second, limit}
+use Rattle.plating.specs.Bounds.{greatestR}
+
+-- K2 is at least 1000 and at most 26,000
+pub K2-range : (b1 b2 : ℕ) → 0 < b1 → (1000 ≤ K2 b1 b2) × (K2 b1 b2 ≤ 26000)
+unfolding K2
+K2-range b1 b2 h =
+    let q = le-div-iff-mul-le {x = 1000} {y = 1000 * (b1 * b1 + b2 * b2)} (mul-pos h h) .1 (omega arith) in
+    (omega arith, omega arith)
+
+-- R is at most that of the greatest moment on the least modulus
+pub R-high : (M ZB : ℕ) → M ≤ 1000000 → 1 ≤ ZB → R M ZB ≤ greatestR
+R-high M ZB m z = ceil-most (1000000 * M) ZB greatestR z (omega arith)
+
+-- a number that does not fall as T rises
+abbrev Rising : (ℕ → ℕ) → Type 0
+Rising f = (x y : ℕ) → x ≤ y → f x ≤ f y
+
+-- at least n, of a number that rises
+at-least : (n : ℕ) (f : ℕ → ℕ) → Rising f → Monotone (λ (T : ℕ). leb n (f T))
+at-least n f r x y l e = le-leb n (f y) (omega (arith, leb-true n (f x) e, r x y l))
+
+-- one of two tests, whichever a fixed question picks
+either : (b : Bool) (f g : ℕ → Bool) → Monotone f → Monotone g → Monotone (λ (T : ℕ). cond b (f T) (g T))
+either true f g p q = p
+either false f g p q = q
+
+-- two tests together
+both : (f g : ℕ → Bool) → Monotone f → Monotone g → Monotone (λ (T : ℕ). f T && g T)
+both f g p q x y l = go (f x) refl
+  where
+    go : (b : Bool) → f x ≡ b → (b && g x) ≡ true → (f y && g y) ≡ true
+    go true e h = rw (p x y l e) (q x y l h)
+    go false e h = let z : _≡_ {A = ℕ} 0 1 = cc in absurd (omega arith)
+
+times : (a : ℕ) (f : ℕ → ℕ) → Rising f → Rising (λ (T : ℕ). a * f T)
+times a f r x y l = mul-le-mul-left a (r x y l)
+
+timed : (a : ℕ) (f : ℕ → ℕ) → Rising f → Rising (λ (T : ℕ). f T * a)
+timed a f r x y l = mul-le-mul-right a (r x y l)
+
+squared : (f : ℕ → ℕ) → Rising f → Rising (λ (T : ℕ). f T * f T)
+squared f r x y l = mul-le-mul (r x y l) (r x y l)
+
+-- T²
+square : Rising (λ (T : ℕ). T * T)
+square = squared (λ (T : ℕ). T) (λ x y l. l)
+
+pub rule1-monotone : (kind L K S : ℕ) → Monotone (rule1 kind L K S)
+rule1-monotone kind L K S =
+    let short = allowance kind + 36 * S in
+    let X : ℕ → ℕ = λ T. 100 * T - short in
+    let rising : Rising X = λ x y l. omega arith in
+    both (λ (T : ℕ). leb short (100 * T)) _
+    (at-least short (λ (T : ℕ). 100 * T) (λ x y l. omega arith))
+    (either (isBottom kind) _ _
+    (at-least _ (λ (T : ℕ). 1000 * (X T * X T)) (times 1000 _ (squared X rising)))
+    (at-least _ (λ (T : ℕ). 3125 * (X T * X T)) (times 3125 _ (squared X rising))))
+
+pub rule2-monotone : (kind K S P : ℕ) → Monotone (rule2 kind K S P)
+rule2-monotone kind K S P =
+    either (isLong kind) _ _ (at-least _ _ (times 625000000000 _ square)) (at-least _ _ (times 39062500000 _ square))
+
+pub rule3-monotone : (kind K S K2 R : ℕ) → Monotone (rule3 kind K S K2 R)
+rule3-monotone kind K S K2 R =
+    either (isSecond kind K R) (second kind K S K2 R) (first kind S K2 R)
+    (both (λ (T : ℕ). ltb R limit) _ (λ x y l e. e)
+    (either (isLong kind) _ _
+    (at-least _ _ (timed (limit - R) _ (times 10 _ square)))
+    (at-least _ _ (timed (limit - R) _ (timed (K2 * K2) _ square)))))
+    (either (isLong kind) _ _
+    (at-least _ _ (times 100000000 _ square))
+    (at-least _ _ (timed (K2 * K2) _ (times 25 _ square))))
