@@ -1,0 +1,15 @@
+-- `loads::wind` meets its contract.
+-- Assumes nothing.
+use borrow.Author.Needs.{needs}
+use borrow.Author.Tests.{eq-eqb, ne-eqb}
+use Rattle.loads.proofs.wind.Statement.{statement}
+use Rattle.loads.proofs.wind.Tie as tie
+
+returns : tie.Need-returns
+returns c = rw (eq-eqb _ _ (c .before .if1 .taken))
+
+returns-2 : tie.Need-returns-2
+returns-2 c = rw (ne-eqb _ _ (c .if1 .left))
+
+pub wind-spec : {M : Type 1} → statement M
+wind-spec = tie.close (tie.spec (λ c. search needs) (λ c. search needs) returns returns-2)

@@ -1,0 +1,4 @@
+pub mod Loads
+pub mod Cases
+pub mod Only
+pub mod Bounds
