@@ -1,10 +1,15 @@
 -- Rules 1, 2 and 3, which plates answer to, in the document's letters and order; each is a test of the thickness T, the last number.
 use Prim.Native.Nat.{ℕ, _+_, _-_, _*_, _/_, min}
 use mathlib.Core.Bool.{Bool, false, _&&_, cond}
+use mathlib.Core.List.{List, [], _∷_}
 use lib.Dec.{leb, ltb, eqb}
 use Rattle.quantity.specs.Range.{thickness}
 use Rattle.gauge.specs.Ceil.{ceilOf}
+use Rattle.sheet.specs.declared.Header.{Header}
+use Rattle.sheet.specs.declared.Plate.{Plate}
 use Rattle.sheet.specs.Kinds.{isLong, isBottom}
+use Rattle.loads.specs.Loads.{bottomLoad, innerLoad}
+use Rattle.verdict.specs.Verdict.{Rule}
 
 -- R = 1,000,000·M/ZB rounded up: the hull's stress at the bottom, thousandths of a N/mm²
 abbrev pub R : ℕ → ℕ → ℕ
@@ -55,3 +60,27 @@ second kind K S K2 R T =
 -- the second form where it replaces the first, and else the first
 abbrev pub rule3 : ℕ → ℕ → ℕ → ℕ → ℕ → ℕ → Bool
 rule3 kind K S K2 R T = cond (isSecond kind K R) (second kind K S K2 R T) (first kind S K2 R T)
+
+-- P: on kinds 1, 2 that of the bottom, on kinds 3, 4 that of the inner bottom
+abbrev pub plateLoad : Header → ℕ → Plate → ℕ
+plateLoad h kind p =
+    cond (isBottom kind) (bottomLoad (h .draught .0) (h .wave .0) (p .z .0) (p .ballast) (p .«tank_top» .0))
+    (innerLoad (p .cargo) (p .z .0) (p .ballast) (p .«tank_top» .0))
+
+-- a rule of this number as the plate has to answer to it, with its thickness
+abbrev pub asked : Plate → ℕ → (ℕ → Bool) → Rule
+asked p number asks = record { number = number; asks = asks; top = thickness .high; has = p .thickness .0 }
+
+abbrev pub asked1 : Header → ℕ → Plate → Rule
+asked1 h kind p = asked p 1 (rule1 kind (h .length .0) (p .factor .0) (p .spacing .0))
+
+abbrev pub asked2 : Header → ℕ → Plate → Rule
+asked2 h kind p = asked p 2 (rule2 kind (p .factor .0) (p .spacing .0) (plateLoad h kind p))
+
+abbrev pub asked3 : Header → ℕ → Plate → Rule
+asked3 h kind p =
+    asked p 3 (rule3 kind (p .factor .0) (p .spacing .0) (K2 (p .b1 .0) (p .b2 .0)) (R (h .moment) (h .«bottom_modulus»)))
+
+-- the rules that a plate answers to, in their order
+abbrev pub plateRules : Header → ℕ → Plate → List Rule
+plateRules h kind p = asked1 h kind p ∷ asked2 h kind p ∷ asked3 h kind p ∷ []

@@ -5,6 +5,9 @@ use quantity::Spacing;
 use quantity::Span;
 use quantity::SteelFactor;
 use quantity::Thickness;
+use sheet::Header;
+use sheet::Plate;
+use verdict::Verdict;
 ghost use mathlib.Core.Path.{_≡_};
 ghost use mathlib.Core.Bool.{_&&_};
 ghost use Prim.Native.Nat.{ℕ, _-_, _*_, _^_, _≤_, _<_};
@@ -12,7 +15,9 @@ ghost use lib.Dec.{leb};
 ghost use Rattle.quantity.specs.Range.{thickness, pressure, steelFactor};
 ghost use Rattle.gauge.specs.ShapeLaws.{Says};
 ghost use Rattle.sheet.specs.Kinds.{isLong};
-ghost use Rattle.plating.specs.Rules.{R, K2, allowance, rule1, rule2, isSecond, first, second, rule3};
+ghost use Rattle.sheet.specs.Ranges.{HeaderRanges, PlateRanges};
+ghost use Rattle.verdict.specs.Verdict.{verdictOf};
+ghost use Rattle.plating.specs.Rules.{R, K2, allowance, rule1, rule2, isSecond, first, second, rule3, plateLoad, plateRules};
 ghost use Rattle.plating.specs.Bounds.{Panel, widest, greatestR};
 
 // The stress R at which the hull's bending leaves nothing for the plate's own.
@@ -170,4 +175,40 @@ fn rule3(kind: u8, factor: SteelFactor, spacing: Spacing, b1: Span, b2: Span, r:
         return second_form(kind, factor, spacing, b1, b2, r);
     }
     first_form(kind, spacing, b1, b2, r)
+}
+
+// P on the plate.
+fn load(h: Header, kind: u8, p: Plate) -> Pressure
+    ensures { λ r. ⌜ r .0 ≡ plateLoad h kind p ⌝ }
+{
+    if kind <= 2 {
+        return loads::bottom(h.draught, h.wave, p.z, p.ballast, p.tank_top);
+    }
+    loads::inner(p.cargo, p.z, p.ballast, p.tank_top)
+}
+
+// The first rule that the plate fails, and the thickness that this rule requires. A later rule is formed only where the earlier ones pass.
+fn plate_verdict(h: Header, kind: u8, p: Plate) -> Verdict
+    requires { ⌜ HeaderRanges h × PlateRanges kind p ⌝ }
+    ensures { λ v. ⌜ v ≡ verdictOf (plateRules h kind p) ⌝ }
+{
+    let top = Thickness::HIGH as u32;
+    let t = p.thickness.0 as u32;
+    let d1 = rule1(kind, h.length, p.factor, p.spacing);
+    if !gauge::meets(d1, t) {
+        return verdict::failed(1, d1, top);
+    }
+    let d2 = rule2(kind, p.factor, p.spacing, load(h, kind, p));
+    if !gauge::meets(d2, t) {
+        return verdict::failed(2, d2, top);
+    }
+    let r = hull_stress(h.moment, h.bottom_modulus);
+    let d3 = rule3(kind, p.factor, p.spacing, p.b1, p.b2, r);
+    if !gauge::meets(d3, t) {
+        return verdict::failed(3, d3, top);
+    }
+    Verdict {
+        rule: 0,
+        required: 0,
+    }
 }
