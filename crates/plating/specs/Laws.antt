@@ -10,7 +10,7 @@ use borrow.Author.Tests.{le-leb, leb-true, lt-ltb, ltb-true, le-ltb}
 use Rattle.gauge.specs.Ceil.{ceil-most}
 use Rattle.gauge.specs.Least.{Monotone}
 use Rattle.sheet.specs.Kinds.{isLong, isBottom}
-use Rattle.plating.specs.Rules.{R, K2, allowance, rule1, rule2, rule3, isSecond, first, second, limit}
+use Rattle.plating.specs.Rules.{R, K2, allowance, rule1, rule2, rule3, isSecond, firstForm, secondForm, limit}
 use Rattle.plating.specs.Bounds.{greatestR}
 
 -- K2 is at least 1000 and at most 26,000
@@ -75,7 +75,7 @@ rule2-monotone kind K S P =
 
 pub rule3-monotone : (kind K S K2 R : ℕ) → Monotone (rule3 kind K S K2 R)
 rule3-monotone kind K S K2 R =
-    either (isSecond kind K R) (second kind K S K2 R) (first kind S K2 R)
+    either (isSecond kind K R) (secondForm kind K S K2 R) (firstForm kind S K2 R)
     (both (λ (T : ℕ). ltb R limit) _ (λ x y l e. e)
     (either (isLong kind) _ _
     (at-least _ _ (timed (limit - R) _ (times 10 _ square)))
@@ -83,3 +83,14 @@ rule3-monotone kind K S K2 R =
     (either (isLong kind) _ _
     (at-least _ _ (times 100000000 _ square))
     (at-least _ _ (timed (K2 * K2) _ (times 25 _ square))))
+
+-- at R ≥ 210,000 no thickness meets rule 3 on the bottom: the second form holds there for every steel
+pub over-limit : (K S K2 R T : ℕ) → 500 ≤ K → limit ≤ R → (rule3 1 K S K2 R T ≡ false) × (rule3 2 K S K2 R T ≡ false)
+over-limit K S K2 R T k r = (
+  rw (lt-ltb 121000000000 (1156 * K * R) (omega (arith, mul-le-mul (mul-le-mul-left 1156 k) r)), le-ltb R limit r),
+  rw (lt-ltb 625000000000 (6084 * K * R) (omega (arith, mul-le-mul (mul-le-mul-left 6084 k) r)), le-ltb R limit r),
+)
+
+-- the inner bottom takes the first form always
+pub inner-first : (K S K2 R T : ℕ) → (rule3 3 K S K2 R T ≡ firstForm 3 S K2 R T) × (rule3 4 K S K2 R T ≡ firstForm 4 S K2 R T)
+inner-first K S K2 R T = (refl, refl)

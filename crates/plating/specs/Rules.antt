@@ -46,20 +46,20 @@ abbrev pub limit : ℕ
 limit = 210000
 
 -- the first form; transverse: 25T²K2² ≥ 1156S²R; longitudinal: 100,000,000·T² ≥ 1521S²R
-abbrev pub first : ℕ → ℕ → ℕ → ℕ → ℕ → Bool
-first kind S K2 R T =
+abbrev pub firstForm : ℕ → ℕ → ℕ → ℕ → ℕ → Bool
+firstForm kind S K2 R T =
     cond (isLong kind) (leb (1521 * (S * S) * R) (100000000 * (T * T))) (leb (1156 * (S * S) * R) (25 * (T * T) * (K2 * K2)))
 
 -- the second form; kind 1: T²K2²(210,000−R) ≥ 504,100,000·S²K; kind 2: 10T²(210,000−R) ≥ 1681S²K; at R ≥ 210,000 no T meets it
-abbrev pub second : ℕ → ℕ → ℕ → ℕ → ℕ → ℕ → Bool
-second kind K S K2 R T =
+abbrev pub secondForm : ℕ → ℕ → ℕ → ℕ → ℕ → ℕ → Bool
+secondForm kind K S K2 R T =
     ltb R limit
     && cond (isLong kind) (leb (1681 * (S * S * K)) (10 * (T * T) * (limit - R)))
     (leb (504100000 * (S * S * K)) (T * T * (K2 * K2) * (limit - R)))
 
 -- the second form where it replaces the first, and else the first
 abbrev pub rule3 : ℕ → ℕ → ℕ → ℕ → ℕ → ℕ → Bool
-rule3 kind K S K2 R T = cond (isSecond kind K R) (second kind K S K2 R T) (first kind S K2 R T)
+rule3 kind K S K2 R T = cond (isSecond kind K R) (secondForm kind K S K2 R T) (firstForm kind S K2 R T)
 
 -- P: on kinds 1, 2 that of the bottom, on kinds 3, 4 that of the inner bottom
 abbrev pub plateLoad : Header → ℕ → Plate → ℕ

@@ -17,11 +17,14 @@ ghost use Rattle.gauge.specs.ShapeLaws.{Says};
 ghost use Rattle.sheet.specs.Kinds.{isLong};
 ghost use Rattle.sheet.specs.Ranges.{HeaderRanges, PlateRanges};
 ghost use Rattle.verdict.specs.Verdict.{verdictOf};
-ghost use Rattle.plating.specs.Rules.{R, K2, allowance, rule1, rule2, isSecond, first, second, rule3, plateLoad, plateRules};
+ghost use Rattle.plating.specs.Rules.{R, K2, allowance, rule1, rule2, isSecond, firstForm, secondForm, rule3, plateLoad, plateRules};
 ghost use Rattle.plating.specs.Bounds.{Panel, widest, greatestR};
 
 // The stress R at which the hull's bending leaves nothing for the plate's own.
 const LIMIT: u64 = 210000;
+
+// The greatest K2.
+const K2_HIGH: u64 = 26000;
 
 // a·T² ≥ n.
 fn square(a: u64, n: u64) -> Shape
@@ -120,7 +123,7 @@ fn k2(b1: Span, b2: Span) -> u64
     let x = b1.0 as u64;
     let y = b2.0 as u64;
     let ratio = 1000 * (x * x + y * y) / (x * x);
-    if ratio < 26000 { ratio } else { 26000 }
+    if ratio < K2_HIGH { ratio } else { K2_HIGH }
 }
 
 // Whether the second form of rule 3 replaces the first.
@@ -138,7 +141,7 @@ fn is_second(kind: u8, factor: SteelFactor, r: u64) -> bool
 
 fn first_form(kind: u8, spacing: Spacing, b1: Span, b2: Span, r: u64) -> Shape
     requires { ⌜ Panel kind (spacing .0) (b1 .0) ⌝ }
-    ensures { λ d. ⌜ Says d (thickness .high) (first kind (spacing .0) (K2 (b1 .0) (b2 .0)) r) ⌝ }
+    ensures { λ d. ⌜ Says d (thickness .high) (firstForm kind (spacing .0) (K2 (b1 .0) (b2 .0)) r) ⌝ }
 {
     let s = spacing.0 as u64;
     let n = s * s;
@@ -151,7 +154,7 @@ fn first_form(kind: u8, spacing: Spacing, b1: Span, b2: Span, r: u64) -> Shape
 
 fn second_form(kind: u8, factor: SteelFactor, spacing: Spacing, b1: Span, b2: Span, r: u64) -> Shape
     requires { ⌜ Panel kind (spacing .0) (b1 .0) × (factor .0 ≤ steelFactor .high) ⌝ }
-    ensures { λ d. ⌜ Says d (thickness .high) (second kind (factor .0) (spacing .0) (K2 (b1 .0) (b2 .0)) r) ⌝ }
+    ensures { λ d. ⌜ Says d (thickness .high) (secondForm kind (factor .0) (spacing .0) (K2 (b1 .0) (b2 .0)) r) ⌝ }
 {
     if LIMIT <= r {
         return Shape::Never;

@@ -1,12 +1,12 @@
 -- `plating::rule1` meets its contract: with numbers of 16 bits nothing can overflow.
 -- Assumes nothing.
 use Prim.Native.Nat.{ℕ, _*_, _≤_}
-use mathlib.Core.Bool.{Bool, true, false, cond}
 use borrow.Author.Needs.{needs}
 use borrow.Author.Tests.{le-leb, lt-leb}
 use native.Mathlib.Omega.{arith}
 use native.Mathlib.Nat.{mul-le-mul}
 use lib.Dec.{eqb}
+use Rattle.loads.specs.Bounds.{either}
 use Rattle.plating.specs.Rules.{allowance}
 use Rattle.plating.proofs.rule1.Statement.{statement}
 use Rattle.plating.proofs.rule1.Tie as tie
@@ -20,12 +20,8 @@ in-range c =
     let k : a .factor .0 ≤ 65535 = omega arith in
     (mul-le-mul l l, mul-le-mul (mul-le-mul l l) k)
 
-at-most : (b : Bool) {x y m : ℕ} → x ≤ m → y ≤ m → cond b x y ≤ m
-at-most true h l = h
-at-most false h l = l
-
 allowed : (kind : ℕ) → allowance kind ≤ 18500
-allowed kind = at-most (eqb kind 1) (omega arith) (at-most (eqb kind 2) (omega arith) (omega arith))
+allowed kind = either (eqb kind 1) _ _ _ (omega arith) (either (eqb kind 2) _ _ _ (omega arith) (omega arith))
 
 add-short : tie.Need-add-short
 add-short c = omega (arith, allowed (c .before .before .before .before .args .kind), c .allowance .ensures)
