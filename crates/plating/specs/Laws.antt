@@ -1,16 +1,18 @@
 -- Every larger thickness meets a rule too; and how great K2 and R are.
 -- Assumes nothing.
-use Prim.Native.Nat.{ℕ, _+_, _-_, _*_, _/_, _≤_, _<_, min}
+use Prim.Native.Nat.{ℕ, _+_, _-_, _*_, _≤_, _<_}
 use mathlib.Core.Bool.{Bool, true, false, _&&_, cond}
 use mathlib.Core.Path.{_≡_, refl}
 use native.Mathlib.Omega.{arith}
 use native.Mathlib.Nat.{mul-le-mul, mul-le-mul-left, mul-le-mul-right, mul-pos, le-div-iff-mul-le}
-use lib.Dec.{leb, ltb, eqb}
-use borrow.Author.Tests.{le-leb, leb-true, lt-ltb, ltb-true, le-ltb}
+use lib.Dec.{leb, ltb}
+use borrow.Author.Tests.{le-leb, leb-true, lt-ltb, le-ltb}
 use Rattle.gauge.specs.Ceil.{ceil-most}
 use Rattle.gauge.specs.Least.{Monotone}
+use Rattle.sheet.specs.declared.Header.{Header}
+use Rattle.sheet.specs.declared.Plate.{Plate}
 use Rattle.sheet.specs.Kinds.{isLong, isBottom}
-use Rattle.plating.specs.Rules.{R, K2, allowance, rule1, rule2, rule3, isSecond, firstForm, secondForm, limit}
+use Rattle.plating.specs.Rules.{R, K2, allowance, rule1, rule2, rule3, isSecond, firstForm, secondForm, limit, plateLoad, asked1, asked2, asked3}
 use Rattle.plating.specs.Bounds.{greatestR}
 
 -- K2 is at least 1000 and at most 26,000
@@ -83,6 +85,15 @@ rule3-monotone kind K S K2 R =
     (either (isLong kind) _ _
     (at-least _ _ (times 100000000 _ square))
     (at-least _ _ (timed (K2 * K2) _ (times 25 _ square))))
+
+-- so with each rule that a plate answers to
+pub plate-monotone : (h : Header) (kind : ℕ) (p : Plate) →
+    Monotone (asked1 h kind p .asks) × Monotone (asked2 h kind p .asks) × Monotone (asked3 h kind p .asks)
+plate-monotone h kind p = (
+  rule1-monotone kind (h .length .0) (p .factor .0) (p .spacing .0),
+  rule2-monotone kind (p .factor .0) (p .spacing .0) (plateLoad h kind p),
+  rule3-monotone kind (p .factor .0) (p .spacing .0) (K2 (p .b1 .0) (p .b2 .0)) (R (h .moment) (h .«bottom_modulus»)),
+)
 
 -- at R ≥ 210,000 no thickness meets rule 3 on the bottom: the second form holds there for every steel
 pub over-limit : (K S K2 R T : ℕ) → 500 ≤ K → limit ≤ R → (rule3 1 K S K2 R T ≡ false) × (rule3 2 K S K2 R T ≡ false)

@@ -14,7 +14,7 @@ ghost use Prim.Native.Nat.{ℕ, _-_, _*_, _^_, _≤_, _<_};
 ghost use lib.Dec.{leb};
 ghost use Rattle.quantity.specs.Range.{thickness, pressure, steelFactor};
 ghost use Rattle.gauge.specs.ShapeLaws.{Says};
-ghost use Rattle.sheet.specs.Kinds.{isLong};
+ghost use Rattle.sheet.specs.Kinds.{isLong, isBottom};
 ghost use Rattle.sheet.specs.Ranges.{HeaderRanges, PlateRanges};
 ghost use Rattle.verdict.specs.Verdict.{verdictOf};
 ghost use Rattle.plating.specs.Rules.{R, K2, allowance, rule1, rule2, isSecond, firstForm, secondForm, rule3, plateLoad, plateRules};
@@ -64,6 +64,12 @@ fn excess(short: u64, a: u64, n: u64) -> Shape
     }
 }
 
+fn is_bottom(kind: u8) -> bool
+    ensures { λ r. ⌜ r ≡ isBottom kind ⌝ }
+{
+    kind <= 2
+}
+
 fn is_long(kind: u8) -> bool
     ensures { λ r. ⌜ r ≡ isLong kind ⌝ }
 {
@@ -81,6 +87,7 @@ fn allowance(kind: u8) -> u64
     }
 }
 
+// Rule 1: what the vessel's length asks.
 fn rule1(kind: u8, length: Span, factor: SteelFactor, spacing: Spacing) -> Shape
     ensures { λ d. ⌜ Says d (thickness .high) (rule1 kind (length .0) (factor .0) (spacing .0)) ⌝ }
 {
@@ -89,12 +96,13 @@ fn rule1(kind: u8, length: Span, factor: SteelFactor, spacing: Spacing) -> Shape
     let s = spacing.0 as u64;
     let n = l * l * k;
     let short = allowance(kind) + 36 * s;
-    if kind <= 2 {
+    if is_bottom(kind) {
         return excess(short, 1000, 9 * n);
     }
     excess(short, 3125, 8 * n)
 }
 
+// Rule 2: what the pressure asks.
 fn rule2(kind: u8, factor: SteelFactor, spacing: Spacing, load: Pressure) -> Shape
     requires { ⌜ (factor .0 ≤ steelFactor .high) × (spacing .0 ≤ widest) × (load .0 ≤ pressure .high) ⌝ }
     ensures { λ d. ⌜ Says d (thickness .high) (rule2 kind (factor .0) (spacing .0) (load .0)) ⌝ }
@@ -139,6 +147,7 @@ fn is_second(kind: u8, factor: SteelFactor, r: u64) -> bool
     }
 }
 
+// Rule 3 while the hull's stress is small.
 fn first_form(kind: u8, spacing: Spacing, b1: Span, b2: Span, r: u64) -> Shape
     requires { ⌜ Panel kind (spacing .0) (b1 .0) ⌝ }
     ensures { λ d. ⌜ Says d (thickness .high) (firstForm kind (spacing .0) (K2 (b1 .0) (b2 .0)) r) ⌝ }
@@ -152,6 +161,7 @@ fn first_form(kind: u8, spacing: Spacing, b1: Span, b2: Span, r: u64) -> Shape
     square_over(25 * (side * side), 1156 * n, r)
 }
 
+// Rule 3 on the bottom where the hull's stress is great.
 fn second_form(kind: u8, factor: SteelFactor, spacing: Spacing, b1: Span, b2: Span, r: u64) -> Shape
     requires { ⌜ Panel kind (spacing .0) (b1 .0) × (factor .0 ≤ steelFactor .high) ⌝ }
     ensures { λ d. ⌜ Says d (thickness .high) (secondForm kind (factor .0) (spacing .0) (K2 (b1 .0) (b2 .0)) r) ⌝ }
@@ -170,6 +180,7 @@ fn second_form(kind: u8, factor: SteelFactor, spacing: Spacing, b1: Span, b2: Sp
     square(side * side * left, 504100000 * n)
 }
 
+// Rule 3: what the hull's bending asks. A greater moment may ask for less, where the second form sets in.
 fn rule3(kind: u8, factor: SteelFactor, spacing: Spacing, b1: Span, b2: Span, r: u64) -> Shape
     requires { ⌜ Panel kind (spacing .0) (b1 .0) × (factor .0 ≤ steelFactor .high) × (r ≤ greatestR) ⌝ }
     ensures { λ d. ⌜ Says d (thickness .high) (rule3 kind (factor .0) (spacing .0) (K2 (b1 .0) (b2 .0)) r) ⌝ }
@@ -184,7 +195,7 @@ fn rule3(kind: u8, factor: SteelFactor, spacing: Spacing, b1: Span, b2: Span, r:
 fn load(h: Header, kind: u8, p: Plate) -> Pressure
     ensures { λ r. ⌜ r .0 ≡ plateLoad h kind p ⌝ }
 {
-    if kind <= 2 {
+    if is_bottom(kind) {
         return loads::bottom(h.draught, h.wave, p.z, p.ballast, p.tank_top);
     }
     loads::inner(p.cargo, p.z, p.ballast, p.tank_top)

@@ -1,8 +1,8 @@
 -- `plating::rule1` meets its contract: with numbers of 16 bits nothing can overflow.
 -- Assumes nothing.
 use Prim.Native.Nat.{ℕ, _*_, _≤_}
+use mathlib.Core.Path.{sym, _∙_}
 use borrow.Author.Needs.{needs}
-use borrow.Author.Tests.{le-leb, lt-leb}
 use native.Mathlib.Omega.{arith}
 use native.Mathlib.Nat.{mul-le-mul}
 use lib.Dec.{eqb}
@@ -29,12 +29,12 @@ add-short c = omega (arith, allowed (c .before .before .before .before .args .ki
 returns : tie.Need-returns
 returns c =
     let b = c .before in
-    λ T m h. rw (le-leb _ 2 (b .if1 .taken)) (rw (b .before .allowance .ensures) at (c .excess .ensures T m h))
+    λ T m h. rw (sym (b .before .is-bottom .ensures) ∙ b .if1 .taken) (rw (b .before .before .allowance .ensures) at (c .excess .ensures T m h))
 
 returns-2 : tie.Need-returns-2
 returns-2 c =
     let b = c .before in
-    λ T m h. rw (lt-leb _ 2 (b .if1 .left)) (rw (b .before .allowance .ensures) at (c .excess2 .ensures T m h))
+    λ T m h. rw (sym (b .before .is-bottom .ensures) ∙ b .if1 .left) (rw (b .before .before .allowance .ensures) at (c .excess2 .ensures T m h))
 
 pub rule1-spec : {M : Type 1} → statement M
 rule1-spec =
@@ -48,9 +48,10 @@ rule1-spec =
     (λ c κs. search needs)
     (λ c. search needs)
     add-short
-    (λ c. omega (arith, in-range (c .before .before)))
+    (λ c κs. search needs)
+    (λ c. omega (arith, in-range (c .before .before .before)))
     (λ c κs. search needs)
     returns
-    (λ c. omega (arith, in-range (c .before .before)))
+    (λ c. omega (arith, in-range (c .before .before .before)))
     (λ c κs. search needs)
     returns-2)
