@@ -1,0 +1,131 @@
+-- `plating::plate_verdict` meets its contract: each rule's shape says the rule, and the verdict goes by them in turn.
+-- Assumes nothing.
+use Prim.Native.Nat.{ℕ, _≤_}
+use mathlib.Core.List.{[], _∷_}
+use mathlib.Core.Path.{_≡_, sym, subst, _∙_}
+use borrow.Author.Needs.{needs}
+use native.Mathlib.Omega.{arith}
+use Rattle.quantity.specs.Range.{thickness, pressure}
+use Rattle.gauge.specs.ShapeLaws.{Says}
+use Rattle.sheet.specs.declared.Header.{Header}
+use Rattle.sheet.specs.declared.Plate.{Plate}
+use Rattle.sheet.specs.Kinds.{isBottom}
+use Rattle.sheet.specs.Ranges.{HeaderRanges, PlateRanges}
+use Rattle.loads.specs.Bounds.{either, bottom-bound, inner-bound}
+use Rattle.verdict.specs.Verdict.{Rule, verdictOf}
+use Rattle.plating.specs.Rules.{K2, rule2, rule3, plateLoad, asked1, asked2, asked3}
+use Rattle.plating.specs.Laws.{R-high}
+use Rattle.plating.proofs.Steps.{Step, step}
+use Rattle.plating.proofs.plate_verdict.Statement.{statement}
+use Rattle.plating.proofs.plate_verdict.Tie as tie
+
+load-high : (h : Header) (kind : ℕ) (p : Plate) → HeaderRanges h → PlateRanges kind p → plateLoad h kind p ≤ pressure .high
+load-high h kind p a b =
+    either (isBottom kind) _ _ _
+    (bottom-bound (h .draught .0) (h .wave .0) (a .draught-high) (a .wave-high) (p .z .0) (p .ballast) (p .«tank_top» .0) (b .tank-high))
+    (inner-bound (p .cargo) (p .z .0) (p .ballast) (p .«tank_top» .0) (b .cargo-high) (b .tank-high))
+
+-- from the test of each rule back to the start
+abbrev start1 : tie.After-meets → tie.Start
+start1 c = c .before .before .before
+
+abbrev start2 : tie.After-meets2 → tie.Start
+start2 c = start1 (c .before .before .before .before)
+
+abbrev start3 : tie.After-meets3 → tie.Start
+start3 c = start2 (c .before .before .before .before)
+
+-- the rules of the plate, in their order
+abbrev r1 : tie.Start → Rule
+r1 s = asked1 (s .args .h) (s .args .kind) (s .args .p)
+
+abbrev r2 : tie.Start → Rule
+r2 s = asked2 (s .args .h) (s .args .kind) (s .args .p)
+
+abbrev r3 : tie.Start → Rule
+r3 s = asked3 (s .args .h) (s .args .kind) (s .args .p)
+
+rule2-requires : tie.Need-rule2-requires
+rule2-requires c κs =
+    let s = start1 (c .before .before) in
+    let p = s .pre .1 in
+    (p .factor-high, p .spacing-high, rw (c .load .ensures) (load-high (s .args .h) (s .args .kind) (s .args .p) (s .pre .0) p))
+
+rule3-requires : tie.Need-rule3-requires
+rule3-requires c κs =
+    let s = start2 (c .before .before) in
+    let h = s .pre .0 in
+    let p = s .pre .1 in (
+      record { spacing-low = p .spacing-low; spacing-high = p .spacing-high; b1-low = λ e. omega (arith, p .b1-low e) },
+      p .factor-high,
+      rw (c .hull-stress .ensures) (R-high (s .args .h .moment) (s .args .h .«bottom_modulus») (h .moment-high) (h .modulus-low)),
+    )
+
+step1 : (c : tie.After-meets) → Step (c .before .rule1 .result) (r1 (start1 c)) (r2 (start1 c) ∷ r3 (start1 c) ∷ []) (c .meets .result)
+step1 c =
+    let p = start1 c .pre .1 in
+    step _ (r1 (start1 c)) _ (c .before .rule1 .ensures) (p .thickness-low) (p .thickness-high) (c .meets .ensures)
+
+step2 : (c : tie.After-meets2) → Step (c .before .rule2 .result) (r2 (start2 c)) (r3 (start2 c) ∷ []) (c .meets2 .result)
+step2 c =
+    let p = start2 c .pre .1 in
+    let a = start2 c .args in
+    let d = c .before .rule2 .result in
+    let says : Says d (thickness .high) (r2 (start2 c) .asks) =
+    subst (λ (P : ℕ). Says d (thickness .high) (rule2 (a .kind) (a .p .factor .0) (a .p .spacing .0) P)) (c .before .before .load .ensures) (c .before .rule2 .ensures) in
+    step d (r2 (start2 c)) _ says (p .thickness-low) (p .thickness-high) (c .meets2 .ensures)
+
+step3 : (c : tie.After-meets3) → Step (c .before .rule3 .result) (r3 (start3 c)) [] (c .meets3 .result)
+step3 c =
+    let p = start3 c .pre .1 in
+    let a = start3 c .args in
+    let d = c .before .rule3 .result in
+    let says : Says d (thickness .high) (r3 (start3 c) .asks) =
+    subst (λ (r : ℕ). Says d (thickness .high) (rule3 (a .kind) (a .p .factor .0) (a .p .spacing .0) (K2 (a .p .b1 .0) (a .p .b2 .0)) r)) (c .before .before .hull-stress .ensures) (c .before .rule3 .ensures) in
+    step d (r3 (start3 c)) _ says (p .thickness-low) (p .thickness-high) (c .meets3 .ensures)
+
+passed1 : (c : tie.Else1) → let s = start1 (c .before) in verdictOf (r1 s ∷ r2 s ∷ r3 s ∷ []) ≡ verdictOf (r2 s ∷ r3 s ∷ [])
+passed1 c = step1 (c .before) .passes (c .if1 .left)
+
+passed2 : (c : tie.Else2) → let s = start2 (c .before) in verdictOf (r1 s ∷ r2 s ∷ r3 s ∷ []) ≡ verdictOf (r3 s ∷ [])
+passed2 c = passed1 (c .before .before .before .before) ∙ step2 (c .before) .passes (c .if2 .left)
+
+returns : tie.Need-returns
+returns c = c .failed .ensures ∙ step1 (c .before .before) .fails (c .before .if1 .taken)
+
+returns-2 : tie.Need-returns-2
+returns-2 c =
+    let m = c .before .before in
+    c .failed2 .ensures ∙ step2 m .fails (c .before .if2 .taken) ∙ sym (passed1 (m .before .before .before))
+
+returns-3 : tie.Need-returns-3
+returns-3 c =
+    let m = c .before .before in
+    c .failed3 .ensures ∙ step3 m .fails (c .before .if3 .taken) ∙ sym (passed2 (m .before .before .before))
+
+returns-4 : tie.Need-returns-4
+returns-4 c =
+    let m = c .before in
+    sym (passed2 (m .before .before .before) ∙ step3 m .passes (c .if3 .left))
+
+pub plate-verdict-spec : {M : Type 1} → statement M
+plate-verdict-spec =
+    tie.close
+    (tie.spec
+    (λ c. search needs)
+    (λ c. search needs)
+    (λ c κs. search needs)
+    (λ c κs. search needs)
+    (λ c κs. search needs)
+    returns
+    (λ c κs. search needs)
+    rule2-requires
+    (λ c κs. search needs)
+    (λ c κs. search needs)
+    returns-2
+    (λ c κs. search needs)
+    rule3-requires
+    (λ c κs. search needs)
+    (λ c κs. search needs)
+    returns-3
+    returns-4)

@@ -1,0 +1,21 @@
+-- `plating::rule3` meets its contract.
+-- Assumes nothing.
+use mathlib.Core.Path.{sym, _∙_}
+use borrow.Author.Needs.{needs}
+use Rattle.plating.proofs.rule3.Statement.{statement}
+use Rattle.plating.proofs.rule3.Tie as tie
+
+returns : tie.Need-returns
+returns c =
+    let b = c .before in
+    λ T m h. rw (sym (b .before .is-second .ensures) ∙ b .if1 .taken) (c .second-form .ensures T m h)
+
+returns-2 : tie.Need-returns-2
+returns-2 c =
+    let b = c .before in
+    λ T m h. rw (sym (b .before .is-second .ensures) ∙ b .if1 .left) (c .first-form .ensures T m h)
+
+pub rule3-spec : {M : Type 1} → statement M
+rule3-spec =
+    tie.close
+    (tie.spec (λ c κs. search needs) (λ c κs. search needs) returns (λ c κs. search needs) returns-2)

@@ -1,0 +1,107 @@
+-- Every larger thickness meets a rule too; and how great K2 and R are.
+-- Assumes nothing.
+use Prim.Native.Nat.{ℕ, _+_, _-_, _*_, _≤_, _<_}
+use mathlib.Core.Bool.{Bool, true, false, _&&_, cond}
+use mathlib.Core.Path.{_≡_, refl}
+use native.Mathlib.Omega.{arith}
+use native.Mathlib.Nat.{mul-le-mul, mul-le-mul-left, mul-le-mul-right, mul-pos, le-div-iff-mul-le}
+use lib.Dec.{leb, ltb}
+use borrow.Author.Tests.{le-leb, leb-true, lt-ltb, le-ltb}
+use Rattle.gauge.specs.Ceil.{ceil-most}
+use Rattle.gauge.specs.Least.{Monotone}
+use Rattle.sheet.specs.declared.Header.{Header}
+use Rattle.sheet.specs.declared.Plate.{Plate}
+use Rattle.sheet.specs.Kinds.{isLong, isBottom}
+use Rattle.plating.specs.Rules.{R, K2, allowance, rule1, rule2, rule3, isSecond, firstForm, secondForm, limit, plateLoad, asked1, asked2, asked3}
+use Rattle.plating.specs.Bounds.{greatestR}
+
+-- K2 is at least 1000 and at most 26,000
+pub K2-range : (b1 b2 : ℕ) → 0 < b1 → (1000 ≤ K2 b1 b2) × (K2 b1 b2 ≤ 26000)
+unfolding K2
+K2-range b1 b2 h =
+    let q = le-div-iff-mul-le {x = 1000} {y = 1000 * (b1 * b1 + b2 * b2)} (mul-pos h h) .1 (omega arith) in
+    (omega arith, omega arith)
+
+-- R is at most that of the greatest moment on the least modulus
+pub R-high : (M ZB : ℕ) → M ≤ 1000000 → 1 ≤ ZB → R M ZB ≤ greatestR
+R-high M ZB m z = ceil-most (1000000 * M) ZB greatestR z (omega arith)
+
+-- a number that does not fall as T rises
+abbrev Rising : (ℕ → ℕ) → Type 0
+Rising f = (x y : ℕ) → x ≤ y → f x ≤ f y
+
+-- at least n, of a number that rises
+at-least : (n : ℕ) (f : ℕ → ℕ) → Rising f → Monotone (λ (T : ℕ). leb n (f T))
+at-least n f r x y l e = le-leb n (f y) (omega (arith, leb-true n (f x) e, r x y l))
+
+-- one of two tests, whichever a fixed question picks
+either : (b : Bool) (f g : ℕ → Bool) → Monotone f → Monotone g → Monotone (λ (T : ℕ). cond b (f T) (g T))
+either true f g p q = p
+either false f g p q = q
+
+-- two tests together
+both : (f g : ℕ → Bool) → Monotone f → Monotone g → Monotone (λ (T : ℕ). f T && g T)
+both f g p q x y l = go (f x) refl
+  where
+    go : (b : Bool) → f x ≡ b → (b && g x) ≡ true → (f y && g y) ≡ true
+    go true e h = rw (p x y l e) (q x y l h)
+    go false e h = let z : _≡_ {A = ℕ} 0 1 = cc in absurd (omega arith)
+
+times : (a : ℕ) (f : ℕ → ℕ) → Rising f → Rising (λ (T : ℕ). a * f T)
+times a f r x y l = mul-le-mul-left a (r x y l)
+
+timed : (a : ℕ) (f : ℕ → ℕ) → Rising f → Rising (λ (T : ℕ). f T * a)
+timed a f r x y l = mul-le-mul-right a (r x y l)
+
+squared : (f : ℕ → ℕ) → Rising f → Rising (λ (T : ℕ). f T * f T)
+squared f r x y l = mul-le-mul (r x y l) (r x y l)
+
+-- T²
+square : Rising (λ (T : ℕ). T * T)
+square = squared (λ (T : ℕ). T) (λ x y l. l)
+
+pub rule1-monotone : (kind L K S : ℕ) → Monotone (rule1 kind L K S)
+rule1-monotone kind L K S =
+    let short = allowance kind + 36 * S in
+    let X : ℕ → ℕ = λ T. 100 * T - short in
+    let rising : Rising X = λ x y l. omega arith in
+    both (λ (T : ℕ). leb short (100 * T)) _
+    (at-least short (λ (T : ℕ). 100 * T) (λ x y l. omega arith))
+    (either (isBottom kind) _ _
+    (at-least _ (λ (T : ℕ). 1000 * (X T * X T)) (times 1000 _ (squared X rising)))
+    (at-least _ (λ (T : ℕ). 3125 * (X T * X T)) (times 3125 _ (squared X rising))))
+
+pub rule2-monotone : (kind K S P : ℕ) → Monotone (rule2 kind K S P)
+rule2-monotone kind K S P =
+    either (isLong kind) _ _ (at-least _ _ (times 625000000000 _ square)) (at-least _ _ (times 39062500000 _ square))
+
+pub rule3-monotone : (kind K S K2 R : ℕ) → Monotone (rule3 kind K S K2 R)
+rule3-monotone kind K S K2 R =
+    either (isSecond kind K R) (secondForm kind K S K2 R) (firstForm kind S K2 R)
+    (both (λ (T : ℕ). ltb R limit) _ (λ x y l e. e)
+    (either (isLong kind) _ _
+    (at-least _ _ (timed (limit - R) _ (times 10 _ square)))
+    (at-least _ _ (timed (limit - R) _ (timed (K2 * K2) _ square)))))
+    (either (isLong kind) _ _
+    (at-least _ _ (times 100000000 _ square))
+    (at-least _ _ (timed (K2 * K2) _ (times 25 _ square))))
+
+-- so with each rule that a plate answers to
+pub plate-monotone : (h : Header) (kind : ℕ) (p : Plate) →
+    Monotone (asked1 h kind p .asks) × Monotone (asked2 h kind p .asks) × Monotone (asked3 h kind p .asks)
+plate-monotone h kind p = (
+  rule1-monotone kind (h .length .0) (p .factor .0) (p .spacing .0),
+  rule2-monotone kind (p .factor .0) (p .spacing .0) (plateLoad h kind p),
+  rule3-monotone kind (p .factor .0) (p .spacing .0) (K2 (p .b1 .0) (p .b2 .0)) (R (h .moment) (h .«bottom_modulus»)),
+)
+
+-- at R ≥ 210,000 no thickness meets rule 3 on the bottom: the second form holds there for every steel
+pub over-limit : (K S K2 R T : ℕ) → 500 ≤ K → limit ≤ R → (rule3 1 K S K2 R T ≡ false) × (rule3 2 K S K2 R T ≡ false)
+over-limit K S K2 R T k r = (
+  rw (lt-ltb 121000000000 (1156 * K * R) (omega (arith, mul-le-mul (mul-le-mul-left 1156 k) r)), le-ltb R limit r),
+  rw (lt-ltb 625000000000 (6084 * K * R) (omega (arith, mul-le-mul (mul-le-mul-left 6084 k) r)), le-ltb R limit r),
+)
+
+-- the inner bottom takes the first form always
+pub inner-first : (K S K2 R T : ℕ) → (rule3 3 K S K2 R T ≡ firstForm 3 S K2 R T) × (rule3 4 K S K2 R T ≡ firstForm 4 S K2 R T)
+inner-first K S K2 R T = (refl, refl)

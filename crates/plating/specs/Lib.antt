@@ -1,0 +1,4 @@
+pub mod Rules
+pub mod Cases
+pub mod Bounds
+pub mod Laws

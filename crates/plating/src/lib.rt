@@ -1,0 +1,228 @@
+// Plates of the bottom and the inner bottom: rules 1, 2 and 3.
+use gauge::Shape;
+use quantity::Pressure;
+use quantity::Spacing;
+use quantity::Span;
+use quantity::SteelFactor;
+use quantity::Thickness;
+use sheet::Header;
+use sheet::Plate;
+use verdict::Verdict;
+ghost use mathlib.Core.Path.{_≡_};
+ghost use mathlib.Core.Bool.{_&&_};
+ghost use Prim.Native.Nat.{ℕ, _-_, _*_, _^_, _≤_, _<_};
+ghost use lib.Dec.{leb};
+ghost use Rattle.quantity.specs.Range.{thickness, pressure, steelFactor};
+ghost use Rattle.gauge.specs.ShapeLaws.{Says};
+ghost use Rattle.sheet.specs.Kinds.{isLong, isBottom};
+ghost use Rattle.sheet.specs.Ranges.{HeaderRanges, PlateRanges};
+ghost use Rattle.verdict.specs.Verdict.{verdictOf};
+ghost use Rattle.plating.specs.Rules.{R, K2, allowance, rule1, rule2, isSecond, firstForm, secondForm, rule3, plateLoad, plateRules};
+ghost use Rattle.plating.specs.Bounds.{Panel, widest, greatestR};
+
+// The stress R at which the hull's bending leaves nothing for the plate's own.
+const LIMIT: u64 = 210000;
+
+// The greatest K2.
+const K2_HIGH: u64 = 26000;
+
+// a·T² ≥ n.
+fn square(a: u64, n: u64) -> Shape
+    requires { ⌜ 0 < a ⌝ }
+    ensures { λ d. ⌜ Says d (thickness .high) (λ (T : ℕ). leb n (a * (T * T))) ⌝ }
+{
+    let n = gauge::ceil_div(n, a);
+    Shape::Square {
+        step: 1,
+        short: 0,
+        n,
+    }
+}
+
+// a·T² ≥ b·c, where b·c may be past 64 bits: it is formed only where the thickest plate of the gauge meets the rule.
+fn square_over(a: u64, b: u64, c: u64) -> Shape
+    requires { ⌜ (0 < a) × (0 < b) × (a * (thickness .high * thickness .high) < 2 ^ 64) ⌝ }
+    ensures { λ d. ⌜ Says d (thickness .high) (λ (T : ℕ). leb (b * c) (a * (T * T))) ⌝ }
+{
+    let top = Thickness::HIGH as u64;
+    if a * (top * top) / b < c {
+        return Shape::Never;
+    }
+    square(a, b * c)
+}
+
+// X = 100T − short, X ≥ 0 and a·X² ≥ n.
+fn excess(short: u64, a: u64, n: u64) -> Shape
+    requires { ⌜ 0 < a ⌝ }
+    ensures { λ d. ⌜ Says d (thickness .high) (λ (T : ℕ). leb short (100 * T) && leb n (a * ((100 * T - short) * (100 * T - short)))) ⌝ }
+{
+    let n = gauge::ceil_div(n, a);
+    Shape::Square {
+        step: 100,
+        short,
+        n,
+    }
+}
+
+fn is_bottom(kind: u8) -> bool
+    ensures { λ r. ⌜ r ≡ isBottom kind ⌝ }
+{
+    kind <= 2
+}
+
+fn is_long(kind: u8) -> bool
+    ensures { λ r. ⌜ r ≡ isLong kind ⌝ }
+{
+    kind == 2 || kind == 4
+}
+
+// c of rule 1.
+fn allowance(kind: u8) -> u64
+    ensures { λ r. ⌜ r ≡ allowance kind ⌝ }
+{
+    match kind {
+        1 => 18500,
+        2 => 11000,
+        _ => 15000,
+    }
+}
+
+// Rule 1: what the vessel's length asks.
+fn rule1(kind: u8, length: Span, factor: SteelFactor, spacing: Spacing) -> Shape
+    ensures { λ d. ⌜ Says d (thickness .high) (rule1 kind (length .0) (factor .0) (spacing .0)) ⌝ }
+{
+    let l = length.0 as u64;
+    let k = factor.0 as u64;
+    let s = spacing.0 as u64;
+    let n = l * l * k;
+    let short = allowance(kind) + 36 * s;
+    if is_bottom(kind) {
+        return excess(short, 1000, 9 * n);
+    }
+    excess(short, 3125, 8 * n)
+}
+
+// Rule 2: what the pressure asks.
+fn rule2(kind: u8, factor: SteelFactor, spacing: Spacing, load: Pressure) -> Shape
+    requires { ⌜ (factor .0 ≤ steelFactor .high) × (spacing .0 ≤ widest) × (load .0 ≤ pressure .high) ⌝ }
+    ensures { λ d. ⌜ Says d (thickness .high) (rule2 kind (factor .0) (spacing .0) (load .0)) ⌝ }
+{
+    let k = factor.0 as u64;
+    let s = spacing.0 as u64;
+    let n = s * s * k * load.0;
+    if is_long(kind) {
+        return square(625000000000, 9 * n);
+    }
+    square(39062500000, n)
+}
+
+// R: the hull's stress at the bottom, from the moment M and the bottom modulus ZB.
+fn hull_stress(moment: u32, bottom_modulus: u32) -> u64
+    ensures { λ r. ⌜ r ≡ R moment «bottom_modulus» ⌝ }
+{
+    gauge::ceil_div(1000000 * moment as u64, bottom_modulus as u64)
+}
+
+// K2, of the sides of the plate's field.
+fn k2(b1: Span, b2: Span) -> u64
+    requires { ⌜ 0 < b1 .0 ⌝ }
+    ensures { λ r. ⌜ r ≡ K2 (b1 .0) (b2 .0) ⌝ }
+{
+    let x = b1.0 as u64;
+    let y = b2.0 as u64;
+    let ratio = 1000 * (x * x + y * y) / (x * x);
+    if ratio < K2_HIGH { ratio } else { K2_HIGH }
+}
+
+// Whether the second form of rule 3 replaces the first.
+fn is_second(kind: u8, factor: SteelFactor, r: u64) -> bool
+    requires { ⌜ (factor .0 ≤ steelFactor .high) × (r ≤ greatestR) ⌝ }
+    ensures { λ b. ⌜ b ≡ isSecond kind (factor .0) r ⌝ }
+{
+    let k = factor.0 as u64;
+    match kind {
+        1 => 121000000000 < 1156 * k * r,
+        2 => 625000000000 < 6084 * k * r,
+        _ => false,
+    }
+}
+
+// Rule 3 while the hull's stress is small.
+fn first_form(kind: u8, spacing: Spacing, b1: Span, b2: Span, r: u64) -> Shape
+    requires { ⌜ Panel kind (spacing .0) (b1 .0) ⌝ }
+    ensures { λ d. ⌜ Says d (thickness .high) (firstForm kind (spacing .0) (K2 (b1 .0) (b2 .0)) r) ⌝ }
+{
+    let s = spacing.0 as u64;
+    let n = s * s;
+    if is_long(kind) {
+        return square_over(100000000, 1521 * n, r);
+    }
+    let side = k2(b1, b2);
+    square_over(25 * (side * side), 1156 * n, r)
+}
+
+// Rule 3 on the bottom where the hull's stress is great.
+fn second_form(kind: u8, factor: SteelFactor, spacing: Spacing, b1: Span, b2: Span, r: u64) -> Shape
+    requires { ⌜ Panel kind (spacing .0) (b1 .0) × (factor .0 ≤ steelFactor .high) ⌝ }
+    ensures { λ d. ⌜ Says d (thickness .high) (secondForm kind (factor .0) (spacing .0) (K2 (b1 .0) (b2 .0)) r) ⌝ }
+{
+    if LIMIT <= r {
+        return Shape::Never;
+    }
+    let left = LIMIT - r;
+    let k = factor.0 as u64;
+    let s = spacing.0 as u64;
+    let n = s * s * k;
+    if is_long(kind) {
+        return square(10 * left, 1681 * n);
+    }
+    let side = k2(b1, b2);
+    square(side * side * left, 504100000 * n)
+}
+
+// Rule 3: what the hull's bending asks. A greater moment may ask for less, where the second form sets in.
+fn rule3(kind: u8, factor: SteelFactor, spacing: Spacing, b1: Span, b2: Span, r: u64) -> Shape
+    requires { ⌜ Panel kind (spacing .0) (b1 .0) × (factor .0 ≤ steelFactor .high) × (r ≤ greatestR) ⌝ }
+    ensures { λ d. ⌜ Says d (thickness .high) (rule3 kind (factor .0) (spacing .0) (K2 (b1 .0) (b2 .0)) r) ⌝ }
+{
+    if is_second(kind, factor, r) {
+        return second_form(kind, factor, spacing, b1, b2, r);
+    }
+    first_form(kind, spacing, b1, b2, r)
+}
+
+// P on the plate.
+fn load(h: Header, kind: u8, p: Plate) -> Pressure
+    ensures { λ r. ⌜ r .0 ≡ plateLoad h kind p ⌝ }
+{
+    if is_bottom(kind) {
+        return loads::bottom(h.draught, h.wave, p.z, p.ballast, p.tank_top);
+    }
+    loads::inner(p.cargo, p.z, p.ballast, p.tank_top)
+}
+
+// The first rule that the plate fails, and the thickness that this rule requires. A later rule is formed only where the earlier ones pass.
+fn plate_verdict(h: Header, kind: u8, p: Plate) -> Verdict
+    requires { ⌜ HeaderRanges h × PlateRanges kind p ⌝ }
+    ensures { λ v. ⌜ v ≡ verdictOf (plateRules h kind p) ⌝ }
+{
+    let top = Thickness::HIGH as u32;
+    let t = p.thickness.0 as u32;
+    let d1 = rule1(kind, h.length, p.factor, p.spacing);
+    if !gauge::meets(d1, t) {
+        return verdict::failed(1, d1, top);
+    }
+    let d2 = rule2(kind, p.factor, p.spacing, load(h, kind, p));
+    if !gauge::meets(d2, t) {
+        return verdict::failed(2, d2, top);
+    }
+    let r = hull_stress(h.moment, h.bottom_modulus);
+    let d3 = rule3(kind, p.factor, p.spacing, p.b1, p.b2, r);
+    if !gauge::meets(d3, t) {
+        return verdict::failed(3, d3, top);
+    }
+    Verdict {
+        rule: 0,
+        required: 0,
+    }
+}
