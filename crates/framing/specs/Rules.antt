@@ -9,7 +9,11 @@ use Rattle.loads.specs.Loads.{sea, deepLoad, lineLoad}
 use Rattle.sheet.specs.Kinds.{isFloor, isDeep}
 use Rattle.sheet.specs.declared.Header.{Header}
 use Rattle.sheet.specs.declared.Member.{Member}
-use Rattle.verdict.specs.Verdict.{Rule}
+use Rattle.sheet.specs.declared.Record.{Record}
+use Rattle.sheet.specs.declared.Body.{Body}
+use Rattle.sheet.specs.declared.Body.the-variants.{Plate as isPlate, Member as isMember}
+use Rattle.verdict.specs.declared.Verdict.{Verdict}
+use Rattle.verdict.specs.Verdict.{Rule, pass, verdictOf}
 
 -- X = t − short, X ≥ 0 and a·X² ≥ p
 abbrev pub squared : ℕ → ℕ → ℕ → ℕ → Bool
@@ -80,3 +84,11 @@ shearRule h kind m =
 -- the three in their order
 abbrev pub memberRules : Header → ℕ → Member → List Rule
 memberRules h kind m = webRule h kind m ∷ bendingRule h kind m ∷ shearRule h kind m ∷ []
+
+-- the first of them that a member fails; a plate has nothing to answer to here
+abbrev pub memberBodyVerdict : Header → ℕ → Body → Verdict
+memberBodyVerdict h kind (isPlate p) = pass
+memberBodyVerdict h kind (isMember m) = verdictOf (memberRules h kind m)
+
+abbrev pub memberVerdict : Header → Record → Verdict
+memberVerdict h r = memberBodyVerdict h (r .kind) (r .body)

@@ -7,8 +7,12 @@ use quantity::Spacing;
 use quantity::Span;
 use quantity::SteelFactor;
 use quantity::Thickness;
+use sheet::Body;
 use sheet::Header;
 use sheet::Member;
+use sheet::Outcome;
+use sheet::Record;
+use verdict::Judged;
 use verdict::Verdict;
 ghost use mathlib.Core.Path.{_≡_};
 ghost use Prim.Native.Nat.{_*_, _<_, _≤_, _^_};
@@ -17,7 +21,8 @@ ghost use Rattle.gauge.specs.Ceil.{ceilOf};
 ghost use Rattle.gauge.specs.ShapeLaws.{Says};
 ghost use Rattle.sheet.specs.Ranges.{HeaderRanges, MemberRanges};
 ghost use Rattle.verdict.specs.Verdict.{verdictOf};
-ghost use Rattle.framing.specs.Rules.{rule4 as rule4Of, rule5 as rule5Of, rule6 as rule6Of, memberLine, memberRules};
+ghost use Rattle.verdict.specs.Judged.{toldJudged, judgedBy};
+ghost use Rattle.framing.specs.Rules.{rule4 as rule4Of, rule5 as rule5Of, rule6 as rule6Of, memberLine, memberRules, memberVerdict};
 ghost use Rattle.framing.specs.Shapes.{stressedShape};
 ghost use Rattle.framing.specs.Bounds.{Product, Bounded};
 
@@ -137,5 +142,24 @@ fn member_verdict(h: Header, kind: u8, m: Member) -> Verdict
     Verdict {
         rule: 0,
         required: 0,
+    }
+}
+
+// The verdict of the rules for members, to which a plate has nothing to answer; or why the header or the record is turned away.
+pub fn judge(h: Header, r: Record) -> Judged
+    ensures { λ j. ⌜ toldJudged j ≡ judgedBy h r (memberVerdict h r) ⌝ }
+{
+    let admitted = verdict::admitted(h, r);
+    if let Outcome::Refused(x) = admitted {
+        return Judged::Refused(x);
+    }
+    let kind = r.kind;
+    let body = r.body;
+    match body {
+        Body::Plate(_) => Judged::Verdict(Verdict {
+            rule: 0,
+            required: 0,
+        }),
+        Body::Member(m) => Judged::Verdict(member_verdict(h, kind, m)),
     }
 }

@@ -9,7 +9,11 @@ use Rattle.sheet.specs.declared.Header.{Header}
 use Rattle.sheet.specs.declared.Plate.{Plate}
 use Rattle.sheet.specs.Kinds.{isLong, isBottom}
 use Rattle.loads.specs.Loads.{bottomLoad, innerLoad}
-use Rattle.verdict.specs.Verdict.{Rule}
+use Rattle.sheet.specs.declared.Record.{Record}
+use Rattle.sheet.specs.declared.Body.{Body}
+use Rattle.sheet.specs.declared.Body.the-variants.{Plate as isPlate, Member as isMember}
+use Rattle.verdict.specs.declared.Verdict.{Verdict}
+use Rattle.verdict.specs.Verdict.{Rule, pass, verdictOf}
 
 -- R = 1,000,000·M/ZB rounded up: the hull's stress at the bottom, thousandths of a N/mm²
 abbrev pub R : ℕ → ℕ → ℕ
@@ -84,3 +88,11 @@ asked3 h kind p =
 -- the rules that a plate answers to, in their order
 abbrev pub plateRules : Header → ℕ → Plate → List Rule
 plateRules h kind p = asked1 h kind p ∷ asked2 h kind p ∷ asked3 h kind p ∷ []
+
+-- the first of them that a plate fails; a member has nothing to answer to here
+abbrev pub plateBodyVerdict : Header → ℕ → Body → Verdict
+plateBodyVerdict h kind (isPlate p) = verdictOf (plateRules h kind p)
+plateBodyVerdict h kind (isMember m) = pass
+
+abbrev pub plateVerdict : Header → Record → Verdict
+plateVerdict h r = plateBodyVerdict h (r .kind) (r .body)

@@ -5,8 +5,12 @@ use quantity::Spacing;
 use quantity::Span;
 use quantity::SteelFactor;
 use quantity::Thickness;
+use sheet::Body;
 use sheet::Header;
+use sheet::Outcome;
 use sheet::Plate;
+use sheet::Record;
+use verdict::Judged;
 use verdict::Verdict;
 ghost use mathlib.Core.Path.{_≡_};
 ghost use mathlib.Core.Bool.{_&&_};
@@ -17,7 +21,8 @@ ghost use Rattle.gauge.specs.ShapeLaws.{Says};
 ghost use Rattle.sheet.specs.Kinds.{isLong, isBottom};
 ghost use Rattle.sheet.specs.Ranges.{HeaderRanges, PlateRanges};
 ghost use Rattle.verdict.specs.Verdict.{verdictOf};
-ghost use Rattle.plating.specs.Rules.{R, K2, allowance, rule1, rule2, isSecond, firstForm, secondForm, rule3, plateLoad, plateRules};
+ghost use Rattle.verdict.specs.Judged.{toldJudged, judgedBy};
+ghost use Rattle.plating.specs.Rules.{R, K2, allowance, rule1, rule2, isSecond, firstForm, secondForm, rule3, plateLoad, plateRules, plateVerdict};
 ghost use Rattle.plating.specs.Bounds.{Panel, widest, greatestR};
 
 // The stress R at which the hull's bending leaves nothing for the plate's own.
@@ -224,5 +229,24 @@ fn plate_verdict(h: Header, kind: u8, p: Plate) -> Verdict
     Verdict {
         rule: 0,
         required: 0,
+    }
+}
+
+// The verdict of the rules for plates, to which a member has nothing to answer; or why the header or the record is turned away.
+pub fn judge(h: Header, r: Record) -> Judged
+    ensures { λ j. ⌜ toldJudged j ≡ judgedBy h r (plateVerdict h r) ⌝ }
+{
+    let admitted = verdict::admitted(h, r);
+    if let Outcome::Refused(x) = admitted {
+        return Judged::Refused(x);
+    }
+    let kind = r.kind;
+    let body = r.body;
+    match body {
+        Body::Plate(p) => Judged::Verdict(plate_verdict(h, kind, p)),
+        Body::Member(_) => Judged::Verdict(Verdict {
+            rule: 0,
+            required: 0,
+        }),
     }
 }

@@ -1,2 +1,4 @@
 pub mod Verdict
+pub mod Judged
+pub mod JudgedLaws
 pub mod Only

@@ -1,14 +1,26 @@
 // The verdict on one member: the first of its rules that fails, with the scantling that the rule requires.
 use gauge::Least;
 use gauge::Shape;
+use sheet::Header;
+use sheet::Outcome;
+use sheet::Record;
+use sheet::Refusal;
 ghost use mathlib.Core.Path.{_≡_};
 ghost use Rattle.gauge.specs.Least.{numberOf};
+ghost use Rattle.sheet.specs.Refusals.{toldOutcome};
 ghost use Rattle.verdict.specs.Verdict.{failedOf};
+ghost use Rattle.verdict.specs.Judged.{judgedBy};
 
 // Rule 0 is a pass. Required is 0 on a pass, and where nothing in the gauge will do.
 pub struct Verdict {
     pub rule: u8,
     pub required: u32,
+}
+
+// What judging a record gives.
+pub enum Judged {
+    Verdict(Verdict),
+    Refused(Refusal),
 }
 
 fn number(l: Least) -> u32
@@ -26,4 +38,15 @@ pub fn failed(rule: u8, d: Shape, top: u32) -> Verdict
 {
     let required = number(gauge::least_in(d, top));
     Verdict { rule, required }
+}
+
+// Whether a header and a record are within their values, so that the record can be judged: the header first, then the record as record 0.
+pub fn admitted(h: Header, r: Record) -> Outcome
+    ensures { λ o. ⌜ toldOutcome o ≡ judgedBy h r tt ⌝ }
+{
+    let first = header::header_fault(h);
+    match first {
+        Outcome::Refused(x) => Outcome::Refused(x),
+        Outcome::Fine => record::record_fault(r, 0),
+    }
 }

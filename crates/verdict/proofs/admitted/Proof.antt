@@ -1,0 +1,31 @@
+-- `verdict::admitted` meets its contract.
+-- Assumes nothing.
+use borrow.Author.Needs.{needs}
+use mathlib.Core.Path.{sym, ap, _∙_}
+use Rattle.sheet.specs.Refusals.{toldOutcome, numberOf, placeOf}
+use Rattle.verdict.specs.JudgedLaws.{header-first, then-record}
+use Rattle.verdict.proofs.admitted.Statement.{statement}
+use Rattle.verdict.proofs.admitted.Tie as tie
+
+returns : tie.Need-returns
+returns c =
+    let at-header = c .before .before .before in
+    let a = at-header .before .args in
+    sym (header-first (a .h) (a .r) _ _ (sym (at-header .header-fault .ensures) ∙ ap toldOutcome (c .before .first .given .1)))
+
+returns-2 : tie.Need-returns-2
+returns-2 c =
+    let at-header = c .before .before .before in
+    let a = at-header .before .args in
+    c .record-fault .ensures ∙ then-record (a .h) (a .r) (sym (at-header .header-fault .ensures) ∙ ap toldOutcome (c .before .enum-told .given .1))
+
+pub admitted-spec : {M : Type 1} → statement M
+admitted-spec =
+    tie.close
+    (tie.spec
+    (λ c κs. search needs)
+    (λ c. search needs)
+    (λ c. search needs)
+    (λ c κs. search needs)
+    returns
+    returns-2)

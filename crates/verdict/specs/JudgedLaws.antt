@@ -1,0 +1,87 @@
+-- When a record is judged, and that an answer is the only one.
+-- Assumes nothing.
+use Prim.Native.Nat.{ℕ, _+_, _*_}
+use mathlib.Core.Path.{_≡_, refl, sym, ap, ap₂, _∙_}
+use mathlib.Core.Bool.{Bool, true, false, cond}
+use lib.Dec.{eqb}
+use borrow.Author.Tests.{eq-eqb, eqb-true}
+use Rattle.sheet.specs.declared.Header.{Header}
+use Rattle.sheet.specs.declared.Record.{Record}
+use Rattle.sheet.specs.declared.Refusal.{Refusal}
+use Rattle.sheet.specs.Header.{headerFault}
+use Rattle.sheet.specs.Record.{recordFault}
+use Rattle.sheet.specs.Refusals.{Answer, given, refused, numberOf, placeOf, told, headerRefused, recordRefused}
+use Rattle.sheet.specs.RefusalLaws.{given-refused, refusal-only, refused-number, refused-place, given-same, by-none}
+use Rattle.verdict.specs.declared.Verdict.{Verdict}
+use Rattle.verdict.specs.declared.Judged.{Judged}
+use Rattle.verdict.specs.declared.Judged.the-variants.{Verdict as isVerdict, Refused as notJudged}
+use Rattle.verdict.specs.Judged.{toldJudged, judgedBy}
+
+-- neither the header nor the record is at fault
+pub record Sound (h : Header) (r : Record) : Type 0 where
+  pub header : headerFault h 0 ≡ 0
+  pub body : recordFault r 0 ≡ 0
+
+-- the tests that the answer goes by
+abbrev tested : {A : Type 0} → (t u v w : Bool) → (f g : ℕ) → A → Answer A
+tested t u v w f g a = cond t (cond v (given a) (cond w (refused 6 0) (refused 7 g))) (cond u (refused 2 0) (refused 3 f))
+
+tested-given : {A : Type 0} (t u v w : Bool) (f g : ℕ) (a b : A) → tested t u v w f g a ≡ given b → (t ≡ true) × (v ≡ true)
+tested-given true u true w f g a b e = (refl, refl)
+tested-given true u false true f g a b e = given-refused (sym e)
+tested-given true u false false f g a b e = given-refused (sym e)
+tested-given false true v w f g a b e = given-refused (sym e)
+tested-given false false v w f g a b e = given-refused (sym e)
+
+-- a refusal of one asking is the same refusal of another
+again : {A B : Type 0} (l q k p : ℕ) → _≡_ {A = Answer A} (refused l q) (refused k p) → _≡_ {A = Answer B} (refused l q) (refused k p)
+again l q k p e = ap₂ refused (refused-number e) (refused-place e)
+
+tested-refused : {A B : Type 0} (t u v w : Bool) (f g : ℕ) (a : A) (b : B) (k p : ℕ) → tested t u v w f g a ≡ refused k p → tested t u v w f g b ≡ refused k p
+tested-refused true u true w f g a b k p e = given-refused e
+tested-refused true u false true f g a b k p e = again 6 0 k p e
+tested-refused true u false false f g a b k p e = again 7 g k p e
+tested-refused false true v w f g a b k p e = again 2 0 k p e
+tested-refused false false v w f g a b k p e = again 3 f k p e
+
+module _ (h : Header) (r : Record) where
+  -- something is given exactly where both are sound, and then it is what stands there
+  pub given-sound : {A : Type 0} (a b : A) → judgedBy h r a ≡ given b → Sound h r
+  unfolding judgedBy
+  given-sound a b e =
+      let s = tested-given (eqb (headerFault h 0) 0) (eqb (headerFault h 0) 1) (eqb (recordFault r 0) 0) (eqb (recordFault r 0) 1) (headerFault h 0) (32 * 0 + recordFault r 0) a b e in
+      record { header = eqb-true _ _ (s .0); body = eqb-true _ _ (s .1) }
+
+  pub sound-given : {A : Type 0} (a : A) → Sound h r → judgedBy h r a ≡ given a
+  unfolding judgedBy
+  sound-given a s = rw (eq-eqb (headerFault h 0) 0 (s .header), eq-eqb (recordFault r 0) 0 (s .body))
+
+  -- a refusal does not hang on what would have been given
+  pub refused-same : {A B : Type 0} (a : A) (b : B) (k p : ℕ) → judgedBy h r a ≡ refused k p → judgedBy h r b ≡ refused k p
+  unfolding judgedBy
+  refused-same a b k p e =
+      tested-refused (eqb (headerFault h 0) 0) (eqb (headerFault h 0) 1) (eqb (recordFault r 0) 0) (eqb (recordFault r 0) 1) (headerFault h 0) (32 * 0 + recordFault r 0) a b k p e
+
+-- two answers that say the same are equal
+pub judged-only : (a : Answer Verdict) (i j : Judged) → toldJudged i ≡ a → toldJudged j ≡ a → i ≡ j
+judged-only a (isVerdict v) (isVerdict w) p q = ap isVerdict (given-same (p ∙ sym q))
+judged-only a (isVerdict v) (notJudged s) p q = given-refused (p ∙ sym q)
+judged-only a (notJudged r) (isVerdict w) p q = given-refused (q ∙ sym p)
+judged-only a (notJudged r) (notJudged s) p q = ap notJudged (refusal-only r s (refused-number (p ∙ sym q)) (refused-place (p ∙ sym q)))
+
+-- the header goes first
+module _ (h : Header) (r : Record) where
+  pub header-first : (k p : ℕ) → headerRefused (headerFault h 0) (given (tt {0})) ≡ refused k p → judgedBy h r (tt {0}) ≡ refused k p
+  unfolding judgedBy
+  header-first k p e = go (eqb (headerFault h 0) 0) e
+    where
+      rest : Answer (Unit {0})
+      rest = cond (eqb (headerFault h 0) 1) (refused 2 0) (refused 3 (headerFault h 0))
+
+      go : (t : Bool) → cond t (given (tt {0})) rest ≡ refused k p → cond t (recordRefused 0 (recordFault r 0) (given (tt {0}))) rest ≡ refused k p
+      go true e = given-refused e
+      go false e = e
+
+  pub then-record : headerRefused (headerFault h 0) (given (tt {0})) ≡ given (tt {0}) → recordRefused 0 (recordFault r 0) (given (tt {0})) ≡ judgedBy h r (tt {0})
+  unfolding judgedBy
+  then-record e = rw (eq-eqb (headerFault h 0) 0 (by-none 2 0 3 (λ k. k) (headerFault h 0) (tt {0}) (tt {0}) e .0))
