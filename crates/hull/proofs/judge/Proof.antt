@@ -1,0 +1,37 @@
+-- `hull::judge` meets its contract.
+-- Assumes nothing.
+use Rattle.plating.proofs.judge.Reads as judge-reads′
+use borrow.Author.Needs.{needs}
+use Prim.Native.Nat.{ℕ}
+use mathlib.Core.Path.{sym, ap, _∙_}
+use Rattle.sheet.specs.declared.Body.{Body}
+use Rattle.verdict.specs.Verdict.{verdictOf}
+use Rattle.verdict.specs.Judged.{judgedBy}
+use Rattle.plating.specs.Rules.{plateBodyVerdict}
+use Rattle.framing.specs.Rules.{memberBodyVerdict}
+use Rattle.hull.specs.Hull.{bodyRules}
+use Rattle.hull.proofs.judge.Statement.{statement}
+use Rattle.hull.proofs.judge.Tie as tie
+
+returns : tie.Need-returns
+returns c =
+    let a = c .before .before .before .args in
+    let e = c .before .enum-told .given .1 in
+    c .judge .ensures ∙ ap (judgedBy (a .h) (a .r)) (ap (plateBodyVerdict (a .h) (a .r .kind)) e ∙ sym (ap (λ (b : Body). verdictOf (bodyRules (a .h) (a .r .kind) b)) e))
+
+returns-2 : tie.Need-returns-2
+returns-2 c =
+    let a = c .before .before .before .args in
+    let e = c .before .enum-told2 .given .1 in
+    c .judge2 .ensures ∙ ap (judgedBy (a .h) (a .r)) (ap (memberBodyVerdict (a .h) (a .r .kind)) e ∙ sym (ap (λ (b : Body). verdictOf (bodyRules (a .h) (a .r .kind) b)) e))
+
+pub judge-spec : {M : Type 1} → statement M
+judge-spec =
+    tie.close
+    (tie.spec
+    (λ c. search needs)
+    (λ c κs. search needs)
+    (λ c. search needs)
+    (λ c κs. search needs)
+    returns
+    returns-2)

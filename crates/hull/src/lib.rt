@@ -1,0 +1,19 @@
+// One record against Part 3: a plate answers to rules 1, 2 and 3, a member to rules 4, 5 and 6.
+use sheet::Body;
+use sheet::Header;
+use sheet::Record;
+use verdict::Judged;
+ghost use mathlib.Core.Path.{_≡_};
+ghost use Rattle.verdict.specs.Judged.{toldJudged, judgedBy};
+ghost use Rattle.hull.specs.Hull.{verdict};
+
+// The verdict, or why the header or the record is turned away.
+pub fn judge(h: Header, r: Record) -> Judged
+    ensures { λ j. ⌜ toldJudged j ≡ judgedBy h r (verdict h r) ⌝ }
+{
+    let body = r.body;
+    match body {
+        Body::Plate(_) => plating::judge(h, r),
+        Body::Member(_) => framing::judge(h, r),
+    }
+}
