@@ -1,1 +1,3 @@
 pub mod Hull
+pub mod Raising
+pub mod RaisingLaws

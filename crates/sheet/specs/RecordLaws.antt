@@ -72,11 +72,11 @@ member-table-fits true false = refl
 member-table-fits false true = refl
 member-table-fits false false = refl
 
-plate-allowed : (kind id : ℕ) (p : Plate) (spare : ℕ) → plateFault kind id p spare ≡ 0 → Allowed (plateLines kind (p .ballast) (p .z .0)) (plateValues kind id p spare)
+pub plate-allowed : (kind id : ℕ) (p : Plate) (spare : ℕ) → plateFault kind id p spare ≡ 0 → Allowed (plateLines kind (p .ballast) (p .z .0)) (plateValues kind id p spare)
 unfolding plateFault
 plate-allowed kind id p spare e = none-all 0 (plateLines kind (p .ballast) (p .z .0)) (plateValues kind id p spare) e
 
-member-allowed : (kind id : ℕ) (m : Member) → memberFault kind id m ≡ 0 → Allowed (memberLines kind) (memberValues kind id m)
+pub member-allowed : (kind id : ℕ) (m : Member) → memberFault kind id m ≡ 0 → Allowed (memberLines kind) (memberValues kind id m)
 unfolding memberFault
 member-allowed kind id m e = none-all 0 (memberLines kind) (memberValues kind id m) e
 
