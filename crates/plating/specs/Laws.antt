@@ -7,16 +7,17 @@ use native.Mathlib.Omega.{arith}
 use native.Mathlib.Nat.{mul-le-mul, mul-le-mul-left, mul-le-mul-right, mul-pos, le-div-iff-mul-le}
 use lib.Dec.{leb, ltb}
 use borrow.Author.Tests.{le-leb, leb-true, lt-ltb, le-ltb}
+use Rattle.quantity.specs.Range.{steelFactor}
 use Rattle.gauge.specs.Ceil.{ceil-most}
 use Rattle.gauge.specs.Least.{Monotone}
 use Rattle.sheet.specs.declared.Header.{Header}
 use Rattle.sheet.specs.declared.Plate.{Plate}
 use Rattle.sheet.specs.Kinds.{isLong, isBottom}
-use Rattle.plating.specs.Rules.{R, K2, allowance, rule1, rule2, rule3, isSecond, firstForm, secondForm, limit, plateLoad, asked1, asked2, asked3}
+use Rattle.plating.specs.Rules.{R, greatestK2, K2, allowance, rule1, rule2, rule3, isSecond, firstForm, secondForm, limit, plateLoad, asked1, asked2, asked3}
 use Rattle.plating.specs.Bounds.{greatestR}
 
--- K2 is at least 1000 and at most 26,000
-pub K2-range : (b1 b2 : ℕ) → 0 < b1 → (1000 ≤ K2 b1 b2) × (K2 b1 b2 ≤ 26000)
+-- K2 is at least 1000 and at most the greatest
+pub K2-range : (b1 b2 : ℕ) → 0 < b1 → (1000 ≤ K2 b1 b2) × (K2 b1 b2 ≤ greatestK2)
 unfolding K2
 K2-range b1 b2 h =
     let q = le-div-iff-mul-le {x = 1000} {y = 1000 * (b1 * b1 + b2 * b2)} (mul-pos h h) .1 (omega arith) in
@@ -68,23 +69,23 @@ rule1-monotone kind L K S =
     both (λ (T : ℕ). leb short (100 * T)) _
     (at-least short (λ (T : ℕ). 100 * T) (λ x y l. omega arith))
     (either (isBottom kind) _ _
-    (at-least _ (λ (T : ℕ). 1000 * (X T * X T)) (times 1000 _ (squared X rising)))
-    (at-least _ (λ (T : ℕ). 3125 * (X T * X T)) (times 3125 _ (squared X rising))))
+    (at-least _ _ (times _ _ (squared X rising)))
+    (at-least _ _ (times _ _ (squared X rising))))
 
 pub rule2-monotone : (kind K S P : ℕ) → Monotone (rule2 kind K S P)
 rule2-monotone kind K S P =
-    either (isLong kind) _ _ (at-least _ _ (times 625000000000 _ square)) (at-least _ _ (times 39062500000 _ square))
+    either (isLong kind) _ _ (at-least _ _ (times _ _ square)) (at-least _ _ (times _ _ square))
 
 pub rule3-monotone : (kind K S K2 R : ℕ) → Monotone (rule3 kind K S K2 R)
 rule3-monotone kind K S K2 R =
     either (isSecond kind K R) (secondForm kind K S K2 R) (firstForm kind S K2 R)
     (both (λ (T : ℕ). ltb R limit) _ (λ x y l e. e)
     (either (isLong kind) _ _
-    (at-least _ _ (timed (limit - R) _ (times 10 _ square)))
+    (at-least _ _ (timed (limit - R) _ (times _ _ square)))
     (at-least _ _ (timed (limit - R) _ (timed (K2 * K2) _ square)))))
     (either (isLong kind) _ _
-    (at-least _ _ (times 100000000 _ square))
-    (at-least _ _ (timed (K2 * K2) _ (times 25 _ square))))
+    (at-least _ _ (times _ _ square))
+    (at-least _ _ (timed (K2 * K2) _ (times _ _ square))))
 
 -- so with each rule that a plate answers to
 pub plate-monotone : (h : Header) (kind : ℕ) (p : Plate) →
@@ -96,11 +97,11 @@ plate-monotone h kind p = (
 )
 
 -- at R ≥ 210,000 no thickness meets rule 3 on the bottom: the second form holds there for every steel
-pub over-limit : (K S K2 R T : ℕ) → 500 ≤ K → limit ≤ R → (rule3 1 K S K2 R T ≡ false) × (rule3 2 K S K2 R T ≡ false)
-over-limit K S K2 R T k r = (
-  rw (lt-ltb 121000000000 (1156 * K * R) (omega (arith, mul-le-mul (mul-le-mul-left 1156 k) r)), le-ltb R limit r),
-  rw (lt-ltb 625000000000 (6084 * K * R) (omega (arith, mul-le-mul (mul-le-mul-left 6084 k) r)), le-ltb R limit r),
-)
+pub over-limit : (K S K2 R T : ℕ) → steelFactor .low ≤ K → limit ≤ R → (rule3 1 K S K2 R T ≡ false) × (rule3 2 K S K2 R T ≡ false)
+over-limit K S K2 R T k r =
+    let p : isSecond 1 K R ≡ true = lt-ltb 121000000000 (1156 * K * R) (omega (arith, mul-le-mul (mul-le-mul-left 1156 k) r)) in
+    let q : isSecond 2 K R ≡ true = lt-ltb 625000000000 (6084 * K * R) (omega (arith, mul-le-mul (mul-le-mul-left 6084 k) r)) in
+    (rw (p, le-ltb R limit r), rw (q, le-ltb R limit r))
 
 -- the inner bottom takes the first form always
 pub inner-first : (K S K2 R T : ℕ) → (rule3 3 K S K2 R T ≡ firstForm 3 S K2 R T) × (rule3 4 K S K2 R T ≡ firstForm 4 S K2 R T)

@@ -19,9 +19,12 @@ use Rattle.verdict.specs.Verdict.{Rule, pass, verdictOf}
 abbrev pub R : ℕ → ℕ → ℕ
 R M ZB = ceilOf (1000000 * M) ZB
 
+abbrev pub greatestK2 : ℕ
+greatestK2 = 26000
+
 -- K2 = 1000(b1² + b2²)/b1² rounded down, at most 26,000
 unfoldable pub K2 : ℕ → ℕ → ℕ
-K2 b1 b2 = min 26000 (1000 * (b1 * b1 + b2 * b2) / (b1 * b1))
+K2 b1 b2 = min greatestK2 (1000 * (b1 * b1 + b2 * b2) / (b1 * b1))
 
 -- c of rule 1
 abbrev pub allowance : ℕ → ℕ

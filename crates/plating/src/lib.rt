@@ -123,12 +123,13 @@ fn rule2(kind: u8, factor: SteelFactor, spacing: Spacing, load: Pressure) -> Sha
 
 // R: the hull's stress at the bottom, from the moment M and the bottom modulus ZB.
 fn hull_stress(moment: u32, bottom_modulus: u32) -> u64
+    requires { ⌜ 0 < «bottom_modulus» ⌝ }
     ensures { λ r. ⌜ r ≡ R moment «bottom_modulus» ⌝ }
 {
     gauge::ceil_div(1000000 * moment as u64, bottom_modulus as u64)
 }
 
-// K2, of the sides of the plate's field.
+// K2, of the sides of the plate's panel.
 fn k2(b1: Span, b2: Span) -> u64
     requires { ⌜ 0 < b1 .0 ⌝ }
     ensures { λ r. ⌜ r ≡ K2 (b1 .0) (b2 .0) ⌝ }
