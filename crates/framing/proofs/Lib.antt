@@ -1,2 +1,1 @@
 pub mod Floors
-pub mod Verdicts

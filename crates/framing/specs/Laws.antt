@@ -6,6 +6,7 @@ use mathlib.Core.Path.{_≡_, sym, _∙_}
 use lib.Dec.{lit<, leb}
 use Rattle.gauge.specs.Ceil.{ceilOf}
 use Rattle.gauge.specs.Least.{Monotone}
+use Rattle.gauge.specs.Monotone.{either}
 use Rattle.gauge.specs.Shape.{meetsOf}
 use Rattle.gauge.specs.ShapeLaws.{monotone, over-floor, excess}
 use Rattle.gauge.specs.declared.Shape.{Shape}
@@ -18,13 +19,8 @@ use Rattle.framing.specs.Shapes.{stressedShape, stressed-said}
 as-shape : (d : Shape) (test : ℕ → Bool) → ((x : ℕ) → meetsOf d x ≡ test x) → Monotone test
 as-shape d test h x y l e = sym (h y) ∙ monotone d x y l (h x ∙ e)
 
--- one of two monotone tests
-one-of : (b : Bool) (f g : ℕ → Bool) → Monotone f → Monotone g → Monotone (λ (x : ℕ). cond b (f x) (g x))
-one-of true f g p q = p
-one-of false f g p q = q
-
 by-kind : (kind : ℕ) (f g h : ℕ → Bool) → Monotone f → Monotone g → Monotone h → Monotone (λ (x : ℕ). byKind kind (f x) (g x) (h x))
-by-kind kind f g h p q r = one-of (isDeep kind) _ _ (one-of (isFloor kind) _ _ q r) p
+by-kind kind f g h p q r = either (isDeep kind) _ _ (either (isFloor kind) _ _ q r) p
 
 squared-monotone : (a step short p : ℕ) → 0 < a → Monotone (λ (x : ℕ). squared a (step * x) short p)
 squared-monotone a step short p h = as-shape (Square step short (ceilOf p a)) _ (λ x. excess step short p a x h)
@@ -38,8 +34,8 @@ stressed-monotone a limit σ1 p h = as-shape (stressedShape a limit σ1 p) _ (λ
 pub rule4-monotone : (kind L K S : ℕ) → Monotone (rule4 kind L K S)
 unfolding rule4
 rule4-monotone kind L K S =
-    one-of (isDeep kind) _ _ (squared-monotone _ _ _ _ (lit< tt))
-    (one-of (isShort L) _ _ (squared-monotone _ _ _ _ (lit< tt)) (squared-monotone _ _ _ _ (lit< tt)))
+    either (isDeep kind) _ _ (squared-monotone _ _ _ _ (lit< tt))
+    (either (isShort L) _ _ (squared-monotone _ _ _ _ (lit< tt)) (squared-monotone _ _ _ _ (lit< tt)))
 
 pub rule5-monotone : (kind βb η σ1 q l : ℕ) → Monotone (rule5 kind βb η σ1 q l)
 unfolding rule5

@@ -3,4 +3,5 @@ pub mod LeastLaws
 pub mod Ceil
 pub mod Shape
 pub mod ShapeLaws
+pub mod Monotone
 pub mod Only

@@ -1,21 +1,15 @@
 -- A verdict, one rule at a time: a rule that a shape says is failed or passed as the shape is.
 -- Assumes nothing.
-use Prim.Native.Nat.{ℕ, _≤_}
+use Prim.Native.Nat.{_≤_}
 use mathlib.Core.Bool.{Bool, true, false, not}
 use mathlib.Core.List.{List, _∷_}
-use mathlib.Core.Path.{_≡_, ap, sym, _∙_}
+use mathlib.Core.Path.{_≡_, sym, _∙_}
 use borrow.Author.Tests.{not-true, not-false}
 use Rattle.gauge.specs.declared.Shape.{Shape}
-use Rattle.gauge.specs.declared.Least.{Least}
-use Rattle.gauge.specs.Least.{numberOf}
 use Rattle.gauge.specs.Shape.{meetsOf}
-use Rattle.gauge.specs.ShapeLaws.{Says, least-said}
-use Rattle.verdict.specs.declared.Verdict.{Verdict}
+use Rattle.gauge.specs.ShapeLaws.{Says}
 use Rattle.verdict.specs.Verdict.{Rule, verdictOf, failedOf}
-
--- the verdict of a rule's number and the least thickness
-of : ℕ → Least → Verdict
-of number l = record { rule = number; required = numberOf l }
+use Rattle.verdict.specs.Steps.{first-failed, first-met}
 
 -- what the first rule's shape tells of the verdict
 pub record Step (d : Shape) (r : Rule) (rs : List Rule) (meets : Bool) : Type 0 where
@@ -24,10 +18,8 @@ pub record Step (d : Shape) (r : Rule) (rs : List Rule) (meets : Bool) : Type 0 
 
 pub step : (d : Shape) (r : Rule) (rs : List Rule) {meets : Bool} → Says d (r .top) (r .asks) → 1 ≤ r .has → r .has ≤ r .top →
     meets ≡ meetsOf d (r .has) → Step d r rs meets
-unfolding of
-step d r rs says low high is =
-    let same = sym (says (r .has) low high) ∙ sym is in
+step d r rs {meets} says low high is =
     record {
-      fails = λ e. rw (same ∙ not-true _ e) (ap (of (r .number)) (least-said d (r .top) (r .asks) says));
-      passes = λ e. rw (same ∙ not-false _ e);
+      fails = λ e. first-failed d r rs says low high (sym is ∙ not-true meets e);
+      passes = λ e. sym (first-met d r rs says low high (sym is ∙ not-false meets e));
     }

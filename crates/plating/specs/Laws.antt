@@ -4,12 +4,13 @@ use Prim.Native.Nat.{ℕ, _+_, _-_, _*_, _≤_, _<_}
 use mathlib.Core.Bool.{Bool, true, false, _&&_, cond}
 use mathlib.Core.Path.{_≡_, refl}
 use native.Mathlib.Omega.{arith}
-use native.Mathlib.Nat.{mul-le-mul, mul-le-mul-left, mul-le-mul-right, mul-pos, le-div-iff-mul-le}
+use native.Mathlib.Nat.{mul-le-mul, mul-le-mul-left, mul-pos, le-div-iff-mul-le}
 use lib.Dec.{leb, ltb}
-use borrow.Author.Tests.{le-leb, leb-true, lt-ltb, le-ltb}
+use borrow.Author.Tests.{lt-ltb, le-ltb}
 use Rattle.quantity.specs.Range.{steelFactor}
 use Rattle.gauge.specs.Ceil.{ceil-most}
 use Rattle.gauge.specs.Least.{Monotone}
+use Rattle.gauge.specs.Monotone.{Rising, at-least, either, both, times, timed, squared, square}
 use Rattle.sheet.specs.declared.Header.{Header}
 use Rattle.sheet.specs.declared.Plate.{Plate}
 use Rattle.sheet.specs.Kinds.{isLong, isBottom}
@@ -26,40 +27,6 @@ K2-range b1 b2 h =
 -- R is at most that of the greatest moment on the least modulus
 pub R-high : (M ZB : ℕ) → M ≤ 1000000 → 1 ≤ ZB → R M ZB ≤ greatestR
 R-high M ZB m z = ceil-most (1000000 * M) ZB greatestR z (omega arith)
-
--- a number that does not fall as T rises
-abbrev Rising : (ℕ → ℕ) → Type 0
-Rising f = (x y : ℕ) → x ≤ y → f x ≤ f y
-
--- at least n, of a number that rises
-at-least : (n : ℕ) (f : ℕ → ℕ) → Rising f → Monotone (λ (T : ℕ). leb n (f T))
-at-least n f r x y l e = le-leb n (f y) (omega (arith, leb-true n (f x) e, r x y l))
-
--- one of two tests, whichever a fixed question picks
-either : (b : Bool) (f g : ℕ → Bool) → Monotone f → Monotone g → Monotone (λ (T : ℕ). cond b (f T) (g T))
-either true f g p q = p
-either false f g p q = q
-
--- two tests together
-both : (f g : ℕ → Bool) → Monotone f → Monotone g → Monotone (λ (T : ℕ). f T && g T)
-both f g p q x y l = go (f x) refl
-  where
-    go : (b : Bool) → f x ≡ b → (b && g x) ≡ true → (f y && g y) ≡ true
-    go true e h = rw (p x y l e) (q x y l h)
-    go false e h = let z : _≡_ {A = ℕ} 0 1 = cc in absurd (omega arith)
-
-times : (a : ℕ) (f : ℕ → ℕ) → Rising f → Rising (λ (T : ℕ). a * f T)
-times a f r x y l = mul-le-mul-left a (r x y l)
-
-timed : (a : ℕ) (f : ℕ → ℕ) → Rising f → Rising (λ (T : ℕ). f T * a)
-timed a f r x y l = mul-le-mul-right a (r x y l)
-
-squared : (f : ℕ → ℕ) → Rising f → Rising (λ (T : ℕ). f T * f T)
-squared f r x y l = mul-le-mul (r x y l) (r x y l)
-
--- T²
-square : Rising (λ (T : ℕ). T * T)
-square = squared (λ (T : ℕ). T) (λ x y l. l)
 
 pub rule1-monotone : (kind L K S : ℕ) → Monotone (rule1 kind L K S)
 rule1-monotone kind L K S =

@@ -1,4 +1,5 @@
 pub mod Verdict
+pub mod Steps
 pub mod Judged
 pub mod JudgedLaws
 pub mod Raising

@@ -10,7 +10,7 @@ use Rattle.gauge.specs.ShapeLaws.{Says}
 use Rattle.verdict.specs.Verdict.{Rule, verdictOf}
 use Rattle.framing.specs.Rules.{webRule, bendingRule, shearRule}
 use Rattle.framing.specs.Bounds.{member-line-high}
-use Rattle.framing.proofs.Verdicts.{first-failed, first-met}
+use Rattle.verdict.specs.Steps.{first-failed, first-met}
 use Rattle.framing.proofs.member_verdict.Statement.{statement}
 use Rattle.framing.proofs.member_verdict.Tie as tie
 
