@@ -1,3 +1,4 @@
 pub mod Hull
+pub mod Cases
 pub mod Raising
 pub mod RaisingLaws

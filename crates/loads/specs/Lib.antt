@@ -1,4 +1,3 @@
 pub mod Loads
-pub mod Cases
 pub mod Only
 pub mod Bounds
