@@ -6,6 +6,8 @@ use quantity::Spacing;
 use quantity::Span;
 use quantity::SteelFactor;
 use quantity::Thickness;
+ghost use mathlib.Core.Path.{_≡_};
+ghost use Rattle.sheet.specs.Refusals.{numberOf, placeOf};
 
 // The header of version 1.
 pub struct Header {
@@ -87,6 +89,40 @@ pub enum Refusal {
     Kind(u32),
     Field(u32),
     Order(u32),
+}
+
+impl Refusal {
+    // The number of the table's row.
+    pub fn number(self) -> u8
+        ensures { λ r. ⌜ r ≡ numberOf self ⌝ }
+    {
+        match self {
+            Refusal::SheetShort => 1,
+            Refusal::Version => 2,
+            Refusal::HeaderField(_) => 3,
+            Refusal::SheetLength => 4,
+            Refusal::OutputShort => 5,
+            Refusal::Kind(_) => 6,
+            Refusal::Field(_) => 7,
+            Refusal::Order(_) => 8,
+        }
+    }
+
+    // 0 where the row names no place.
+    pub fn place(self) -> u32
+        ensures { λ r. ⌜ r ≡ placeOf self ⌝ }
+    {
+        match self {
+            Refusal::SheetShort => 0,
+            Refusal::Version => 0,
+            Refusal::HeaderField(place) => place,
+            Refusal::SheetLength => 0,
+            Refusal::OutputShort => 0,
+            Refusal::Kind(place) => place,
+            Refusal::Field(place) => place,
+            Refusal::Order(place) => place,
+        }
+    }
 }
 
 // Nothing is at fault, or the first thing that is.
