@@ -8,3 +8,5 @@ pub mod Ranges
 pub mod RefusalLaws
 pub mod HeaderLaws
 pub mod RecordLaws
+pub mod Exactly
+pub mod Written
