@@ -21,6 +21,24 @@ Exactly A B = (A → B) × (B → A)
 pub exactly-then : {A B C : Type 0} → Exactly A B → Exactly B C → Exactly A C
 exactly-then e f = (λ a. f .0 (e .0 a), λ c. e .1 (f .1 c))
 
+-- within a condition of two parts or three, one of them in other words
+pub in-front : {A B C : Type 0} → Exactly A B → Exactly (A × C) (B × C)
+in-front e = (λ h. (e .0 (h .0), h .1), λ h. (e .1 (h .0), h .1))
+
+pub in-middle : {A B C D : Type 0} → Exactly B C → Exactly (A × B × D) (A × C × D)
+in-middle e = (λ h. (h .0, e .0 (h .1), h .2), λ h. (h .0, e .1 (h .1), h .2))
+
+-- where nothing is given but word that all is well, that it is the same word says nothing
+pub alone : {A : Type 0} → Exactly (A × (tt {0} ≡ tt)) A
+alone = (λ h. h .0, λ a. (a, refl))
+
+pub alone-two : {A B : Type 0} → Exactly (A × B × (tt {0} ≡ tt)) (A × B)
+alone-two = (λ h. (h .0, h .1), λ h. (h .0, h .1, refl))
+
+-- of an answer that is known to be another
+pub exactly-of : {A C : Type 0} {x y z : A} → x ≡ y → Exactly (y ≡ z) C → Exactly (x ≡ z) C
+exactly-of e f = (λ h. f .0 (sym e ∙ h), λ c. e ∙ f .1 c)
+
 -- a field past the first is the first at fault, and p is the place that goes with its number
 pub record LaterFault (place : ℕ → ℕ) (ls : List Line) (vs : List ℕ) (p : ℕ) : Type 0 where
   pub index : ℕ

@@ -10,3 +10,4 @@ pub mod HeaderLaws
 pub mod RecordLaws
 pub mod Exactly
 pub mod Written
+pub mod HeaderExactly
