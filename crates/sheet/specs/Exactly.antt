@@ -28,6 +28,12 @@ in-front e = (λ h. (e .0 (h .0), h .1), λ h. (e .1 (h .0), h .1))
 pub in-middle : {A B C D : Type 0} → Exactly B C → Exactly (A × B × D) (A × C × D)
 in-middle e = (λ h. (h .0, e .0 (h .1), h .2), λ h. (h .0, e .1 (h .1), h .2))
 
+pub at-end : {A B C : Type 0} → Exactly B C → Exactly (A × B) (A × C)
+at-end e = (λ h. (h .0, e .0 (h .1)), λ h. (h .0, e .1 (h .1)))
+
+two-at-end : {A B C D : Type 0} → Exactly B (C × D) → Exactly (A × B) (A × C × D)
+two-at-end e = (λ h. let g = e .0 (h .1) in (h .0, g .0, g .1), λ h. (h .0, e .1 (h .1, h .2)))
+
 -- where nothing is given but word that all is well, that it is the same word says nothing
 pub alone : {A : Type 0} → Exactly (A × (tt {0} ≡ tt)) A
 alone = (λ h. h .0, λ a. (a, refl))
@@ -44,6 +50,13 @@ pub record LaterFault (place : ℕ → ℕ) (ls : List Line) (vs : List ℕ) (p 
   pub index : ℕ
   pub fault : FirstFault (suc index) ls vs
   pub at : p ≡ place (suc (suc index))
+
+-- the same by places that are written otherwise
+pub same-places : (f g : ℕ → ℕ) (ls : List Line) (vs : List ℕ) (p : ℕ) → ((k : ℕ) → f k ≡ g k) → Exactly (LaterFault f ls vs p) (LaterFault g ls vs p)
+same-places f g ls vs p e = (
+  λ l. record { index = l .index; fault = l .fault; at = l .at ∙ e (suc (suc (l .index))) },
+  λ l. record { index = l .index; fault = l .fault; at = l .at ∙ sym (e (suc (suc (l .index)))) },
+)
 
 -- the first field is the first at fault exactly when its line does not allow its value
 pub first-alone : (l : Line) (ls : List Line) (v : ℕ) (vs : List ℕ) → Exactly (FirstFault 0 (l ∷ ls) (v ∷ vs)) (allows l v ≡ false)
@@ -148,13 +161,6 @@ module _ {A : Type 0} (c : Cases) (s : List ℕ) (inner : Answer A) where
 
 -- ---- both
 
--- the further condition of a step
-also : {A B C : Type 0} → Exactly B C → Exactly (A × B) (A × C)
-also e = (λ h. (h .0, e .0 (h .1)), λ h. (h .0, e .1 (h .1)))
-
-also-two : {A B C D : Type 0} → Exactly B (C × D) → Exactly (A × B) (A × C × D)
-also-two e = (λ h. let g = e .0 (h .1) in (h .0, g .0, g .1), λ h. (h .0, e .1 (h .1, h .2)))
-
 module _ {A : Type 0} (c : Cases) (s : List ℕ) (ls : List Line) (vs : List ℕ) (same : length vs ≡ length ls) (a : A) where
   abbrev x : Answer A
   x = byFields c ls vs a
@@ -172,15 +178,15 @@ module _ {A : Type 0} (c : Cases) (s : List ℕ) (ls : List Line) (vs : List ℕ
   pub answer-first : (p : ℕ) → Exactly (bySlice c s x ≡ refused (c .first) p) ((c .size ≤ length s) × FirstFault 0 ls vs × (p ≡ c .at))
   answer-first p =
       exactly-then (slice-long c s x (refused (c .first) p) (differ (c .first) p (eqb-false _ _ (c .short-first))))
-      (also-two (fields-first c ls vs same a p))
+      (two-at-end (fields-first c ls vs same a p))
 
   pub answer-later : (p : ℕ) → Exactly (bySlice c s x ≡ refused (c .later) p) ((c .size ≤ length s) × LaterFault (c .place) ls vs p)
   answer-later p =
       exactly-then (slice-long c s x (refused (c .later) p) (differ (c .later) p (eqb-false _ _ (c .short-later))))
-      (also (fields-later c ls vs same a p))
+      (at-end (fields-later c ls vs same a p))
 
   pub answer-given : (b : A) → Exactly (bySlice c s x ≡ given b) ((c .size ≤ length s) × Allowed ls vs × (a ≡ b))
-  answer-given b = exactly-then (slice-long c s x (given b) (λ e. given-refused (sym e))) (also-two (fields-given c ls vs same a b))
+  answer-given b = exactly-then (slice-long c s x (given b) (λ e. given-refused (sym e))) (two-at-end (fields-given c ls vs same a b))
 
   -- no other number is given
   pub answer-others : (k p : ℕ) → (k ≡ c .short → ⊥) → (k ≡ c .first → ⊥) → (k ≡ c .later → ⊥) → bySlice c s x ≡ refused k p → ⊥

@@ -11,3 +11,4 @@ pub mod RecordLaws
 pub mod Exactly
 pub mod Written
 pub mod HeaderExactly
+pub mod RecordExactly
