@@ -62,27 +62,25 @@ same-places f g ls vs p e = (
 pub first-alone : (l : Line) (ls : List Line) (v : ℕ) (vs : List ℕ) → Exactly (FirstFault 0 (l ∷ ls) (v ∷ vs)) (allows l v ≡ false)
 first-alone l ls v vs = (λ f. f .faulty, λ e. record { inside = omega arith; faulty = e; earlier = λ j m. absurd (omega arith) })
 
--- what a reader or a writer refuses: so many bytes are needed, and the numbers of too few of them, of the first field and of a later one
+-- what is refused of a header, or of a record: so many bytes are needed; the number for the first field, and its place; and for a later one
 pub record Cases : Type 0 where
   pub size : ℕ
-  pub short : ℕ
   pub first : ℕ
   pub at : ℕ
   pub later : ℕ
   pub place : ℕ → ℕ
-  pub short-first : eqb short first ≡ false
-  pub short-later : eqb short later ≡ false
-  pub first-later : eqb first later ≡ false
+  pub apart : eqb first later ≡ false
 
--- the answer by the number of the first faulty field, 0 being none; by the lines and the values; and by the length of the slice before that
+-- the answer by the number of the first faulty field, 0 being none; by the lines and the values; and before
+-- that, with the number for a slice that is too short, by its length
 abbrev pub byFault : {A : Type 0} → Cases → ℕ → A → Answer A
 byFault c f a = whole (c .first) (c .at) (c .later) (c .place) f a
 
 abbrev pub byFields : {A : Type 0} → Cases → List Line → List ℕ → A → Answer A
 byFields c ls vs a = byFault c (faultFrom 1 ls vs) a
 
-abbrev pub bySlice : {A : Type 0} → Cases → List ℕ → Answer A → Answer A
-bySlice c s inner = cond (ltb (length s) (c .size)) (refused (c .short) 0) inner
+abbrev pub bySlice : {A : Type 0} (short : ℕ) → Cases → List ℕ → Answer A → Answer A
+bySlice short c s inner = cond (ltb (length s) (c .size)) (refused short 0) inner
 
 -- ---- by the first faulty field
 
@@ -101,14 +99,14 @@ module _ {A : Type 0} (c : Cases) (ls : List Line) (vs : List ℕ) (same : lengt
     where
       there : byFields c ls vs a ≡ refused (c .first) p → FirstFault 0 ls vs × (p ≡ c .at)
       there e =
-          let b = by-first (c .first) (c .at) (c .later) (c .place) f a (eqb-false _ _ (c .first-later)) p e in
+          let b = by-first (c .first) (c .at) (c .later) (c .place) f a (eqb-false _ _ (c .apart)) p e in
           (fault-first ls vs same 0 (b .0), b .1)
 
       back : FirstFault 0 ls vs × (p ≡ c .at) → byFields c ls vs a ≡ refused (c .first) p
       back h = at-first one more f (given a) (first-fault ls vs same 0 (h .0)) ∙ ap (λ (q : ℕ). refused (c .first) q) (sym (h .1))
 
   pub fields-later : (p : ℕ) → Exactly (byFields c ls vs a ≡ refused (c .later) p) (LaterFault (c .place) ls vs p)
-  fields-later p = (λ e. there f refl (by-later (c .first) (c .at) (c .later) (c .place) f a (eqb-false _ _ (c .first-later)) p e), back)
+  fields-later p = (λ e. there f refl (by-later (c .first) (c .at) (c .later) (c .place) f a (eqb-false _ _ (c .apart)) p e), back)
     where
       there : (g : ℕ) → f ≡ g → (2 ≤ f) × (p ≡ c .place f) → LaterFault (c .place) ls vs p
       there zero e h = absurd (omega arith)
@@ -135,60 +133,61 @@ module _ {A : Type 0} (c : Cases) (ls : List Line) (vs : List ℕ) (same : lengt
 
 -- ---- by the slice
 
-module _ {A : Type 0} (c : Cases) (s : List ℕ) (inner : Answer A) where
-  pub slice-short : ((p : ℕ) → inner ≡ refused (c .short) p → ⊥) → (p : ℕ)
-      → Exactly (bySlice c s inner ≡ refused (c .short) p) ((length s < c .size) × (p ≡ 0))
+module _ {A : Type 0} (short : ℕ) (c : Cases) (s : List ℕ) (inner : Answer A) where
+  pub slice-short : ((p : ℕ) → inner ≡ refused short p → ⊥) → (p : ℕ)
+      → Exactly (bySlice short c s inner ≡ refused short p) ((length s < c .size) × (p ≡ 0))
   slice-short never p = (λ e. there (ltb (length s) (c .size)) refl e, back)
     where
-      there : (t : Bool) → ltb (length s) (c .size) ≡ t → cond t (refused (c .short) 0) inner ≡ refused (c .short) p
+      there : (t : Bool) → ltb (length s) (c .size) ≡ t → cond t (refused short 0) inner ≡ refused short p
           → (length s < c .size) × (p ≡ 0)
       there true q e = (ltb-true _ _ q, sym (refused-place e))
       there false q e = absurd (never p e)
 
-      back : (length s < c .size) × (p ≡ 0) → bySlice c s inner ≡ refused (c .short) p
+      back : (length s < c .size) × (p ≡ 0) → bySlice short c s inner ≡ refused short p
       back h = rw (lt-ltb _ _ (h .0), h .1)
 
   -- any other answer
-  pub slice-long : (x : Answer A) → (refused (c .short) 0 ≡ x → ⊥) → Exactly (bySlice c s inner ≡ x) ((c .size ≤ length s) × (inner ≡ x))
+  pub slice-long : (x : Answer A) → (refused short 0 ≡ x → ⊥) → Exactly (bySlice short c s inner ≡ x) ((c .size ≤ length s) × (inner ≡ x))
   slice-long x other = (λ e. there (ltb (length s) (c .size)) refl e, back)
     where
-      there : (t : Bool) → ltb (length s) (c .size) ≡ t → cond t (refused (c .short) 0) inner ≡ x → (c .size ≤ length s) × (inner ≡ x)
+      there : (t : Bool) → ltb (length s) (c .size) ≡ t → cond t (refused short 0) inner ≡ x → (c .size ≤ length s) × (inner ≡ x)
       there true q e = absurd (other e)
       there false q e = (ltb-false _ _ q, e)
 
-      back : (c .size ≤ length s) × (inner ≡ x) → bySlice c s inner ≡ x
+      back : (c .size ≤ length s) × (inner ≡ x) → bySlice short c s inner ≡ x
       back h = rw (le-ltb _ _ (h .0)) (h .1)
 
 -- ---- both
 
-module _ {A : Type 0} (c : Cases) (s : List ℕ) (ls : List Line) (vs : List ℕ) (same : length vs ≡ length ls) (a : A) where
+module _ {A : Type 0} (short : ℕ) (c : Cases) (not-first : eqb short (c .first) ≡ false) (not-later : eqb short (c .later) ≡ false)
+    (s : List ℕ) (ls : List Line) (vs : List ℕ) (same : length vs ≡ length ls) (a : A) where
   abbrev x : Answer A
   x = byFields c ls vs a
 
   -- a refusal of another number is not that of a short slice
-  differ : (k p : ℕ) → (c .short ≡ k → ⊥) → _≡_ {A = Answer A} (refused (c .short) 0) (refused k p) → ⊥
+  differ : (k p : ℕ) → (short ≡ k → ⊥) → _≡_ {A = Answer A} (refused short 0) (refused k p) → ⊥
   differ k p n e = n (refused-number e)
 
-  never : (p : ℕ) → x ≡ refused (c .short) p → ⊥
-  never p e = fields-others c ls vs same a (c .short) p (eqb-false _ _ (c .short-first)) (eqb-false _ _ (c .short-later)) e
+  never : (p : ℕ) → x ≡ refused short p → ⊥
+  never p e = fields-others c ls vs same a short p (eqb-false _ _ not-first) (eqb-false _ _ not-later) e
 
-  pub answer-short : (p : ℕ) → Exactly (bySlice c s x ≡ refused (c .short) p) ((length s < c .size) × (p ≡ 0))
-  answer-short p = slice-short c s x never p
+  pub answer-short : (p : ℕ) → Exactly (bySlice short c s x ≡ refused short p) ((length s < c .size) × (p ≡ 0))
+  answer-short p = slice-short short c s x never p
 
-  pub answer-first : (p : ℕ) → Exactly (bySlice c s x ≡ refused (c .first) p) ((c .size ≤ length s) × FirstFault 0 ls vs × (p ≡ c .at))
+  pub answer-first : (p : ℕ) → Exactly (bySlice short c s x ≡ refused (c .first) p) ((c .size ≤ length s) × FirstFault 0 ls vs × (p ≡ c .at))
   answer-first p =
-      exactly-then (slice-long c s x (refused (c .first) p) (differ (c .first) p (eqb-false _ _ (c .short-first))))
+      exactly-then (slice-long short c s x (refused (c .first) p) (differ (c .first) p (eqb-false _ _ not-first)))
       (two-at-end (fields-first c ls vs same a p))
 
-  pub answer-later : (p : ℕ) → Exactly (bySlice c s x ≡ refused (c .later) p) ((c .size ≤ length s) × LaterFault (c .place) ls vs p)
+  pub answer-later : (p : ℕ) → Exactly (bySlice short c s x ≡ refused (c .later) p) ((c .size ≤ length s) × LaterFault (c .place) ls vs p)
   answer-later p =
-      exactly-then (slice-long c s x (refused (c .later) p) (differ (c .later) p (eqb-false _ _ (c .short-later))))
+      exactly-then (slice-long short c s x (refused (c .later) p) (differ (c .later) p (eqb-false _ _ not-later)))
       (at-end (fields-later c ls vs same a p))
 
-  pub answer-given : (b : A) → Exactly (bySlice c s x ≡ given b) ((c .size ≤ length s) × Allowed ls vs × (a ≡ b))
-  answer-given b = exactly-then (slice-long c s x (given b) (λ e. given-refused (sym e))) (two-at-end (fields-given c ls vs same a b))
+  pub answer-given : (b : A) → Exactly (bySlice short c s x ≡ given b) ((c .size ≤ length s) × Allowed ls vs × (a ≡ b))
+  answer-given b = exactly-then (slice-long short c s x (given b) (λ e. given-refused (sym e))) (two-at-end (fields-given c ls vs same a b))
 
   -- no other number is given
-  pub answer-others : (k p : ℕ) → (k ≡ c .short → ⊥) → (k ≡ c .first → ⊥) → (k ≡ c .later → ⊥) → bySlice c s x ≡ refused k p → ⊥
+  pub answer-others : (k p : ℕ) → (k ≡ short → ⊥) → (k ≡ c .first → ⊥) → (k ≡ c .later → ⊥) → bySlice short c s x ≡ refused k p → ⊥
   answer-others k p l n m e =
-      fields-others c ls vs same a k p n m (slice-long c s x (refused k p) (differ k p (λ q. l (sym q))) .0 e .1)
+      fields-others c ls vs same a k p n m (slice-long short c s x (refused k p) (differ k p (λ q. l (sym q))) .0 e .1)

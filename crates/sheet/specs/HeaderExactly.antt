@@ -20,33 +20,16 @@ use Rattle.sheet.specs.HeaderLaws.{headerFields}
 use Rattle.sheet.specs.Exactly.{Exactly, LaterFault, Cases, byFault, byFields, bySlice, exactly-then, exactly-of, in-front, in-middle, alone, alone-two, first-alone, fields-first, fields-later, fields-given, fields-others, answer-short, answer-first, answer-later, answer-given, answer-others}
 use Rattle.sheet.specs.Written.{written, written-answer, written-refused, written-all}
 
--- a header: 12 bytes, 1 or 5 for too few of them, 2 for the version, 3 with the field for another
-abbrev pub readsHeader : Cases
-readsHeader =
+-- a header: 12 bytes, 2 for the version, 3 with the field for another
+abbrev pub headerCases : Cases
+headerCases =
     record {
       size = 12;
-      short = 1;
       first = 2;
       at = 0;
       later = 3;
       place = λ k. k;
-      short-first = refl;
-      short-later = refl;
-      first-later = refl;
-    }
-
-abbrev pub writesHeader : Cases
-writesHeader =
-    record {
-      size = 12;
-      short = 5;
-      first = 2;
-      at = 0;
-      later = 3;
-      place = λ k. k;
-      short-first = refl;
-      short-later = refl;
-      first-later = refl;
+      apart = refl;
     }
 
 -- outside the one value of a line
@@ -80,24 +63,24 @@ module _ (s : List ℕ) where
 
   pub header-read-1 : (p : ℕ) → Exactly (readHeader s ≡ refused 1 p) ((length s < 12) × (p ≡ 0))
   unfolding readHeader headerIn
-  header-read-1 p = answer-short readsHeader s headerLines vs refl (headerOf s) p
+  header-read-1 p = answer-short 1 headerCases refl refl s headerLines vs refl (headerOf s) p
 
   pub header-read-2 : (p : ℕ) → Exactly (readHeader s ≡ refused 2 p) ((12 ≤ length s) × (headerOf s .version ≡ 1 → ⊥) × (p ≡ 0))
   unfolding readHeader headerIn
   header-read-2 p =
-      exactly-then (answer-first readsHeader s headerLines vs refl (headerOf s) p) (in-middle (version-fault (getD vs 0 0) (drop 1 vs)))
+      exactly-then (answer-first 1 headerCases refl refl s headerLines vs refl (headerOf s) p) (in-middle (version-fault (getD vs 0 0) (drop 1 vs)))
 
   pub header-read-3 : (p : ℕ) → Exactly (readHeader s ≡ refused 3 p) ((12 ≤ length s) × LaterFault (λ k. k) headerLines (headerFields s) p)
   unfolding readHeader headerIn
-  header-read-3 p = answer-later readsHeader s headerLines vs refl (headerOf s) p
+  header-read-3 p = answer-later 1 headerCases refl refl s headerLines vs refl (headerOf s) p
 
   pub header-read-given : (h : Header) → Exactly (readHeader s ≡ given h) ((12 ≤ length s) × Allowed headerLines (headerFields s) × (headerOf s ≡ h))
   unfolding readHeader headerIn
-  header-read-given h = answer-given readsHeader s headerLines vs refl (headerOf s) h
+  header-read-given h = answer-given 1 headerCases refl refl s headerLines vs refl (headerOf s) h
 
   pub header-read-others : (k p : ℕ) → (k ≡ 1 → ⊥) → (k ≡ 2 → ⊥) → (k ≡ 3 → ⊥) → readHeader s ≡ refused k p → ⊥
   unfolding readHeader headerIn
-  header-read-others = answer-others readsHeader s headerLines vs refl (headerOf s)
+  header-read-others = answer-others 1 headerCases refl refl s headerLines vs refl (headerOf s)
 
 -- ---- the fault alone
 
@@ -107,52 +90,52 @@ module _ (h : Header) where
 
   pub header-fault-2 : (p : ℕ) → Exactly (headerRefused (headerFault h 0) (given (tt {0})) ≡ refused 2 p) ((h .version ≡ 1 → ⊥) × (p ≡ 0))
   unfolding headerFault
-  header-fault-2 p = exactly-then (fields-first writesHeader headerLines hs refl tt p) (in-front (version-fault (h .version) (drop 1 hs)))
+  header-fault-2 p = exactly-then (fields-first headerCases headerLines hs refl tt p) (in-front (version-fault (h .version) (drop 1 hs)))
 
   pub header-fault-3 : (p : ℕ) → Exactly (headerRefused (headerFault h 0) (given (tt {0})) ≡ refused 3 p) (LaterFault (λ k. k) headerLines (headerValues h 0) p)
   unfolding headerFault
-  header-fault-3 p = fields-later writesHeader headerLines hs refl tt p
+  header-fault-3 p = fields-later headerCases headerLines hs refl tt p
 
   pub header-fault-given : Exactly (headerRefused (headerFault h 0) (given (tt {0})) ≡ given tt) (Allowed headerLines (headerValues h 0))
   unfolding headerFault
-  header-fault-given = exactly-then (fields-given writesHeader headerLines hs refl tt tt) alone
+  header-fault-given = exactly-then (fields-given headerCases headerLines hs refl tt tt) alone
 
   pub header-fault-others : (k p : ℕ) → (k ≡ 2 → ⊥) → (k ≡ 3 → ⊥) → headerRefused (headerFault h 0) (given (tt {0})) ≡ refused k p → ⊥
   unfolding headerFault
-  header-fault-others = fields-others writesHeader headerLines hs refl tt
+  header-fault-others = fields-others headerCases headerLines hs refl tt
 
   -- ---- writing
 
   module _ (o : List ℕ) where
-    pub header-written : writeHeader h o ≡ written writesHeader (headerFault h 0) (headerBytes h) o
+    pub header-written : writeHeader h o ≡ written headerCases (headerFault h 0) (headerBytes h) o
     unfolding writeHeader
     header-written = refl
 
-    by-answer : writeHeader h o .answer ≡ bySlice writesHeader o (byFields writesHeader headerLines hs (tt {0}))
+    by-answer : writeHeader h o .answer ≡ bySlice 5 headerCases o (byFields headerCases headerLines hs (tt {0}))
     unfolding headerFault
-    by-answer = ap (λ w. w .answer) header-written ∙ written-answer writesHeader (headerFault h 0) (headerBytes h) o
+    by-answer = ap (λ w. w .answer) header-written ∙ written-answer headerCases (headerFault h 0) (headerBytes h) o
 
     pub header-write-5 : (p : ℕ) → Exactly (writeHeader h o .answer ≡ refused 5 p) ((length o < 12) × (p ≡ 0))
-    header-write-5 p = exactly-of by-answer (answer-short writesHeader o headerLines hs refl tt p)
+    header-write-5 p = exactly-of by-answer (answer-short 5 headerCases refl refl o headerLines hs refl tt p)
 
     pub header-write-2 : (p : ℕ) → Exactly (writeHeader h o .answer ≡ refused 2 p) ((12 ≤ length o) × (h .version ≡ 1 → ⊥) × (p ≡ 0))
     header-write-2 p =
-        exactly-then (exactly-of by-answer (answer-first writesHeader o headerLines hs refl tt p)) (in-middle (version-fault (h .version) (drop 1 hs)))
+        exactly-then (exactly-of by-answer (answer-first 5 headerCases refl refl o headerLines hs refl tt p)) (in-middle (version-fault (h .version) (drop 1 hs)))
 
     pub header-write-3 : (p : ℕ) → Exactly (writeHeader h o .answer ≡ refused 3 p) ((12 ≤ length o) × LaterFault (λ k. k) headerLines (headerValues h 0) p)
-    header-write-3 p = exactly-of by-answer (answer-later writesHeader o headerLines hs refl tt p)
+    header-write-3 p = exactly-of by-answer (answer-later 5 headerCases refl refl o headerLines hs refl tt p)
 
     pub header-write-given : Exactly (writeHeader h o .answer ≡ given tt) ((12 ≤ length o) × Allowed headerLines (headerValues h 0))
-    header-write-given = exactly-then (exactly-of by-answer (answer-given writesHeader o headerLines hs refl tt tt)) alone-two
+    header-write-given = exactly-then (exactly-of by-answer (answer-given 5 headerCases refl refl o headerLines hs refl tt tt)) alone-two
 
     pub header-write-others : (k p : ℕ) → (k ≡ 5 → ⊥) → (k ≡ 2 → ⊥) → (k ≡ 3 → ⊥) → writeHeader h o .answer ≡ refused k p → ⊥
-    header-write-others k p a b c e = answer-others writesHeader o headerLines hs refl tt k p a b c (sym by-answer ∙ e)
+    header-write-others k p a b c e = answer-others 5 headerCases refl refl o headerLines hs refl tt k p a b c (sym by-answer ∙ e)
 
     -- a refusal leaves every byte; else the first twelve are the header's, and no others change
     pub header-write-left : (k p : ℕ) → writeHeader h o .answer ≡ refused k p → writeHeader h o .bytes ≡ o
     unfolding writeHeader
-    header-write-left k p e = written-refused writesHeader (headerFault h 0) (headerBytes h) o k p e
+    header-write-left k p e = written-refused headerCases (headerFault h 0) (headerBytes h) o k p e
 
     pub header-write-bytes : writeHeader h o .answer ≡ given tt → writeHeader h o .bytes ≡ headerBytes h ++ drop 12 o
     unfolding writeHeader
-    header-write-bytes e = written-all writesHeader (headerFault h 0) (headerBytes h) o e
+    header-write-bytes e = written-all headerCases (headerFault h 0) (headerBytes h) o e

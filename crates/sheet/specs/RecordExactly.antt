@@ -23,33 +23,16 @@ use Rattle.sheet.specs.RecordLaws.{recordAt}
 use Rattle.sheet.specs.Exactly.{Exactly, LaterFault, Cases, byFault, byFields, bySlice, exactly-then, exactly-of, in-front, in-middle, at-end, same-places, alone, alone-two, first-alone, fields-first, fields-later, fields-given, fields-others, answer-short, answer-first, answer-later, answer-given, answer-others}
 use Rattle.sheet.specs.Written.{written, written-answer, written-refused, written-all}
 
--- record i: 16 bytes, 1 or 5 for too few of them, 6 with the record for the kind, 7 with 32 × record + field for another
-abbrev pub readsRecord : ℕ → Cases
-readsRecord i =
+-- record i: 16 bytes, 6 with the record for the kind, 7 with 32 × record + field for another
+abbrev pub recordCases : ℕ → Cases
+recordCases i =
     record {
       size = 16;
-      short = 1;
       first = 6;
       at = i;
       later = 7;
       place = λ k. 32 * i + k;
-      short-first = refl;
-      short-later = refl;
-      first-later = refl;
-    }
-
-abbrev pub writesRecord : ℕ → Cases
-writesRecord i =
-    record {
-      size = 16;
-      short = 5;
-      first = 6;
-      at = i;
-      later = 7;
-      place = λ k. 32 * i + k;
-      short-first = refl;
-      short-later = refl;
-      first-later = refl;
+      apart = refl;
     }
 
 -- the number in the first sixteen bytes
@@ -79,7 +62,7 @@ valuesOf r = valuesIn (r .kind) (r .id) (r .body)
 
 -- ---- by the shape
 
-pub record-by-fields : (i n : ℕ) → recordIn i n ≡ byFields (readsRecord i) (linesAt n) (fieldsAt n) (recordAt n)
+pub record-by-fields : (i n : ℕ) → recordIn i n ≡ byFields (recordCases i) (linesAt n) (fieldsAt n) (recordAt n)
 unfolding recordIn
 record-by-fields i n = go (plateIn n)
   where
@@ -90,7 +73,7 @@ record-by-fields i n = go (plateIn n)
     ws = unpack memberWidths n
 
     go : (t : Bool) → cond t (recordRefused i (faultFrom 1 (plateLinesOf vs) vs) (given (plateRecord vs))) (recordRefused i (faultFrom 1 (memberLinesOf ws) ws) (given (memberRecord ws)))
-        ≡ byFields (readsRecord i) (cond t (plateLinesOf vs) (memberLinesOf ws)) (cond t vs ws) (cond t (plateRecord vs) (memberRecord ws))
+        ≡ byFields (recordCases i) (cond t (plateLinesOf vs) (memberLinesOf ws)) (cond t vs ws) (cond t (plateRecord vs) (memberRecord ws))
     go true = refl
     go false = refl
 
@@ -186,29 +169,29 @@ module _ (i : ℕ) (s : List ℕ) where
   abbrev vs : List ℕ
   vs = fieldsAt (numberIn s)
 
-  by-reading : readRecord i s ≡ bySlice (readsRecord i) s (byFields (readsRecord i) ls vs (recordOf s))
+  by-reading : readRecord i s ≡ bySlice 1 (recordCases i) s (byFields (recordCases i) ls vs (recordOf s))
   unfolding readRecord
-  by-reading = ap (bySlice (readsRecord i) s) (record-by-fields i (numberIn s))
+  by-reading = ap (bySlice 1 (recordCases i) s) (record-by-fields i (numberIn s))
 
   pub record-read-1 : (p : ℕ) → Exactly (readRecord i s ≡ refused 1 p) ((length s < 16) × (p ≡ 0))
-  record-read-1 p = exactly-of by-reading (answer-short (readsRecord i) s ls vs (fields-same (numberIn s)) (recordOf s) p)
+  record-read-1 p = exactly-of by-reading (answer-short 1 (recordCases i) refl refl s ls vs (fields-same (numberIn s)) (recordOf s) p)
 
   pub record-read-6 : (p : ℕ) → Exactly (readRecord i s ≡ refused 6 p) ((16 ≤ length s) × (within (from 1 8) (kindAt (numberIn s)) ≡ false) × (p ≡ i))
   record-read-6 p =
-      exactly-then (exactly-of by-reading (answer-first (readsRecord i) s ls vs (fields-same (numberIn s)) (recordOf s) p))
+      exactly-then (exactly-of by-reading (answer-first 1 (recordCases i) refl refl s ls vs (fields-same (numberIn s)) (recordOf s) p))
       (in-middle (kind-read (numberIn s)))
 
   pub record-read-7 : (p : ℕ) → Exactly (readRecord i s ≡ refused 7 p)
       ((16 ≤ length s) × LaterFault (λ k. 32 * i + k) (linesAt (numberIn s)) (fieldsAt (numberIn s)) p)
-  record-read-7 p = exactly-of by-reading (answer-later (readsRecord i) s ls vs (fields-same (numberIn s)) (recordOf s) p)
+  record-read-7 p = exactly-of by-reading (answer-later 1 (recordCases i) refl refl s ls vs (fields-same (numberIn s)) (recordOf s) p)
 
   pub record-read-given : (r : Record) → Exactly (readRecord i s ≡ given r)
       ((16 ≤ length s) × Allowed (linesAt (numberIn s)) (fieldsAt (numberIn s)) × (recordOf s ≡ r))
-  record-read-given r = exactly-of by-reading (answer-given (readsRecord i) s ls vs (fields-same (numberIn s)) (recordOf s) r)
+  record-read-given r = exactly-of by-reading (answer-given 1 (recordCases i) refl refl s ls vs (fields-same (numberIn s)) (recordOf s) r)
 
   pub record-read-others : (k p : ℕ) → (k ≡ 1 → ⊥) → (k ≡ 6 → ⊥) → (k ≡ 7 → ⊥) → readRecord i s ≡ refused k p → ⊥
   record-read-others k p a b c e =
-      answer-others (readsRecord i) s ls vs (fields-same (numberIn s)) (recordOf s) k p a b c (sym by-reading ∙ e)
+      answer-others 1 (recordCases i) refl refl s ls vs (fields-same (numberIn s)) (recordOf s) k p a b c (sym by-reading ∙ e)
 
 -- ---- the fault alone
 
@@ -223,56 +206,56 @@ module _ (r : Record) where
   fault-of = body-fault (r .kind) (r .id) (r .body)
 
   module _ (i : ℕ) where
-    by-fault : recordRefused i (recordFault r 0) (given (tt {0})) ≡ byFields (writesRecord i) (linesOf r) (valuesOf r) tt
+    by-fault : recordRefused i (recordFault r 0) (given (tt {0})) ≡ byFields (recordCases i) (linesOf r) (valuesOf r) tt
     by-fault = ap (λ (f : ℕ). recordRefused i f (given (tt {0}))) fault-of
 
     pub record-fault-6 : (p : ℕ) → Exactly (recordRefused i (recordFault r 0) (given (tt {0})) ≡ refused 6 p) ((belongs (r .kind) (r .body) ≡ false) × (p ≡ i))
-    record-fault-6 p = exactly-then (exactly-of by-fault (fields-first (writesRecord i) (linesOf r) (valuesOf r) same tt p)) (in-front kind-of)
+    record-fault-6 p = exactly-then (exactly-of by-fault (fields-first (recordCases i) (linesOf r) (valuesOf r) same tt p)) (in-front kind-of)
 
     pub record-fault-7 : (p : ℕ) → Exactly (recordRefused i (recordFault r 0) (given (tt {0})) ≡ refused 7 p) (LaterFault (λ k. 32 * i + k) (linesOf r) (valuesOf r) p)
-    record-fault-7 p = exactly-of by-fault (fields-later (writesRecord i) (linesOf r) (valuesOf r) same tt p)
+    record-fault-7 p = exactly-of by-fault (fields-later (recordCases i) (linesOf r) (valuesOf r) same tt p)
 
     pub record-fault-given : Exactly (recordRefused i (recordFault r 0) (given (tt {0})) ≡ given tt) (Allowed (linesOf r) (valuesOf r))
-    record-fault-given = exactly-then (exactly-of by-fault (fields-given (writesRecord i) (linesOf r) (valuesOf r) same tt tt)) alone
+    record-fault-given = exactly-then (exactly-of by-fault (fields-given (recordCases i) (linesOf r) (valuesOf r) same tt tt)) alone
 
     pub record-fault-others : (k p : ℕ) → (k ≡ 6 → ⊥) → (k ≡ 7 → ⊥) → recordRefused i (recordFault r 0) (given (tt {0})) ≡ refused k p → ⊥
-    record-fault-others k p a b e = fields-others (writesRecord i) (linesOf r) (valuesOf r) same tt k p a b (sym by-fault ∙ e)
+    record-fault-others k p a b e = fields-others (recordCases i) (linesOf r) (valuesOf r) same tt k p a b (sym by-fault ∙ e)
 
   -- ---- writing
 
   module _ (o : List ℕ) where
-    pub record-written : writeRecord r o ≡ written (writesRecord 0) (recordFault r 0) (recordBytes r) o
+    pub record-written : writeRecord r o ≡ written (recordCases 0) (recordFault r 0) (recordBytes r) o
     unfolding writeRecord
     record-written = refl
 
-    by-writing : writeRecord r o .answer ≡ bySlice (writesRecord 0) o (byFields (writesRecord 0) (linesOf r) (valuesOf r) (tt {0}))
+    by-writing : writeRecord r o .answer ≡ bySlice 5 (recordCases 0) o (byFields (recordCases 0) (linesOf r) (valuesOf r) (tt {0}))
     by-writing =
         ap (λ w. w .answer) record-written
-        ∙ written-answer (writesRecord 0) (recordFault r 0) (recordBytes r) o
-        ∙ ap (λ x. bySlice (writesRecord 0) o x) (by-fault 0)
+        ∙ written-answer (recordCases 0) (recordFault r 0) (recordBytes r) o
+        ∙ ap (λ x. bySlice 5 (recordCases 0) o x) (by-fault 0)
 
     pub record-write-5 : (p : ℕ) → Exactly (writeRecord r o .answer ≡ refused 5 p) ((length o < 16) × (p ≡ 0))
-    record-write-5 p = exactly-of by-writing (answer-short (writesRecord 0) o (linesOf r) (valuesOf r) same tt p)
+    record-write-5 p = exactly-of by-writing (answer-short 5 (recordCases 0) refl refl o (linesOf r) (valuesOf r) same tt p)
 
     pub record-write-6 : (p : ℕ) → Exactly (writeRecord r o .answer ≡ refused 6 p) ((16 ≤ length o) × (belongs (r .kind) (r .body) ≡ false) × (p ≡ 0))
-    record-write-6 p = exactly-then (exactly-of by-writing (answer-first (writesRecord 0) o (linesOf r) (valuesOf r) same tt p)) (in-middle kind-of)
+    record-write-6 p = exactly-then (exactly-of by-writing (answer-first 5 (recordCases 0) refl refl o (linesOf r) (valuesOf r) same tt p)) (in-middle kind-of)
 
     pub record-write-7 : (p : ℕ) → Exactly (writeRecord r o .answer ≡ refused 7 p) ((16 ≤ length o) × LaterFault (λ k. k) (linesOf r) (valuesOf r) p)
     record-write-7 p =
-        exactly-then (exactly-of by-writing (answer-later (writesRecord 0) o (linesOf r) (valuesOf r) same tt p))
+        exactly-then (exactly-of by-writing (answer-later 5 (recordCases 0) refl refl o (linesOf r) (valuesOf r) same tt p))
         (at-end (same-places (λ k. 32 * 0 + k) (λ k. k) (linesOf r) (valuesOf r) p (λ k. omega arith)))
 
     pub record-write-given : Exactly (writeRecord r o .answer ≡ given tt) ((16 ≤ length o) × Allowed (linesOf r) (valuesOf r))
-    record-write-given = exactly-then (exactly-of by-writing (answer-given (writesRecord 0) o (linesOf r) (valuesOf r) same tt tt)) alone-two
+    record-write-given = exactly-then (exactly-of by-writing (answer-given 5 (recordCases 0) refl refl o (linesOf r) (valuesOf r) same tt tt)) alone-two
 
     pub record-write-others : (k p : ℕ) → (k ≡ 5 → ⊥) → (k ≡ 6 → ⊥) → (k ≡ 7 → ⊥) → writeRecord r o .answer ≡ refused k p → ⊥
-    record-write-others k p a b c e = answer-others (writesRecord 0) o (linesOf r) (valuesOf r) same tt k p a b c (sym by-writing ∙ e)
+    record-write-others k p a b c e = answer-others 5 (recordCases 0) refl refl o (linesOf r) (valuesOf r) same tt k p a b c (sym by-writing ∙ e)
 
     -- a refusal leaves every byte; else the first sixteen are the record's, and no others change
     pub record-write-left : (k p : ℕ) → writeRecord r o .answer ≡ refused k p → writeRecord r o .bytes ≡ o
     unfolding writeRecord
-    record-write-left k p e = written-refused (writesRecord 0) (recordFault r 0) (recordBytes r) o k p e
+    record-write-left k p e = written-refused (recordCases 0) (recordFault r 0) (recordBytes r) o k p e
 
     pub record-write-bytes : writeRecord r o .answer ≡ given tt → writeRecord r o .bytes ≡ recordBytes r ++ drop 16 o
     unfolding writeRecord
-    record-write-bytes e = written-all (writesRecord 0) (recordFault r 0) (recordBytes r) o e
+    record-write-bytes e = written-all (recordCases 0) (recordFault r 0) (recordBytes r) o e

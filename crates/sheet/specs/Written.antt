@@ -13,21 +13,21 @@ use Rattle.sheet.specs.Refusals.{Answer, given, refused, Wrote}
 use Rattle.sheet.specs.RefusalLaws.{by-none, at-none, given-refused}
 use Rattle.sheet.specs.Exactly.{Cases, byFault, bySlice}
 
--- the bytes bs into the front of o: not where o is too short, nor where there is a first faulty field f
+-- 5 where o is too short; else the bytes bs into the front of o, unless there is a first faulty field f
 abbrev pub writtenIf : (short : Bool) → Cases → (f : ℕ) (bs o : List ℕ) → Wrote
 writtenIf short c f bs o =
     cond short
-    (record { answer = refused (c .short) 0; bytes = o })
+    (record { answer = refused 5 0; bytes = o })
     (record { answer = byFault c f tt; bytes = cond (eqb f 0) (bs ++ drop (c .size) o) o })
 
 abbrev pub written : Cases → (f : ℕ) (bs o : List ℕ) → Wrote
 written c f bs o = writtenIf (ltb (length o) (c .size)) c f bs o
 
 module _ (c : Cases) (f : ℕ) (bs o : List ℕ) where
-  pub written-answer : written c f bs o .answer ≡ bySlice c o (byFault c f (tt {0}))
+  pub written-answer : written c f bs o .answer ≡ bySlice 5 c o (byFault c f (tt {0}))
   written-answer = go (ltb (length o) (c .size))
     where
-      go : (t : Bool) → writtenIf t c f bs o .answer ≡ cond t (refused (c .short) 0) (byFault c f (tt {0}))
+      go : (t : Bool) → writtenIf t c f bs o .answer ≡ cond t (refused 5 0) (byFault c f (tt {0}))
       go true = refl
       go false = refl
 
