@@ -12,3 +12,4 @@ pub mod Exactly
 pub mod Written
 pub mod HeaderExactly
 pub mod RecordExactly
+pub mod Back
