@@ -13,3 +13,5 @@ pub mod Written
 pub mod HeaderExactly
 pub mod RecordExactly
 pub mod Back
+pub mod HeaderBack
+pub mod RecordBack
