@@ -66,22 +66,25 @@ module _ (n : ℕ) (h : Header) (e : headerIn n ≡ given h) where
 read-back : (n : ℕ) (h : Header) → n < 2 ^ total (bytes 12) → headerIn n ≡ given h → (headerFault h 0 ≡ 0) × (headerNumber h ≡ n)
 read-back n h l e = (read-fine n h e, read-number n h e l)
 
--- what is read has no fault
-pub header-read-fine : (s : List ℕ) (h : Header) → readHeader s ≡ given h → headerFault h 0 ≡ 0
-unfolding readHeader
-header-read-fine s h e = let n = pack (bytes 12) (take 12 s) in read-fine n h (slice-long 1 headerCases s (headerIn n) (given h) (λ q. given-refused (sym q)) .0 e .1)
-
 -- what is written is read again
 pub header-read-again : (h : Header) (o : List ℕ) → writeHeader h o .answer ≡ given tt → readHeader (writeHeader h o .bytes) ≡ given h
 unfolding readHeader writeHeader
 header-read-again h o e = read-again headerCases headerIn headerNumber (λ g. headerFault g 0) number-read read-back h o e
 
--- what is read is written again: the same twelve bytes, and onto those read, nothing changes
-module _ (s : List ℕ) (h : Header) (fit : Fit (bytes 12) (take 12 s)) (e : readHeader s ≡ given h) where
-  pub header-written-again : (o : List ℕ) → 12 ≤ length o → (writeHeader h o .answer ≡ given tt) × (take 12 (writeHeader h o .bytes) ≡ take 12 s)
-  unfolding readHeader writeHeader
-  header-written-again o l = written-again headerCases headerIn headerNumber (λ g. headerFault g 0) number-read read-back s h fit e o l
+module _ (s : List ℕ) (h : Header) (e : readHeader s ≡ given h) where
+  -- what is read has no fault
+  pub header-read-fine : headerFault h 0 ≡ 0
+  unfolding readHeader
+  header-read-fine =
+      let n = pack (bytes 12) (take 12 s) in
+      read-fine n h (slice-long 1 headerCases s (headerIn n) (given h) (λ q. given-refused (sym q)) .0 e .1)
 
-  pub header-written-onto : writeHeader h s .bytes ≡ s
-  unfolding readHeader writeHeader
-  header-written-onto = written-onto headerCases headerIn headerNumber (λ g. headerFault g 0) number-read read-back s h fit e
+  -- it is written again: the same twelve bytes, and onto those read, nothing changes
+  module _ (fit : Fit (bytes 12) (take 12 s)) where
+    pub header-written-again : (o : List ℕ) → 12 ≤ length o → (writeHeader h o .answer ≡ given tt) × (take 12 (writeHeader h o .bytes) ≡ take 12 s)
+    unfolding readHeader writeHeader
+    header-written-again o l = written-again headerCases headerIn headerNumber (λ g. headerFault g 0) number-read read-back s h fit e o l
+
+    pub header-written-onto : writeHeader h s .bytes ≡ s
+    unfolding readHeader writeHeader
+    header-written-onto = written-onto headerCases headerIn headerNumber (λ g. headerFault g 0) number-read read-back s h fit e

@@ -15,3 +15,5 @@ pub mod RecordExactly
 pub mod Back
 pub mod HeaderBack
 pub mod RecordBack
+pub mod FirstNamed
+pub mod Only
