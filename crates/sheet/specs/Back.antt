@@ -1,7 +1,7 @@
 -- There and back, for a header and for a record alike: what is written is read again, and what is read is written again byte for byte.
 -- Assumes nothing.
 use Prim.Native.Nat.{ℕ, _^_, _≤_, _<_}
-use mathlib.Core.Path.{_≡_, refl, sym, ap, _∙_}
+use mathlib.Core.Path.{_≡_, sym, ap, _∙_}
 use mathlib.Core.List.{List, _++_}
 use native.Mathlib.Omega.{arith}
 use lib.ListN.{length, take, drop, length-append, take-append-drop}
@@ -9,10 +9,10 @@ use lib.Seq.{take-at}
 use borrow.Author.Tests.{le-ltb}
 use Rattle.layout.specs.Layout.{total, pack, unpack, bytes, Fit}
 use Rattle.layout.specs.Laws.{pack-lt, pack-unpack-lt, unpack-pack, length-unpack, length-bytes}
-use Rattle.sheet.specs.Refusals.{Answer, given, refused, Wrote}
+use Rattle.sheet.specs.Refusals.{Answer, given, Wrote}
 use Rattle.sheet.specs.RefusalLaws.{given-refused}
 use Rattle.sheet.specs.Exactly.{Cases, bySlice, slice-long}
-use Rattle.sheet.specs.Written.{written, written-fine, written-given, written-bytes}
+use Rattle.sheet.specs.Written.{written, written-fine, written-given, written-bytes, written-first}
 
 -- the answer of reading the number in the first bytes; 1 where there are too few of them
 abbrev pub readBy : {A : Type 0} → Cases → (ℕ → Answer A) → List ℕ → Answer A
@@ -67,7 +67,7 @@ module _ {A : Type 0} (c : Cases) (readIn : ℕ → Answer A) (number fault : A 
     written-again o l =
         let bs = bytesOf c (number a) in (
           written-given c (fault a) bs o l (value .0),
-          ap (take k) (written-bytes c (fault a) bs o l (value .0)) ∙ take-at bs (drop k o) k (length-of (number a)) ∙ same-bytes,
+          written-first c (fault a) bs o (length-of (number a)) (written-given c (fault a) bs o l (value .0)) ∙ same-bytes,
         )
 
     -- writing back what was read changes nothing

@@ -1,14 +1,14 @@
 -- Of several faulty fields the first is named; and where a range rests on an earlier field, the later one is the fault.
 -- Assumes nothing.
 use Prim.Native.Nat.{ℕ, suc, _+_, _≤_, _<_}
-use mathlib.Core.Path.{_≡_, refl, sym, ap, _∙_}
+use mathlib.Core.Path.{_≡_, refl, ap, _∙_}
 use mathlib.Core.Bool.{Bool, true, false, cond}
 use mathlib.Core.List.{List, [], _∷_, _++_}
 use native.Mathlib.Omega.{arith}
 use lib.ListN.{length, take, drop}
-use borrow.Author.Tests.{lt-leb, leb-true}
-use Rattle.quantity.specs.Range.{Range, within, from}
-use Rattle.layout.specs.Line.{Line, allows, Allowed, allowsAt, faultFrom}
+use borrow.Author.Tests.{lt-leb}
+use Rattle.quantity.specs.Range.{within, from}
+use Rattle.layout.specs.Line.{Line, Allowed, allowsAt, faultFrom}
 use Rattle.layout.specs.LineLaws.{FirstFault}
 use Rattle.sheet.specs.declared.Header.{Header}
 use Rattle.sheet.specs.declared.Plate.{Plate}
@@ -16,7 +16,6 @@ use Rattle.sheet.specs.declared.Member.{Member}
 use Rattle.sheet.specs.Lines.{either, none, plateLines}
 use Rattle.sheet.specs.Header.{headerFault}
 use Rattle.sheet.specs.Record.{plateValues, plateFault, memberFault}
-use Rattle.sheet.specs.Exactly.{LaterFault}
 
 -- no faulty field comes before the one named
 pub first-named : (i : ℕ) (ls : List Line) (vs : List ℕ) → FirstFault i ls vs → (j : ℕ) → allowsAt j ls vs ≡ false → i ≤ j

@@ -1,7 +1,7 @@
 -- The header, there and back: nothing is lost.
 -- Assumes nothing.
 use Prim.Native.Nat.{ℕ, _^_, _≤_, _<_}
-use mathlib.Core.Path.{_≡_, refl, sym, ap, ap₂, _∙_}
+use mathlib.Core.Path.{_≡_, sym, ap, ap₂, _∙_}
 use mathlib.Core.List.{List}
 use native.Mathlib.Omega.{arith}
 use lib.ListN.{length, getD, take}
@@ -12,7 +12,7 @@ use Rattle.layout.specs.Line.{Allowed, faultFrom}
 use Rattle.layout.specs.LineLaws.{none-all, low-high}
 use Rattle.sheet.specs.declared.Header.{Header}
 use Rattle.sheet.specs.Lines.{headerLines, headerWidths}
-use Rattle.sheet.specs.Refusals.{Answer, given, refused, headerRefused}
+use Rattle.sheet.specs.Refusals.{given, refused, headerRefused}
 use Rattle.sheet.specs.RefusalLaws.{at-none, by-none, given-refused}
 use Rattle.sheet.specs.Header.{headerValues, headerAt, headerFault, headerIn, readHeader, writeHeader}
 use Rattle.sheet.specs.HeaderLaws.{flag-read, values-at, header-in, header-fit}

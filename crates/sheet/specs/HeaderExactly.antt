@@ -6,19 +6,21 @@ use mathlib.Core.Path.{_≡_, refl, sym, ap, _∙_}
 use mathlib.Core.Bool.{Bool, true, false}
 use mathlib.Core.List.{List, _∷_, _++_}
 use native.Mathlib.Omega.{arith}
-use lib.ListN.{length, getD, take, drop}
+use lib.ListN.{length, getD, drop}
 use lib.Dec.{leb}
-use borrow.Author.Tests.{le-leb, eqb-false}
+use borrow.Author.Tests.{le-leb}
 use Rattle.quantity.specs.Range.{within, from}
+use Rattle.layout.specs.Layout.{pack, bytes}
+use Rattle.layout.specs.Laws.{length-unpack}
 use Rattle.layout.specs.Line.{line, Allowed}
 use Rattle.layout.specs.LineLaws.{FirstFault, low-high}
 use Rattle.sheet.specs.declared.Header.{Header}
-use Rattle.sheet.specs.Lines.{headerLines}
-use Rattle.sheet.specs.Refusals.{Answer, given, refused, headerRefused, Wrote}
+use Rattle.sheet.specs.Lines.{headerLines, headerWidths}
+use Rattle.sheet.specs.Refusals.{given, refused, headerRefused}
 use Rattle.sheet.specs.Header.{headerValues, headerAt, headerFault, headerIn, readHeader, headerBytes, writeHeader}
 use Rattle.sheet.specs.HeaderLaws.{headerFields}
-use Rattle.sheet.specs.Exactly.{Exactly, LaterFault, Cases, byFault, byFields, bySlice, exactly-then, exactly-of, in-front, in-middle, alone, alone-two, first-alone, fields-first, fields-later, fields-given, fields-others, answer-short, answer-first, answer-later, answer-given, answer-others}
-use Rattle.sheet.specs.Written.{written, written-answer, written-refused, written-all}
+use Rattle.sheet.specs.Exactly.{Exactly, LaterFault, Cases, byFields, bySlice, exactly-then, exactly-of, in-front, in-middle, alone, alone-two, first-alone, fields-first, fields-later, fields-given, fields-others, answer-short, answer-first, answer-later, answer-given, answer-others}
+use Rattle.sheet.specs.Written.{written, written-answer, written-refused, written-all, written-past, written-length}
 
 -- a header: 12 bytes, 2 for the version, 3 with the field for another
 abbrev pub headerCases : Cases
@@ -139,3 +141,11 @@ module _ (h : Header) where
     pub header-write-bytes : writeHeader h o .answer ≡ given tt → writeHeader h o .bytes ≡ headerBytes h ++ drop 12 o
     unfolding writeHeader
     header-write-bytes e = written-all headerCases (headerFault h 0) (headerBytes h) o e
+
+    pub header-write-past : writeHeader h o .answer ≡ given tt → drop 12 (writeHeader h o .bytes) ≡ drop 12 o
+    unfolding writeHeader
+    header-write-past e = written-past headerCases (headerFault h 0) (headerBytes h) o (length-unpack (bytes 12) (pack headerWidths (headerValues h 0))) e
+
+    pub header-write-length : length (writeHeader h o .bytes) ≡ length o
+    unfolding writeHeader
+    header-write-length = written-length headerCases (headerFault h 0) (headerBytes h) o (length-unpack (bytes 12) (pack headerWidths (headerValues h 0)))

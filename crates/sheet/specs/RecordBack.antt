@@ -18,7 +18,7 @@ use Rattle.sheet.specs.declared.Body.{Body}
 use Rattle.sheet.specs.declared.Body.the-variants.{Plate as isPlate, Member as isMember}
 use Rattle.sheet.specs.declared.Record.{Record}
 use Rattle.sheet.specs.Lines.{plateLines, plateWidths, memberWidths}
-use Rattle.sheet.specs.Refusals.{Answer, given, refused, recordRefused}
+use Rattle.sheet.specs.Refusals.{given, refused, recordRefused}
 use Rattle.sheet.specs.RefusalLaws.{at-none, by-none, given-refused}
 use Rattle.sheet.specs.Record.{plateValues, memberValues, plateAt, plateRecord, memberRecord, plateFault, bodyFault, recordFault, plateIn, recordIn, readRecord, widthsIn, valuesIn, recordNumber, writeRecord}
 use Rattle.sheet.specs.HeaderLaws.{flag-read}

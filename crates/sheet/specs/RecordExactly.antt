@@ -4,24 +4,25 @@
 use Prim.Native.Nat.{ℕ, _+_, _*_, _≤_, _<_}
 use mathlib.Core.Path.{_≡_, refl, sym, ap, _∙_}
 use mathlib.Core.Bool.{Bool, true, false, cond}
-use mathlib.Core.List.{List, _∷_, _++_}
+use mathlib.Core.List.{List, _++_}
 use native.Mathlib.Omega.{arith}
 use lib.ListN.{length, getD, take, drop}
-use lib.Dec.{leb, ltb}
-use borrow.Author.Tests.{le-leb, lt-leb, ltb-true, ltb-false}
+use lib.Dec.{leb}
+use borrow.Author.Tests.{le-leb, ltb-true, ltb-false}
 use Rattle.quantity.specs.Range.{within, from}
 use Rattle.layout.specs.Layout.{pack, unpack, bytes}
+use Rattle.layout.specs.Laws.{length-unpack}
 use Rattle.layout.specs.Line.{Line, line, Allowed, faultFrom}
 use Rattle.layout.specs.LineLaws.{FirstFault, low-high}
 use Rattle.sheet.specs.declared.Body.{Body}
 use Rattle.sheet.specs.declared.Body.the-variants.{Plate as isPlate, Member as isMember}
 use Rattle.sheet.specs.declared.Record.{Record}
 use Rattle.sheet.specs.Lines.{plateLines, memberLines, plateWidths, memberWidths}
-use Rattle.sheet.specs.Refusals.{Answer, given, refused, recordRefused, Wrote}
-use Rattle.sheet.specs.Record.{plateRecord, memberRecord, plateLinesOf, memberLinesOf, plateFault, memberFault, bodyFault, recordFault, plateIn, recordIn, readRecord, valuesIn, recordBytes, writeRecord}
+use Rattle.sheet.specs.Refusals.{given, refused, recordRefused}
+use Rattle.sheet.specs.Record.{plateRecord, memberRecord, plateLinesOf, memberLinesOf, plateFault, memberFault, bodyFault, recordFault, plateIn, recordIn, readRecord, valuesIn, recordNumber, recordBytes, writeRecord}
 use Rattle.sheet.specs.RecordLaws.{recordAt}
-use Rattle.sheet.specs.Exactly.{Exactly, LaterFault, Cases, byFault, byFields, bySlice, exactly-then, exactly-of, in-front, in-middle, at-end, same-places, alone, alone-two, first-alone, fields-first, fields-later, fields-given, fields-others, answer-short, answer-first, answer-later, answer-given, answer-others}
-use Rattle.sheet.specs.Written.{written, written-answer, written-refused, written-all}
+use Rattle.sheet.specs.Exactly.{Exactly, LaterFault, Cases, byFields, bySlice, exactly-then, exactly-of, in-front, in-middle, at-end, same-places, alone, alone-two, first-alone, fields-first, fields-later, fields-given, fields-others, answer-short, answer-first, answer-later, answer-given, answer-others}
+use Rattle.sheet.specs.Written.{written, written-answer, written-refused, written-all, written-past, written-length}
 
 -- record i: 16 bytes, 6 with the record for the kind, 7 with 32 × record + field for another
 abbrev pub recordCases : ℕ → Cases
@@ -259,3 +260,11 @@ module _ (r : Record) where
     pub record-write-bytes : writeRecord r o .answer ≡ given tt → writeRecord r o .bytes ≡ recordBytes r ++ drop 16 o
     unfolding writeRecord
     record-write-bytes e = written-all (recordCases 0) (recordFault r 0) (recordBytes r) o e
+
+    pub record-write-past : writeRecord r o .answer ≡ given tt → drop 16 (writeRecord r o .bytes) ≡ drop 16 o
+    unfolding writeRecord
+    record-write-past e = written-past (recordCases 0) (recordFault r 0) (recordBytes r) o (length-unpack (bytes 16) (recordNumber r)) e
+
+    pub record-write-length : length (writeRecord r o .bytes) ≡ length o
+    unfolding writeRecord
+    record-write-length = written-length (recordCases 0) (recordFault r 0) (recordBytes r) o (length-unpack (bytes 16) (recordNumber r))

@@ -9,7 +9,7 @@ use lib.ListN.{length, take, drop, length-append, length-drop}
 use lib.Seq.{take-at, drop-at}
 use lib.Dec.{ltb, eqb}
 use borrow.Author.Tests.{ltb-false, le-ltb, eq-eqb, eqb-true}
-use Rattle.sheet.specs.Refusals.{Answer, given, refused, Wrote}
+use Rattle.sheet.specs.Refusals.{given, refused, Wrote}
 use Rattle.sheet.specs.RefusalLaws.{by-none, at-none, given-refused}
 use Rattle.sheet.specs.Exactly.{Cases, byFault, bySlice}
 
@@ -62,8 +62,21 @@ module _ (c : Cases) (f : ℕ) (bs o : List ℕ) where
   pub written-all : written c f bs o .answer ≡ given tt → written c f bs o .bytes ≡ bs ++ drop (c .size) o
   written-all e = let h = written-fine e in written-bytes (h .0) (h .1)
 
-  pub written-first : length bs ≡ c .size → written c f bs o .answer ≡ given tt → take (c .size) (written c f bs o .bytes) ≡ bs
-  written-first l e = ap (take (c .size)) (written-all e) ∙ take-at bs (drop (c .size) o) (c .size) l
+  module _ (same : length bs ≡ c .size) where
+    pub written-first : written c f bs o .answer ≡ given tt → take (c .size) (written c f bs o .bytes) ≡ bs
+    written-first e = ap (take (c .size)) (written-all e) ∙ take-at bs (drop (c .size) o) (c .size) same
 
-  pub written-past : length bs ≡ c .size → written c f bs o .answer ≡ given tt → drop (c .size) (written c f bs o .bytes) ≡ drop (c .size) o
-  written-past l e = ap (drop (c .size)) (written-all e) ∙ drop-at bs (drop (c .size) o) (c .size) l
+    pub written-past : written c f bs o .answer ≡ given tt → drop (c .size) (written c f bs o .bytes) ≡ drop (c .size) o
+    written-past e = ap (drop (c .size)) (written-all e) ∙ drop-at bs (drop (c .size) o) (c .size) same
+
+    -- in every case there are as many bytes as before
+    pub written-length : length (written c f bs o .bytes) ≡ length o
+    written-length = go (ltb (length o) (c .size)) refl
+      where
+        either-way : c .size ≤ length o → (u : Bool) → length (cond u (bs ++ drop (c .size) o) o) ≡ length o
+        either-way l true = omega (arith, length-append bs (drop (c .size) o), length-drop (c .size) o)
+        either-way l false = refl
+
+        go : (t : Bool) → ltb (length o) (c .size) ≡ t → length (writtenIf t c f bs o .bytes) ≡ length o
+        go true e = refl
+        go false e = either-way (ltb-false (length o) (c .size) e) (eqb f 0)
