@@ -17,3 +17,4 @@ pub mod HeaderBack
 pub mod RecordBack
 pub mod FirstNamed
 pub mod Only
+pub mod FirstByte
