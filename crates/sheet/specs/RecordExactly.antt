@@ -13,7 +13,7 @@ use Rattle.quantity.specs.Range.{within, from}
 use Rattle.layout.specs.Layout.{pack, unpack, bytes}
 use Rattle.layout.specs.Laws.{length-unpack}
 use Rattle.layout.specs.Line.{Line, line, Allowed, faultFrom}
-use Rattle.layout.specs.LineLaws.{FirstFault, low-high}
+use Rattle.layout.specs.LineLaws.{none-all, FirstFault, low-high}
 use Rattle.sheet.specs.declared.Body.{Body}
 use Rattle.sheet.specs.declared.Body.the-variants.{Plate as isPlate, Member as isMember}
 use Rattle.sheet.specs.declared.Record.{Record}
@@ -99,6 +99,16 @@ pub body-fault : (kind id : ℕ) (b : Body) → bodyFault kind id b 0 ≡ faultF
 unfolding plateFault memberFault
 body-fault kind id (isPlate p) = refl
 body-fault kind id (isMember m) = refl
+
+-- the id of a record with no fault
+id-within : (kind id : ℕ) (b : Body) → Allowed (linesIn kind b) (valuesIn kind id b) → within (from 1 1000) id ≡ true
+id-within kind id (isPlate p) a = a .1 .0
+id-within kind id (isMember m) a = a .1 .0
+
+pub record-id : (r : Record) → recordFault r 0 ≡ 0 → (1 ≤ r .id) × (r .id ≤ 1000)
+record-id r e =
+    let a = none-all 0 (linesOf r) (valuesOf r) (sym (body-fault (r .kind) (r .id) (r .body)) ∙ e) in
+    low-high (from 1 1000) (r .id) (id-within (r .kind) (r .id) (r .body) a)
 
 -- ---- the kind
 
