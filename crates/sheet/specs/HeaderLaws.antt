@@ -37,7 +37,7 @@ flag-written (suc zero) h = refl
 flag-written (suc (suc x)) h = absurd (omega arith)
 
 -- the values of the header that a number's fields are are those fields
-values-at : (n : ℕ) → let vs = unpack headerWidths n in headerValues (headerAt vs) (getD vs 8 0) ≡ vs
+pub values-at : (n : ℕ) → let vs = unpack headerWidths n in headerValues (headerAt vs) (getD vs 8 0) ≡ vs
 values-at n = let vs = unpack headerWidths n in rw (flag-written (getD vs 4 0) (mod-lt _ (omega arith)))
 
 -- reading a number goes by the fault of the header in it

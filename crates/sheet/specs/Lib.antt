@@ -8,3 +8,13 @@ pub mod Ranges
 pub mod RefusalLaws
 pub mod HeaderLaws
 pub mod RecordLaws
+pub mod Exactly
+pub mod Written
+pub mod HeaderExactly
+pub mod RecordExactly
+pub mod Back
+pub mod HeaderBack
+pub mod RecordBack
+pub mod FirstNamed
+pub mod Only
+pub mod FirstByte

@@ -34,7 +34,7 @@ abbrev pub spareAt : ℕ → ℕ
 spareAt n = cond (plateIn n) (getD (unpack plateWidths n) 11 0) 0
 
 -- the values of the plate that a number's fields are are those fields
-plate-values-at : (n : ℕ) → let vs = unpack plateWidths n in plateValues (getD vs 0 0) (getD vs 1 0) (plateAt vs) (getD vs 11 0) ≡ vs
+pub plate-values-at : (n : ℕ) → let vs = unpack plateWidths n in plateValues (getD vs 0 0) (getD vs 1 0) (plateAt vs) (getD vs 11 0) ≡ vs
 plate-values-at n = let vs = unpack plateWidths n in rw (flag-written (getD vs 8 0) (mod-lt _ (omega arith)))
 
 -- reading a number goes by the fault of the record in it
