@@ -1,7 +1,7 @@
 -- Every larger scantling meets a rule too.
 -- Assumes nothing.
 use Prim.Native.Nat.{ℕ, _*_, _<_}
-use mathlib.Core.Bool.{Bool, true, false, cond}
+use mathlib.Core.Bool.{Bool}
 use mathlib.Core.Path.{_≡_, sym, _∙_}
 use lib.Dec.{lit<, leb}
 use Rattle.gauge.specs.Ceil.{ceilOf}

@@ -1,18 +1,17 @@
 -- Which answer is given in each case.
 -- Assumes nothing.
-use Prim.Native.Nat.{ℕ, _<_, _≤_, _^_}
+use Prim.Native.Nat.{ℕ, _<_, _≤_}
 use mathlib.Core.Path.{_≡_, refl, sym, ap, ap₂, _∙_}
-use mathlib.Core.Bool.{Bool, true, false, cond}
+use mathlib.Core.Bool.{cond}
 use mathlib.Core.List.{List, _++_}
-use lib.ListN.{length, take, drop, getD}
+use lib.ListN.{length, drop, getD}
 use lib.Dec.{eqb}
 use borrow.Author.Tests.{lt-ltb, le-ltb, eq-eqb, ne-eqb}
 use Rattle.layout.specs.Layout.{pack, unpack, bytes}
-use Rattle.layout.specs.Line.{faultFrom}
 use Rattle.layout.specs.Bytes.{readOf, writtenOf}
 use Rattle.layout.specs.BytesLaws.{read-all, write-all}
-use Rattle.sheet.specs.Lines.{headerLines, headerWidths}
-use Rattle.sheet.specs.Header.{headerValues, headerAt, headerFault, headerIn, readHeader, headerBytes, writeHeader}
+use Rattle.sheet.specs.Lines.{headerWidths}
+use Rattle.sheet.specs.Header.{headerValues, headerAt, headerFault, headerIn, readHeader, writeHeader}
 use Rattle.sheet.specs.HeaderLaws.{header-in}
 use Rattle.sheet.specs.Refusals.{Answer, given, refused, told, toldOutcome, toldHeader, headerRefused}
 use Rattle.sheet.specs.RefusalLaws.{at-none, says}

@@ -1,15 +1,12 @@
 -- A record whose failing scantling is raised stays within its values, and passes or fails a later rule; three raisings are enough.
 -- Assumes nothing.
 use Prim.Native.Nat.{ℕ, zero, suc, _+_, _≤_, _<_}
-use mathlib.Core.Path.{_≡_, refl, sym, ap, subst, _∙_}
+use mathlib.Core.Path.{_≡_, refl, sym, ap, _∙_}
 use mathlib.Core.Bool.{Bool, true, false, cond}
-use mathlib.Core.List.{List, [], _∷_}
 use native.Mathlib.Omega.{arith}
 use lib.Dec.{eqb, lit<, lit≤}
-use borrow.Author.Tests.{le-leb, eq-eqb, ne-eqb, eqb-true, eqb-false}
+use borrow.Author.Tests.{le-leb, eq-eqb, eqb-true, eqb-false}
 use Rattle.quantity.specs.Range.{Range, within, thickness, modulus, shearArea}
-use Rattle.gauge.specs.Least.{Monotone}
-use Rattle.layout.specs.Line.{Allowed}
 use Rattle.layout.specs.LineLaws.{all-none}
 use Rattle.sheet.specs.declared.Header.{Header}
 use Rattle.sheet.specs.declared.Plate.{Plate}
@@ -21,14 +18,14 @@ use Rattle.sheet.specs.Lines.{plateLines, memberLines}
 use Rattle.sheet.specs.Record.{plateValues, memberValues, plateFault, memberFault, bodyFault, recordFault}
 use Rattle.sheet.specs.RecordLaws.{plate-allowed, member-allowed}
 use Rattle.verdict.specs.declared.Verdict.{Verdict}
-use Rattle.verdict.specs.Verdict.{Rule, pass, failing, verdictOf}
+use Rattle.verdict.specs.Verdict.{pass, failing}
 use Rattle.verdict.specs.Raising.{Failing, here, there, Found, passes, fails, found, Rising, failing-above, Later, passed, above, AllMonotone, Raised, AllRaised, raised-later, has-under}
 use Rattle.plating.specs.Rules.{plateRules}
 use Rattle.plating.specs.Laws.{plate-monotone}
 use Rattle.framing.specs.Rules.{memberRules, memberLine}
 use Rattle.framing.specs.Laws.{rule4-monotone, rule5-monotone, rule6-monotone}
 use Rattle.hull.specs.Hull.{bodyRules, rulesOf, verdict}
-use Rattle.hull.specs.Raising.{raisedPlate, withScantlings, instead, raisedMember, raisedBody, raised, raisedOnce, raisedTimes}
+use Rattle.hull.specs.Raising.{raisedPlate, instead, raisedMember, raisedBody, raised, raisedOnce, raisedTimes}
 
 -- every rule of the hull is monotone in its scantling
 pub rules-monotone : (h : Header) (kind : ℕ) (b : Body) → AllMonotone (bodyRules h kind b)

@@ -1,11 +1,11 @@
 -- The laws of layouts, over any layout. Assumes nothing.
 use Prim.Native.Nat.{ℕ, zero, suc, _+_, _-_, _*_, _/_, _%_, _^_, _<_, _≤_}
-use mathlib.Core.Path.{_≡_, refl, sym, ap, ap₂, _∙_, subst}
+use mathlib.Core.Path.{_≡_, refl, sym, ap, ap₂, _∙_}
 use mathlib.Core.List.{List, [], _∷_, _++_}
-use native.Mathlib.Nat.{mod-lt, mod-eq-of-lt, mul-assoc, add-assoc, zero-mul, zero-add, mod-one, mul-add-div-right, mul-add-mod-self-right, add-zero, not-suc-le-zero, le-of-suc-le-suc, add-mul, add-comm, div-lt-iff-lt-mul}
+use native.Mathlib.Nat.{mod-lt, mod-eq-of-lt, mul-assoc, add-assoc, zero-mul, zero-add, mod-one, mul-add-div-right, mul-add-mod-self-right, not-suc-le-zero, le-of-suc-le-suc, add-mul, add-comm, div-lt-iff-lt-mul}
 use native.Mathlib.Omega.{arith}
-use lib.ListN.{length, take, drop, getD}
-use lib.Arith.{digits-lt, digits-div, digits-mod}
+use lib.ListN.{length, take, getD}
+use lib.Arith.{digits-lt}
 use lib.Pow.{pow-pos, pow-add, mod-pow-add, high, shr-shr, split}
 use Rattle.layout.specs.Layout.{total, pack, unpack, Fit, bytes, firsts}
 

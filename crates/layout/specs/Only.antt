@@ -1,7 +1,7 @@
 -- Two results that meet a promise of this crate are equal; the lower half of a `Short` or a `Long` is a number of its width.
 -- Assumes nothing.
 use Prim.Native.Nat.{ℕ, _/_, _%_, _*_, _+_, _^_, _<_}
-use mathlib.Core.Path.{_≡_, refl, sym, ap, ap₂, _∙_}
+use mathlib.Core.Path.{_≡_, sym, ap, ap₂, _∙_}
 use mathlib.Core.Bool.{cond}
 use mathlib.Core.List.{List}
 use native.Mathlib.Nat.{mod-eq-of-lt, mul-add-mod-self-right}

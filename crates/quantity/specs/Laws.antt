@@ -2,10 +2,9 @@
 -- Assumes nothing.
 use Prim.Native.Nat.{ℕ, _<_, _≤_}
 use mathlib.Core.Path.{_≡_, refl, sym, ap, _∙_}
-use mathlib.Core.Bool.{Bool, true, false, _&&_}
 use native.Mathlib.Omega.{arith}
 use native.Mathlib.Decide.{decLe}
-use lib.Dec.{leb, eqb}
+use lib.Dec.{eqb}
 use borrow.Author.Tests.{le-leb, lt-leb, eq-eqb, ne-eqb}
 use Rattle.quantity.specs.Range.{Range, from, within, span, spacing, thickness, modulus, shearArea, pressure, lineLoad, steelFactor}
 use Rattle.quantity.specs.Made.{Held, held, refused, Makes, toldSpan, toldSpacing, toldThickness, toldModulus, toldShearArea, toldPressure, toldLineLoad, toldSteelFactor}

@@ -1,6 +1,6 @@
 -- What a maker answers: the number held, or a refusal.
 use Prim.Native.Nat.{ℕ}
-use mathlib.Core.Path.{_≡_, refl, sym, ap, _∙_}
+use mathlib.Core.Path.{_≡_}
 use mathlib.Core.Bool.{cond}
 use Rattle.quantity.specs.Range.{Range, within}
 use Rattle.quantity.specs.declared.MadeSpan.{MadeSpan}

@@ -4,10 +4,10 @@ use Prim.Native.Nat.{ℕ, _+_, _*_, _<_, _≤_}
 use mathlib.Core.Path.{_≡_, refl, sym, ap, ap₂, _∙_}
 use mathlib.Core.Bool.{cond}
 use mathlib.Core.List.{List, _++_}
-use lib.ListN.{length, take, drop}
+use lib.ListN.{length, drop}
 use lib.Dec.{eqb}
 use borrow.Author.Tests.{lt-ltb, le-ltb, eq-eqb, ne-eqb}
-use Rattle.layout.specs.Layout.{pack, unpack, bytes}
+use Rattle.layout.specs.Layout.{unpack, bytes}
 use Rattle.layout.specs.Bytes.{readOf, writtenOf}
 use Rattle.layout.specs.BytesLaws.{read-all, write-all}
 use Rattle.sheet.specs.Record.{recordFault, recordIn, readRecord, recordNumber, writeRecord}

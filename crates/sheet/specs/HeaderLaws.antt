@@ -1,26 +1,22 @@
--- The header: what its validity gives, when each refusal is given, and that nothing is lost there and back.
+-- The header: its values and their fields, and what the absence of a fault gives.
 -- Assumes nothing.
-use Prim.Native.Nat.{ℕ, zero, suc, _^_, _≤_, _<_}
-use mathlib.Core.Path.{_≡_, refl, sym, ap, ap₂, subst, _∙_}
+use Prim.Native.Nat.{ℕ, zero, suc, _≤_, _<_}
+use mathlib.Core.Path.{_≡_, refl, sym, ap}
 use mathlib.Core.Bool.{Bool, true, false, cond}
-use mathlib.Core.List.{List, [], _∷_, _++_}
+use mathlib.Core.List.{List}
 use native.Mathlib.Omega.{arith}
 use native.Mathlib.Nat.{mod-lt}
-use lib.ListN.{length, getD, take, drop, length-append}
-use lib.Seq.{take-at}
-use lib.Dec.{ltb, eqb}
-use borrow.Author.Tests.{lt-ltb, le-ltb, ltb-true, ltb-false, eq-eqb, eqb-true}
-use Rattle.quantity.specs.Range.{Range, within, from}
-use Rattle.layout.specs.Layout.{pack, unpack, bytes, Fit}
-use Rattle.layout.specs.Laws.{pack-lt, pack-unpack-lt, unpack-pack, length-unpack}
+use lib.ListN.{length, getD, take}
+use lib.Dec.{eqb}
+use Rattle.quantity.specs.Range.{within, from}
+use Rattle.layout.specs.Layout.{unpack, Fit, pack, bytes}
 use Rattle.layout.specs.Line.{among, Allowed, faultFrom}
-use Rattle.layout.specs.LineLaws.{none-all, all-none, allowed-fit, low-high, among-below, FirstFault, fault-first, first-fault}
+use Rattle.layout.specs.LineLaws.{none-all, allowed-fit, low-high, among-below}
 use Rattle.sheet.specs.declared.Header.{Header}
 use Rattle.sheet.specs.Lines.{headerLines, headerWidths, waves}
-use Rattle.sheet.specs.Header.{headerValues, headerAt, headerFault, headerIn, readHeader, headerBytes, writeHeader}
+use Rattle.sheet.specs.Header.{headerValues, headerAt, headerFault, headerIn}
 use Rattle.sheet.specs.Ranges.{HeaderRanges}
-use Rattle.sheet.specs.Refusals.{Answer, given, refused, headerRefused}
-use Rattle.sheet.specs.RefusalLaws.{given-refused, at-none, at-first, at-later, by-first, by-later, by-none}
+use Rattle.sheet.specs.Refusals.{given, headerRefused}
 
 -- a flag's bit is within its line, and is the flag again
 pub flag-within : (b : Bool) → within (from 0 1) (cond b 1 0) ≡ true
@@ -82,16 +78,8 @@ module _ (h : Header) (spare : ℕ) (e : headerFault h spare ≡ 0) where
 pub header-fit : (h : Header) → headerFault h 0 ≡ 0 → Fit headerWidths (headerValues h 0)
 header-fit h e = allowed-fit headerLines (headerValues h 0) refl (header-allowed h 0 e)
 
--- ---- reading, by the length
+-- ---- reading
 
 -- the fields in the first twelve bytes
 abbrev pub headerFields : List ℕ → List ℕ
 headerFields s = unpack headerWidths (pack (bytes 12) (take 12 s))
-
-header-long : (s : List ℕ) → 12 ≤ length s → readHeader s ≡ headerIn (pack (bytes 12) (take 12 s))
-unfolding readHeader
-header-long s l = rw (le-ltb _ _ l)
-
-header-short : (s : List ℕ) → length s < 12 → readHeader s ≡ refused 1 0
-unfolding readHeader
-header-short s l = rw (lt-ltb _ _ l)

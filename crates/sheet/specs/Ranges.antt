@@ -2,7 +2,7 @@
 use Prim.Native.Nat.{ℕ, _≤_}
 use mathlib.Core.Path.{_≡_}
 use mathlib.Core.Bool.{true, false}
-use Rattle.quantity.specs.Range.{thickness, spacing, modulus, shearArea, steelFactor}
+use Rattle.quantity.specs.Range.{span, thickness, spacing, modulus, shearArea, steelFactor}
 use Rattle.sheet.specs.Kinds.{isLong}
 use Rattle.sheet.specs.declared.Header.{Header}
 use Rattle.sheet.specs.declared.Plate.{Plate}
@@ -10,7 +10,7 @@ use Rattle.sheet.specs.declared.Member.{Member}
 
 pub record HeaderRanges (h : Header) : Type 0 where
   pub length-low : 4000 ≤ h .length .0
-  pub length-high : h .length .0 ≤ 13500
+  pub length-high : h .length .0 ≤ span .high
   pub draught-low : 1 ≤ h .draught .0
   pub draught-high : h .draught .0 ≤ 1000
   pub wave-high : h .wave .0 ≤ 120

@@ -1,16 +1,15 @@
--- A record: what its validity gives, when each refusal is given, and that nothing is lost there and back.
+-- A record: its values and their fields, and what the absence of a fault gives.
 -- Assumes nothing.
-use Prim.Native.Nat.{ℕ, zero, suc, _^_, _≤_, _<_}
-use mathlib.Core.Path.{_≡_, refl, sym, ap, ap₂, subst, _∙_}
+use Prim.Native.Nat.{ℕ, _≤_}
+use mathlib.Core.Path.{_≡_, refl, sym, ap}
 use mathlib.Core.Bool.{Bool, true, false, cond}
-use mathlib.Core.List.{List, [], _∷_, _++_}
+use mathlib.Core.List.{List}
 use native.Mathlib.Omega.{arith}
 use native.Mathlib.Nat.{mod-lt}
-use lib.ListN.{length, getD, take, drop}
-use lib.Dec.{ltb, eqb, lit≤}
-use borrow.Author.Tests.{lt-ltb, le-ltb, ltb-true, ltb-false, eq-eqb, eqb-true}
+use lib.ListN.{getD}
+use lib.Dec.{lit≤}
 use Rattle.quantity.specs.Range.{Range, within, from, spacing, thickness, modulus, shearArea, steelFactor}
-use Rattle.layout.specs.Layout.{pack, unpack, bytes, Fit}
+use Rattle.layout.specs.Layout.{unpack, Fit}
 use Rattle.layout.specs.Line.{Allowed, faultFrom, linesFit}
 use Rattle.layout.specs.LineLaws.{none-all, allowed-fit, low-high}
 use Rattle.sheet.specs.declared.Plate.{Plate}
@@ -20,10 +19,10 @@ use Rattle.sheet.specs.declared.Body.the-variants.{Plate as isPlate, Mem
 use Rattle.sheet.specs.declared.Record.{Record}
 use Rattle.sheet.specs.Kinds.{isLong, isBottom, isFloor, isDeep}
 use Rattle.sheet.specs.Lines.{either, none, plateTable, memberTable, plateLines, memberLines, plateWidths, memberWidths}
-use Rattle.sheet.specs.Record.{plateValues, memberValues, plateAt, memberAt, plateRecord, memberRecord, plateLinesOf, memberLinesOf, plateFault, memberFault, bodyFault, recordFault, plateIn, recordIn, readRecord, widthsIn, valuesIn, recordNumber}
+use Rattle.sheet.specs.Record.{plateValues, memberValues, plateAt, plateRecord, memberRecord, plateLinesOf, memberLinesOf, plateFault, memberFault, bodyFault, recordFault, plateIn, recordIn, widthsIn, valuesIn}
 use Rattle.sheet.specs.Ranges.{PlateRanges, MemberRanges}
-use Rattle.sheet.specs.Refusals.{Answer, given, refused, recordRefused}
-use Rattle.sheet.specs.HeaderLaws.{flag-within, flag-written}
+use Rattle.sheet.specs.Refusals.{given, recordRefused}
+use Rattle.sheet.specs.HeaderLaws.{flag-written}
 
 -- the record in a number of 128 bits, whatever its values
 abbrev pub recordAt : ℕ → Record

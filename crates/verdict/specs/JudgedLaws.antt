@@ -7,10 +7,9 @@ use lib.Dec.{eqb}
 use borrow.Author.Tests.{eq-eqb, eqb-true}
 use Rattle.sheet.specs.declared.Header.{Header}
 use Rattle.sheet.specs.declared.Record.{Record}
-use Rattle.sheet.specs.declared.Refusal.{Refusal}
 use Rattle.sheet.specs.Header.{headerFault}
 use Rattle.sheet.specs.Record.{recordFault}
-use Rattle.sheet.specs.Refusals.{Answer, given, refused, numberOf, placeOf, told, headerRefused, recordRefused}
+use Rattle.sheet.specs.Refusals.{Answer, given, refused, headerRefused, recordRefused}
 use Rattle.sheet.specs.RefusalLaws.{given-refused, refusal-only, refused-number, refused-place, given-same, by-none}
 use Rattle.verdict.specs.declared.Verdict.{Verdict}
 use Rattle.verdict.specs.declared.Judged.{Judged}

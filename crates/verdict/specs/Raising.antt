@@ -1,14 +1,14 @@
 -- What a verdict says of the rules, and what raising a scantling to the number required does to it, over any list of rules.
 -- Assumes nothing.
-use Prim.Native.Nat.{ℕ, zero, suc, _+_, _≤_, _<_}
+use Prim.Native.Nat.{ℕ, zero, _≤_, _<_}
 use mathlib.Core.Path.{_≡_, refl, sym, ap, subst, _∙_}
-use mathlib.Core.Bool.{Bool, true, false, cond}
+use mathlib.Core.Bool.{Bool, true, false}
 use mathlib.Core.List.{List, [], _∷_}
 use native.Mathlib.Omega.{arith}
 use Rattle.gauge.specs.declared.Least.{Least}
 use Rattle.gauge.specs.declared.Least.the-variants.{At, Nothing}
 use Rattle.gauge.specs.Least.{leastIn, numberOf, Monotone}
-use Rattle.gauge.specs.LeastLaws.{least-is, smaller-fails, none-passes, none-given, number-zero, number-least, larger-passes, fails-below}
+use Rattle.gauge.specs.LeastLaws.{least-is, smaller-fails, none-passes, none-given, larger-passes, fails-below}
 use Rattle.verdict.specs.declared.Verdict.{Verdict}
 use Rattle.verdict.specs.Verdict.{Rule, pass, failing, verdictOf}
 
