@@ -1,4 +1,4 @@
--- Two results that meet a promise of the crates `header` and `record` are equal.
+-- Two results that meet a promise of the crates `sheet`, `header` and `record` are equal.
 -- Assumes nothing.
 use Prim.Native.Nat.{ℕ}
 use mathlib.Core.Path.{_≡_, sym, _∙_}
@@ -6,9 +6,10 @@ use mathlib.Core.List.{List}
 use Rattle.sheet.specs.declared.Header.{Header}
 use Rattle.sheet.specs.declared.Record.{Record}
 use Rattle.sheet.specs.declared.Outcome.{Outcome}
+use Rattle.sheet.specs.declared.Refusal.{Refusal}
 use Rattle.sheet.specs.declared.HeaderRead.{HeaderRead}
 use Rattle.sheet.specs.declared.RecordRead.{RecordRead}
-use Rattle.sheet.specs.Refusals.{given, toldOutcome, toldHeader, toldRecord, headerRefused, recordRefused, Wrote}
+use Rattle.sheet.specs.Refusals.{given, numberOf, placeOf, toldOutcome, toldHeader, toldRecord, headerRefused, recordRefused, Wrote}
 use Rattle.sheet.specs.RefusalLaws.{outcome-only, header-only, record-only}
 use Rattle.sheet.specs.Header.{headerFault, readHeader, writeHeader}
 use Rattle.sheet.specs.Record.{recordFault, readRecord, writeRecord}
@@ -40,3 +41,9 @@ write-record-only r o = writes-only (writeRecord r o)
 pub record-fault-only : (i : ℕ) (r : Record) (a b : Outcome)
     → toldOutcome a ≡ recordRefused i (recordFault r 0) (given tt) → toldOutcome b ≡ recordRefused i (recordFault r 0) (given tt) → a ≡ b
 record-fault-only i r = outcome-only (recordRefused i (recordFault r 0) (given tt))
+
+pub number-only : (r : Refusal) (a b : ℕ) → a ≡ numberOf r → b ≡ numberOf r → a ≡ b
+number-only r a b p q = p ∙ sym q
+
+pub place-only : (r : Refusal) (a b : ℕ) → a ≡ placeOf r → b ≡ placeOf r → a ≡ b
+place-only r a b p q = p ∙ sym q
