@@ -44,6 +44,10 @@ part s a e = take (e - a) (drop a s)
 abbrev pub recordPart : List ℕ → ℕ → List ℕ
 recordPart s i = part s (12 + 16 * i) (12 + 16 * i + 16)
 
+-- record i, as it is read
+abbrev pub recordOf : List ℕ → ℕ → Answer Record
+recordOf s i = readRecord i (recordPart s i)
+
 -- the bytes of the records i, i + 1, .., so many of them
 unfoldable pub partsFrom : List ℕ → (i count : ℕ) → List (List ℕ)
 partsFrom s i zero = []
@@ -73,7 +77,7 @@ sheetIn s room =
 -- ---- what is answered and written
 
 -- the verdict on a record, with its id
-abbrev pub entryOf : Header → Record → Entry
+unfoldable pub entryOf : Header → Record → Entry
 entryOf h r = let v = verdict h r in record { id = r .id; rule = v .rule; required = v .required }
 
 -- one verdict for each record

@@ -74,7 +74,7 @@ bytes-read e rest z =
     ∙ ap (λ (t : Bool). cond t (given e) (refused 7 (entryFault e 0))) (eq-eqb (entryFault e 0) 0 z)
 
 -- the bytes after writing
-bytes-written : (e : Entry) (o : List ℕ) → 4 ≤ length o → entryFault e 0 ≡ 0 → writeEntry e o .bytes ≡ entryBytes e ++ drop 4 o
+pub bytes-written : (e : Entry) (o : List ℕ) → 4 ≤ length o → entryFault e 0 ≡ 0 → writeEntry e o .bytes ≡ entryBytes e ++ drop 4 o
 unfolding writeEntry
 bytes-written e o l z = rw (le-ltb _ _ l, eq-eqb (entryFault e 0) 0 z)
 

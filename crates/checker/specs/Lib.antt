@@ -2,3 +2,5 @@ pub mod Entry
 pub mod EntryLaws
 pub mod Check
 pub mod Passes
+pub mod Sound
+pub mod CheckLaws

@@ -1,27 +1,22 @@
 -- What the two passes' own functions say. The promise of `check` rests on none of it.
 use mathlib.Core.Path.{_≡_}
 use Prim.Native.Nat.{ℕ, zero, suc, _+_, _*_, _≤_}
-use mathlib.Core.List.{List, [], _∷_}
-use lib.ListN.{length}
+use mathlib.Core.List.{List, [], _∷_, _++_}
+use lib.ListN.{length, drop}
 use Rattle.sheet.specs.declared.Header.{Header}
 use Rattle.sheet.specs.declared.Record.{Record}
 use Rattle.sheet.specs.Refusals.{Answer, given, refused}
 use Rattle.sheet.specs.Header.{readHeader}
-use Rattle.sheet.specs.Record.{readRecord}
 use Rattle.verdict.specs.declared.Verdict.{Verdict}
 use Rattle.verdict.specs.Judged.{judgedBy}
 use Rattle.hull.specs.Hull.{verdict}
 use Rattle.checker.specs.declared.Entry.{Entry}
-use Rattle.checker.specs.Check.{recordPart, partsFrom, recordsIn}
+use Rattle.checker.specs.Check.{recordOf, partsFrom, recordsIn, bytesOf, failures}
 
 -- whether an answer is given, or the refusal
 abbrev pub plain : {A : Type 0} → Answer A → Answer (Unit {0})
 plain (given a) = given tt
 plain (refused k p) = refused k p
-
--- record i of a sheet, as it is read
-abbrev pub recordAt : List ℕ → ℕ → Answer Record
-recordAt s i = readRecord i (recordPart s i)
 
 -- stands where there is no verdict, which does not happen in a sheet that the first pass has found sound
 abbrev pub blank : Entry
@@ -40,7 +35,7 @@ entryBy h (refused k p) = blank
 -- those of the records i, i + 1, .., so many of them
 unfoldable pub entriesFrom : Header → List ℕ → (i count : ℕ) → List Entry
 entriesFrom h s i zero = []
-entriesFrom h s i (suc count) = entryBy h (recordAt s i) ∷ entriesFrom h s (i + 1) count
+entriesFrom h s i (suc count) = entryBy h (recordOf s i) ∷ entriesFrom h s (i + 1) count
 
 -- a sheet in which the first pass has found nothing
 pub record Accepted (s : List ℕ) (h : Header) (room : ℕ) : Type 0 where
@@ -48,3 +43,8 @@ pub record Accepted (s : List ℕ) (h : Header) (room : ℕ) : Type 0 where
   pub whole : length s ≡ 12 + 16 * h .count
   pub fits : 4 * h .count ≤ room
   pub sound : plain (recordsIn 0 0 (partsFrom s 0 (h .count))) ≡ given tt
+
+-- what the second pass leaves in the output, and how many verdicts it counts
+pub record Judges (h : Header) (s out : List ℕ) (failed : ℕ) (after : List ℕ) : Type 0 where
+  pub count : failed ≡ failures (entriesFrom h s 0 (h .count))
+  pub bytes : after ≡ bytesOf (entriesFrom h s 0 (h .count)) ++ drop (4 * h .count) out

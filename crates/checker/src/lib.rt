@@ -14,9 +14,11 @@ ghost use lib.Dec.{eqb};
 ghost use lib.ListN.{length, drop};
 ghost use Rattle.quantity.specs.Range.{modulus};
 ghost use Rattle.layout.specs.Layout.{pack, unpack, Fit};
-ghost use Rattle.sheet.specs.Refusals.{toldOutcome, toldRecord};
+ghost use Rattle.sheet.specs.Refusals.{toldOutcome, toldHeader, toldRecord};
 ghost use Rattle.sheet.specs.Writes.{Writes};
 ghost use Rattle.checker.specs.Entry.{verdictWidths, entryValues, entryAt, entryFault, toldEntry, readEntry, writeEntry};
+ghost use Rattle.checker.specs.Check.{headerFor, recordPart, recordOf, partsFrom, soundAfter, recordsIn, failing as failingOf, Checks};
+ghost use Rattle.checker.specs.Passes.{plain, entryBy, Accepted, Judges};
 
 // One verdict as it stands in the output, with the id of its record.
 pub struct Entry {
@@ -104,4 +106,145 @@ pub fn write_verdict(e: Entry, out: &mut [u8]) -> Outcome
     }
     layout::write_half(out, number_of(e));
     Outcome::Fine
+}
+
+// Refusals 1 to 5: the header of the sheet, for an output of so many bytes.
+fn header_for(sheet: &[u8], room: usize) -> HeaderRead
+    ensures { λ r. ⌜ toldHeader r ≡ headerFor (now (sheet .entry)) room ⌝ }
+{
+    let read = header::read_header(sheet);
+    match read {
+        HeaderRead::Refused(x) => HeaderRead::Refused(x),
+        HeaderRead::Good(h) => {
+            let n = h.count as usize;
+            if sheet.len() != 12 + 16 * n {
+                return HeaderRead::Refused(Refusal::SheetLength);
+            }
+            if room < 4 * n {
+                return HeaderRead::Refused(Refusal::OutputShort);
+            }
+            HeaderRead::Good(h)
+        }
+    }
+}
+
+fn record_at(sheet: &[u8], i: u16) -> RecordRead
+    requires { ⌜ 12 + 16 * i + 16 ≤ length (now sheet) ⌝ }
+    ensures { λ r. ⌜ toldRecord r ≡ recordOf (now (sheet .entry)) i ⌝ }
+{
+    let at = 12 + 16 * (i as usize);
+    let end = at + 16;
+    record::read_record_as(&sheet[at..end], i)
+}
+
+// Refusals 6 to 8 of record i, after a record with the id `before`.
+fn sound_after(sheet: &[u8], i: u16, before: u16) -> RecordRead
+    requires { ⌜ 12 + 16 * i + 16 ≤ length (now sheet) ⌝ }
+    ensures { λ r. ⌜ toldRecord r ≡ soundAfter i before (recordPart (now (sheet .entry)) i) ⌝ }
+{
+    let read = record_at(sheet, i);
+    match read {
+        RecordRead::Refused(x) => RecordRead::Refused(x),
+        RecordRead::Good(r) => {
+            if r.id <= before {
+                return RecordRead::Refused(Refusal::Order(i as u32));
+            }
+            RecordRead::Good(r)
+        }
+    }
+}
+
+// The first pass: the first fault in the n records of the sheet.
+fn records_fault(sheet: &[u8], n: u16) -> Outcome
+    requires { ⌜ length (now sheet) ≡ 12 + 16 * n ⌝ }
+    ensures { λ r. ⌜ toldOutcome r ≡ plain (recordsIn 0 0 (partsFrom (now (sheet .entry)) 0 n)) ⌝ }
+{
+    // Ids are at least 1, so that the first record's is above this one.
+    let mut before: u16 = 0;
+    let mut i: u16 = 0;
+    while i < n {
+        match sound_after(sheet, i, before) {
+            RecordRead::Refused(x) => {
+                return Outcome::Refused(x);
+            }
+            RecordRead::Good(r) => {
+                before = r.id;
+            }
+        }
+        i += 1;
+    }
+    Outcome::Fine
+}
+
+// What stands where there is no verdict. In a sheet that the first pass has found sound there always is one.
+const BLANK: Entry = Entry {
+    id: 0,
+    rule: 0,
+    required: 0,
+};
+
+// The verdict on record i.
+fn entry_at(h: Header, sheet: &[u8], i: u16) -> Entry
+    requires { ⌜ 12 + 16 * i + 16 ≤ length (now sheet) ⌝ }
+    ensures { λ e. ⌜ e ≡ entryBy h (recordOf (now (sheet .entry)) i) ⌝ }
+{
+    let read = record_at(sheet, i);
+    let RecordRead::Good(r) = read else {
+        return BLANK;
+    };
+    let judged = hull::judge(h, r);
+    let Judged::Verdict(v) = judged else {
+        return BLANK;
+    };
+    Entry {
+        id: r.id,
+        rule: v.rule,
+        required: v.required,
+    }
+}
+
+fn failing(e: Entry) -> u16
+    ensures { λ r. ⌜ (r ≡ failingOf e) × (r ≤ 1) ⌝ }
+{
+    if e.rule == 0 { 0 } else { 1 }
+}
+
+// The second pass: each record's verdict into its own four bytes of the output. The answer is how many have a rule.
+fn judge_all(h: Header, sheet: &[u8], out: &mut [u8]) -> u16
+    requires { ⌜ Accepted (now sheet) h (length (now out)) ⌝ }
+    ensures { λ r. ⌜ Judges h (now (sheet .entry)) (now (out .entry)) r (now (out .exit)) ⌝ }
+{
+    let n = h.count;
+    let mut failed: u16 = 0;
+    let mut i: u16 = 0;
+    while i < n {
+        let e = entry_at(h, sheet, i);
+        let at = 4 * (i as usize);
+        let end = at + 4;
+        write_verdict(e, &mut out[at..end]);
+        failed += failing(e);
+        i += 1;
+    }
+    failed
+}
+
+// The whole sheet. A refusal leaves the output as it was lent; else each record's verdict stands in its own four bytes, and no other byte is touched.
+pub fn check(sheet: &[u8], out: &mut [u8]) -> Checked
+    ensures { λ r. ⌜ Checks (now (sheet .entry)) (now (out .entry)) r (now (out .exit)) ⌝ }
+{
+    let read = header_for(sheet, out.len());
+    let h = match read {
+        HeaderRead::Refused(x) => {
+            return Checked::Refused(x);
+        }
+        HeaderRead::Good(h) => h,
+    };
+    let found = records_fault(sheet, h.count);
+    match found {
+        Outcome::Refused(x) => Checked::Refused(x),
+        Outcome::Fine => {
+            let failed = judge_all(h, sheet, out);
+            Checked::Done { n: h.count, failed }
+        }
+    }
 }
