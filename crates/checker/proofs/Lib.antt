@@ -1,3 +1,4 @@
 mod Answers
 mod First
 mod Second
+mod Whole

@@ -130,9 +130,10 @@ module _ (s out : List ℕ) (t : Sheet) (given-t : sheetIn s (length out) ≡ gi
   whole : Whole s (length out) t
   whole = sheet-whole s (length out) t given-t
 
-  output : outputOf s out ≡ bytesOf (verdicts t) ++ drop (4 * t .header .count) out
+  -- the output is the verdicts, and then the bytes as they were lent
+  pub output-done : outputOf s out ≡ bytesOf (verdicts t) ++ drop (4 * t .header .count) out
   unfolding outputOf
-  output = ap (λ (a : Answer Sheet). outputBy a out) given-t
+  output-done = ap (λ (a : Answer Sheet). outputBy a out) given-t
 
   -- each record of the sheet is read as a record
   pub record-given : (i : ℕ) → i < t .header .count → (r : Record) × (recordOf s i ≡ given r)
@@ -146,7 +147,7 @@ module _ (s out : List ℕ) (t : Sheet) (given-t : sheetIn s (length out) ≡ gi
   unfolding verdicts
   verdict-at i l r e =
       let m : 0 + i ≡ i = omega arith in
-      ap (λ (o : List ℕ). take 4 (drop (4 * i) o)) output
+      ap (λ (o : List ℕ). take 4 (drop (4 * i) o)) output-done
       ∙ bytes-at (t .header) s (drop (4 * t .header .count) out) 0 0 (t .records) (whole .records) i (omega (arith, whole .number)) r (ap (recordOf s) m ∙ e)
 
   -- and are read back as that verdict
@@ -163,7 +164,7 @@ module _ (s out : List ℕ) (t : Sheet) (given-t : sheetIn s (length out) ≡ gi
   -- every byte past the verdicts is as it was lent
   pub rest-as-lent : drop (4 * t .header .count) (outputOf s out) ≡ drop (4 * t .header .count) out
   rest-as-lent =
-      ap (drop (4 * t .header .count)) output
+      ap (drop (4 * t .header .count)) output-done
       ∙ drop-at (bytesOf (verdicts t)) (drop (4 * t .header .count) out) (4 * t .header .count) (bytes-length (verdicts t) ∙ ap (λ (k : ℕ). 4 * k) verdicts-count)
 
   -- the answer is n and how many verdicts have a rule
