@@ -176,3 +176,14 @@ module _ (s out : List ℕ) (t : Sheet) (given-t : sheetIn s (length out) ≡ gi
 pub refused-as-lent : (s out : List ℕ) (k p : ℕ) → sheetIn s (length out) ≡ refused k p → outputOf s out ≡ out
 unfolding outputOf
 refused-as-lent s out k p e = ap (λ (a : Answer Sheet). outputBy a out) e
+
+-- a check that is not refused has given its header
+pub answer-sheet : (s : List ℕ) (room : ℕ) (w : Totals) → answerOf s room ≡ given w → (t : Sheet) × (sheetIn s room ≡ given t) × (w ≡ record { n = t .header .count; failed = failures (verdicts t) })
+unfolding answerOf
+answer-sheet s room w e = let a = then-given (sheetIn s room) _ w e in (a .0, a .1, sym (given-same (a .2)))
+
+-- and room for n verdicts
+pub answer-room : (s : List ℕ) (room : ℕ) (w : Totals) → answerOf s room ≡ given w → 4 * w .n ≤ room
+answer-room s room w e =
+    let a = answer-sheet s room w e in
+    omega (arith, sheet-whole s room (a .0) (a .1) .header .fits, ap (λ (x : Totals). x .n) (a .2))

@@ -4,3 +4,5 @@ pub mod Check
 pub mod Passes
 pub mod Sound
 pub mod CheckLaws
+pub mod Only
+pub mod Longer

@@ -46,7 +46,7 @@ loop-again c =
     let f = failures-turn (h .count) h s (l .i) (turn .loop-test .taken) e (at-entry .entry-at .ensures) in (
       search needs,
       search needs,
-      c .before .before .out .given .1 ∙ l .inv .2,
+      omega (arith, c .before .before .out .given .1, l .inv .2),
       omega (arith, f, c .failing .ensures .0, l .inv .3),
       bytes-turn (h .count) h s (l .i) (turn .loop-test .taken) e (at-entry .entry-at .ensures) (l .out) _ (at-write .write-verdict .last .1 .0) refl fine (at-write .write-verdict .ensures .bytes) (omega (arith, l .inv .2, start .pre .fits)) ∙ l .inv .4,
     )
