@@ -32,7 +32,7 @@ plain-given (refused k p) e = given-refused (sym e)
 
 -- the entry of a sound record is the verdict on it
 entry-judged : (h : Header) (r : Record) → Sound h r → entryBy h (given r) ≡ entryOf h r
-unfolding entryOf
+unfolding entryOf entryBy
 entry-judged h r s = ap (judgedEntry (r .id)) (sound-given h r (verdict h r) s)
 
 entries-taken : (h : Header) (s : List ℕ) (i before : ℕ) (rs : List Record) → headerFault h 0 ≡ 0 → Taken s i before rs → entriesFrom h s i (length rs) ≡ map (entryOf h) rs

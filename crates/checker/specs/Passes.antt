@@ -28,7 +28,7 @@ judgedEntry id (given v) = record { id = id; rule = v .rule; required = v .requi
 judgedEntry id (refused k p) = blank
 
 -- the entry of a record as it is read
-abbrev pub entryBy : Header → Answer Record → Entry
+unfoldable pub entryBy : Header → Answer Record → Entry
 entryBy h (given r) = judgedEntry (r .id) (judgedBy h r (verdict h r))
 entryBy h (refused k p) = blank
 

@@ -15,6 +15,7 @@ ghost use lib.ListN.{length, drop};
 ghost use Rattle.quantity.specs.Range.{modulus};
 ghost use Rattle.layout.specs.Layout.{pack, unpack, Fit};
 ghost use Rattle.sheet.specs.Refusals.{toldOutcome, toldHeader, toldRecord};
+ghost use Rattle.sheet.specs.Record.{readRecord};
 ghost use Rattle.sheet.specs.Writes.{Writes};
 ghost use Rattle.checker.specs.Entry.{verdictWidths, entryValues, entryAt, entryFault, toldEntry, readEntry, writeEntry};
 ghost use Rattle.checker.specs.Check.{headerFor, recordPart, recordOf, partsFrom, soundAfter, recordsIn, failing as failingOf, Checks};
@@ -38,6 +39,13 @@ pub enum Checked {
     Done { n: u16, failed: u16 },
     Refused(Refusal),
 }
+
+// How many bytes each takes.
+const HEADER: usize = 12;
+
+const RECORD: usize = 16;
+
+const VERDICT: usize = 4;
 
 const P19: u32 = 524288;
 
@@ -81,7 +89,7 @@ fn number_of(e: Entry) -> u32
 pub fn read_verdict(s: &[u8]) -> EntryRead
     ensures { λ r. ⌜ toldEntry r ≡ readEntry (now (s .entry)) ⌝ }
 {
-    if s.len() < 4 {
+    if s.len() < VERDICT {
         return EntryRead::Refused(Refusal::SheetShort);
     }
     let n = layout::read_half(s);
@@ -97,7 +105,7 @@ pub fn read_verdict(s: &[u8]) -> EntryRead
 pub fn write_verdict(e: Entry, out: &mut [u8]) -> Outcome
     ensures { λ r. ⌜ Writes (writeEntry e (now (out .entry))) (toldOutcome r) (now (out .exit)) ⌝ }
 {
-    if out.len() < 4 {
+    if out.len() < VERDICT {
         return Outcome::Refused(Refusal::OutputShort);
     }
     let f = fault(e, 0);
@@ -117,10 +125,10 @@ fn header_for(sheet: &[u8], room: usize) -> HeaderRead
         HeaderRead::Refused(x) => HeaderRead::Refused(x),
         HeaderRead::Good(h) => {
             let n = h.count as usize;
-            if sheet.len() != 12 + 16 * n {
+            if sheet.len() != HEADER + RECORD * n {
                 return HeaderRead::Refused(Refusal::SheetLength);
             }
-            if room < 4 * n {
+            if room < VERDICT * n {
                 return HeaderRead::Refused(Refusal::OutputShort);
             }
             HeaderRead::Good(h)
@@ -128,21 +136,11 @@ fn header_for(sheet: &[u8], room: usize) -> HeaderRead
     }
 }
 
-fn record_at(sheet: &[u8], i: u16) -> RecordRead
-    requires { ⌜ 12 + 16 * i + 16 ≤ length (now sheet) ⌝ }
-    ensures { λ r. ⌜ toldRecord r ≡ recordOf (now (sheet .entry)) i ⌝ }
+// Refusals 6 to 8 of record i, in its sixteen bytes, after a record with the id `before`.
+fn sound_after(bytes: &[u8], i: u16, before: u16) -> RecordRead
+    ensures { λ r. ⌜ toldRecord r ≡ soundAfter i before (now (bytes .entry)) ⌝ }
 {
-    let at = 12 + 16 * (i as usize);
-    let end = at + 16;
-    record::read_record_as(&sheet[at..end], i)
-}
-
-// Refusals 6 to 8 of record i, after a record with the id `before`.
-fn sound_after(sheet: &[u8], i: u16, before: u16) -> RecordRead
-    requires { ⌜ 12 + 16 * i + 16 ≤ length (now sheet) ⌝ }
-    ensures { λ r. ⌜ toldRecord r ≡ soundAfter i before (recordPart (now (sheet .entry)) i) ⌝ }
-{
-    let read = record_at(sheet, i);
+    let read = record::read_record_as(bytes, i);
     match read {
         RecordRead::Refused(x) => RecordRead::Refused(x),
         RecordRead::Good(r) => {
@@ -154,6 +152,15 @@ fn sound_after(sheet: &[u8], i: u16, before: u16) -> RecordRead
     }
 }
 
+fn sound_at(sheet: &[u8], i: u16, before: u16) -> RecordRead
+    requires { ⌜ 12 + 16 * i + 16 ≤ length (now sheet) ⌝ }
+    ensures { λ r. ⌜ toldRecord r ≡ soundAfter i before (recordPart (now (sheet .entry)) i) ⌝ }
+{
+    let from = HEADER + RECORD * (i as usize);
+    let to = from + RECORD;
+    sound_after(&sheet[from..to], i, before)
+}
+
 // The first pass: the first fault in the n records of the sheet.
 fn records_fault(sheet: &[u8], n: u16) -> Outcome
     requires { ⌜ length (now sheet) ≡ 12 + 16 * n ⌝ }
@@ -163,7 +170,7 @@ fn records_fault(sheet: &[u8], n: u16) -> Outcome
     let mut before: u16 = 0;
     let mut i: u16 = 0;
     while i < n {
-        match sound_after(sheet, i, before) {
+        match sound_at(sheet, i, before) {
             RecordRead::Refused(x) => {
                 return Outcome::Refused(x);
             }
@@ -183,12 +190,11 @@ const BLANK: Entry = Entry {
     required: 0,
 };
 
-// The verdict on record i.
-fn entry_at(h: Header, sheet: &[u8], i: u16) -> Entry
-    requires { ⌜ 12 + 16 * i + 16 ≤ length (now sheet) ⌝ }
-    ensures { λ e. ⌜ e ≡ entryBy h (recordOf (now (sheet .entry)) i) ⌝ }
+// The verdict on record i, in its sixteen bytes.
+fn entry_in(h: Header, bytes: &[u8], i: u16) -> Entry
+    ensures { λ e. ⌜ e ≡ entryBy h (readRecord i (now (bytes .entry))) ⌝ }
 {
-    let read = record_at(sheet, i);
+    let read = record::read_record_as(bytes, i);
     let RecordRead::Good(r) = read else {
         return BLANK;
     };
@@ -203,6 +209,15 @@ fn entry_at(h: Header, sheet: &[u8], i: u16) -> Entry
     }
 }
 
+fn entry_at(h: Header, sheet: &[u8], i: u16) -> Entry
+    requires { ⌜ 12 + 16 * i + 16 ≤ length (now sheet) ⌝ }
+    ensures { λ e. ⌜ e ≡ entryBy h (recordOf (now (sheet .entry)) i) ⌝ }
+{
+    let at = HEADER + RECORD * (i as usize);
+    let end = at + RECORD;
+    entry_in(h, &sheet[at..end], i)
+}
+
 fn failing(e: Entry) -> u16
     ensures { λ r. ⌜ (r ≡ failingOf e) × (r ≤ 1) ⌝ }
 {
@@ -214,14 +229,14 @@ fn judge_all(h: Header, sheet: &[u8], out: &mut [u8]) -> u16
     requires { ⌜ Accepted (now sheet) h (length (now out)) ⌝ }
     ensures { λ r. ⌜ Judges h (now (sheet .entry)) (now (out .entry)) r (now (out .exit)) ⌝ }
 {
-    let n = h.count;
+    let count = h.count;
     let mut failed: u16 = 0;
     let mut i: u16 = 0;
-    while i < n {
+    while i < count {
         let e = entry_at(h, sheet, i);
-        let at = 4 * (i as usize);
-        let end = at + 4;
-        write_verdict(e, &mut out[at..end]);
+        let first = VERDICT * (i as usize);
+        let past = first + VERDICT;
+        write_verdict(e, &mut out[first..past]);
         failed += failing(e);
         i += 1;
     }

@@ -25,14 +25,14 @@ returns c =
     let at-sound = c .before .before .before in
     let at-loop = at-sound .before .before in
     let a = at-loop .before .before .args in
-    fault-here (a .n) (now (a .sheet)) (at-loop .loop .i) (at-sound .before .loop-test .taken) (at-loop .loop .before) _ _ (sym (ap toldRecord (c .before .x .given .1)) ∙ at-sound .sound-after .ensures) ∙ at-loop .loop .inv .1
+    fault-here (a .n) (now (a .sheet)) (at-loop .loop .i) (at-sound .before .loop-test .taken) (at-loop .loop .before) _ _ (sym (ap toldRecord (c .before .x .given .1)) ∙ at-sound .sound-at .ensures) ∙ at-loop .loop .inv .1
 
 loop-again : tie.Need-loop-again Inv-loop μ-loop
 loop-again c =
     let at-sound = c .before .before .before in
     let at-loop = at-sound .before .before in
     let a = at-loop .before .before .args in
-    (search needs, sym (fault-next (a .n) (now (a .sheet)) (at-loop .loop .i) (at-sound .before .loop-test .taken) (at-loop .loop .before) _ (sym (ap toldRecord (c .before .r .given .1)) ∙ at-sound .sound-after .ensures)) ∙ at-loop .loop .inv .1)
+    (search needs, sym (fault-next (a .n) (now (a .sheet)) (at-loop .loop .i) (at-sound .before .loop-test .taken) (at-loop .loop .before) _ (sym (ap toldRecord (c .before .r .given .1)) ∙ at-sound .sound-at .ensures)) ∙ at-loop .loop .inv .1)
 
 returns-2 : tie.Need-returns-2 Inv-loop μ-loop
 returns-2 c =

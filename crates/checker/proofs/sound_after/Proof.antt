@@ -4,7 +4,6 @@ use borrow.Author.Needs.{needs}
 use mathlib.Core.Path.{sym, ap, _∙_}
 use denote.Ref.{now}
 use Rattle.sheet.specs.Refusals.{toldRecord}
-use Rattle.checker.specs.Check.{recordPart}
 use Rattle.checker.proofs.First.{record-refused, record-order, record-good}
 use Rattle.checker.proofs.sound_after.Statement.{statement}
 use Rattle.checker.proofs.sound_after.Tie as tie
@@ -14,20 +13,20 @@ returns c =
     let at-read = c .before .before .before in
     let at-record = at-read .before .before in
     let a = at-record .before .before .args in
-    record-order _ _ (recordPart (now (a .sheet)) (a .i)) _ (sym (ap toldRecord (at-read .read2 .given .1)) ∙ at-record .record-at .ensures) (c .if1 .taken)
+    record-order _ _ (now (a .bytes)) _ (sym (ap toldRecord (at-read .read2 .given .1)) ∙ at-record .read-record-as .ensures) (c .if1 .taken)
 
 returns-2 : tie.Need-returns-2
 returns-2 c =
     let at-record = c .before .before .before in
     let a = at-record .before .before .args in
-    record-refused _ _ (recordPart (now (a .sheet)) (a .i)) _ _ (sym (ap toldRecord (c .before .read .given .1)) ∙ at-record .record-at .ensures)
+    record-refused _ _ (now (a .bytes)) _ _ (sym (ap toldRecord (c .before .read .given .1)) ∙ at-record .read-record-as .ensures)
 
 returns-3 : tie.Need-returns-3
 returns-3 c =
     let at-read = c .before .before .before in
     let at-record = at-read .before .before in
     let a = at-record .before .before .args in
-    record-good _ _ (recordPart (now (a .sheet)) (a .i)) _ (sym (ap toldRecord (at-read .read2 .given .1)) ∙ at-record .record-at .ensures) (c .if1 .left)
+    record-good _ _ (now (a .bytes)) _ (sym (ap toldRecord (at-read .read2 .given .1)) ∙ at-record .read-record-as .ensures) (c .if1 .left)
 
 pub sound-after-spec : {M : Type 1} → statement M
 sound-after-spec =
