@@ -1,0 +1,4 @@
+mod Answers
+mod First
+mod Second
+mod Whole

@@ -1,0 +1,59 @@
+-- A sheet that is longer than any: its first 6413 bytes say all that the answer rests on, so that no more have to be read.
+-- Assumes nothing.
+use Prim.Native.Nat.{ℕ, _+_, _*_, _≤_, _<_}
+use mathlib.Core.Path.{_≡_, refl, sym, ap, _∙_}
+use mathlib.Core.List.{List}
+use native.Mathlib.Omega.{arith}
+use native.Mathlib.Decide.{decLt}
+use lib.ListN.{length, take, length-take}
+use lib.Seq.{take-all, take-take}
+use borrow.Author.Tests.{le-ltb, ne-eqb}
+use Rattle.layout.specs.Layout.{pack, bytes}
+use Rattle.sheet.specs.declared.Header.{Header}
+use Rattle.sheet.specs.Refusals.{Answer, given, refused}
+use Rattle.sheet.specs.Header.{headerIn, readHeader}
+use Rattle.sheet.specs.HeaderLaws.{header-ranges}
+use Rattle.checker.specs.Check.{_then_, demand, headerFor, Sheet, sheetIn, outputBy, outputOf, answerOf}
+use Rattle.checker.specs.Sound.{header-sound}
+
+-- one byte more than the longest sheet, 12 + 16 · 400 bytes, has
+abbrev pub enough : ℕ
+enough = 6413
+
+-- the answer to a sheet that is too long, by its header
+abbrev tooLong : Answer Header → Answer Sheet
+tooLong (given h) = refused 4 0
+tooLong (refused k p) = refused k p
+
+too-long : (s : List ℕ) (room : ℕ) (x : Answer Header) → readHeader s ≡ x → enough ≤ length s → sheetIn s room ≡ tooLong x
+unfolding sheetIn headerFor _then_ demand
+too-long s room (refused k p) e l = rw e
+too-long s room (given h) e l =
+    let few = header-ranges h 0 (header-sound s h e) .count-high in
+    let other : length s ≡ 12 + 16 * h .count → ⊥ = λ z. omega arith in
+    rw (e, ne-eqb (length s) (12 + 16 * h .count) other)
+
+header-cut : (s : List ℕ) → enough ≤ length s → readHeader (take enough s) ≡ readHeader s
+unfolding readHeader
+header-cut s l =
+    let m : 12 ≤ length (take enough s) = simp length-take (omega arith) in
+    let n : 12 ≤ length s = omega arith in
+    rw (le-ltb _ _ m, le-ltb _ _ n) (ap (λ (b : List ℕ). headerIn (pack (bytes 12) b)) (take-take 12 enough s (omega arith)))
+
+-- what is read of a sheet up to there says what the whole of it says
+sheet-cut : (s : List ℕ) (room : ℕ) → sheetIn (take enough s) room ≡ sheetIn s room
+sheet-cut s room = go (decLt (length s) enough)
+  where
+    go : Dec (length s < enough) → sheetIn (take enough s) room ≡ sheetIn s room
+    go (yes l) = ap (λ (b : List ℕ). sheetIn b room) (take-all enough s (omega arith))
+    go (no l) =
+        let h : enough ≤ length s = omega arith in
+        too-long (take enough s) room (readHeader s) (header-cut s h) (simp length-take (omega arith)) ∙ sym (too-long s room (readHeader s) refl h)
+
+pub answer-cut : (s : List ℕ) (room : ℕ) → answerOf (take enough s) room ≡ answerOf s room
+unfolding answerOf
+answer-cut s room = rw (sheet-cut s room)
+
+pub output-cut : (s out : List ℕ) → outputOf (take enough s) out ≡ outputOf s out
+unfolding outputOf
+output-cut s out = ap (λ (t : Answer Sheet). outputBy t out) (sheet-cut s (length out))

@@ -1,0 +1,265 @@
+// A whole sheet and a lent output: why the sheet is turned away, or a verdict for each of its records, each in its own four bytes of the output.
+use quantity::Modulus;
+use sheet::Header;
+use sheet::HeaderRead;
+use sheet::Outcome;
+use sheet::RecordRead;
+use sheet::Refusal;
+use verdict::Judged;
+ghost use mathlib.Core.Path.{_≡_};
+ghost use mathlib.Core.Bool.{cond};
+ghost use mathlib.Core.List.{_++_};
+ghost use Prim.Native.Nat.{_+_, _*_, _≤_, _<_};
+ghost use lib.Dec.{eqb};
+ghost use lib.ListN.{length, drop};
+ghost use Rattle.quantity.specs.Range.{modulus};
+ghost use Rattle.layout.specs.Layout.{pack, unpack, Fit};
+ghost use Rattle.sheet.specs.Refusals.{toldOutcome, toldHeader, toldRecord};
+ghost use Rattle.sheet.specs.Record.{readRecord};
+ghost use Rattle.sheet.specs.Writes.{Writes};
+ghost use Rattle.checker.specs.Entry.{verdictWidths, entryValues, entryAt, entryFault, toldEntry, readEntry, writeEntry};
+ghost use Rattle.checker.specs.Check.{headerFor, recordPart, recordOf, partsFrom, soundAfter, recordsIn, failing as failingOf, Checks};
+ghost use Rattle.checker.specs.Passes.{plain, entryBy, Accepted, Judges};
+
+// One verdict as it stands in the output, with the id of its record.
+pub struct Entry {
+    pub id: u16,
+    // 0 is a pass
+    pub rule: u8,
+    // 0 on a pass, and where nothing in the gauge will do
+    pub required: u32,
+}
+
+pub enum EntryRead {
+    Good(Entry),
+    Refused(Refusal),
+}
+
+pub enum Checked {
+    Done { n: u16, failed: u16 },
+    Refused(Refusal),
+}
+
+// How many bytes each takes.
+const HEADER: usize = 12;
+
+const RECORD: usize = 16;
+
+const VERDICT: usize = 4;
+
+const P19: u32 = 524288;
+
+const P22: u32 = 4194304;
+
+// The most that a verdict with this rule can require: nothing on a pass, else the highest value of any gauge.
+fn most_required(rule: u8) -> u32
+    ensures { λ r. ⌜ r ≡ cond (eqb rule 0) 0 (modulus .high) ⌝ }
+{
+    if rule == 0 { 0 } else { Modulus::HIGH }
+}
+
+// The first field outside its values, id being 1, or 0. It goes from the last field to the first, so that the first has the last word.
+fn fault(e: Entry, spare: u32) -> u8
+    ensures { λ r. ⌜ r ≡ entryFault e spare ⌝ }
+{
+    let f = layout::fault_unless(spare, 0, 0, 4, 0);
+    let f = layout::fault_unless(e.required, 0, most_required(e.rule), 3, f);
+    let f = layout::fault_unless(e.rule as u32, 0, 6, 2, f);
+    layout::fault_unless(e.id as u32, 1, 1000, 1, f)
+}
+
+// The entry in a number, whatever its values.
+fn entry_of(n: u32) -> Entry
+    ensures { λ r. ⌜ r ≡ entryAt (unpack verdictWidths n) ⌝ }
+{
+    let id = (n / P22 % 1024) as u16;
+    let rule = (n / P19 % 8) as u8;
+    let required = n / 4 % 131072;
+    Entry { id, rule, required }
+}
+
+fn number_of(e: Entry) -> u32
+    requires { ⌜ Fit verdictWidths (entryValues e 0) ⌝ }
+    ensures { λ r. ⌜ r ≡ pack verdictWidths (entryValues e 0) ⌝ }
+{
+    (e.id as u32) * P22 + (e.rule as u32) * P19 + e.required * 4
+}
+
+// The verdict in the first four bytes, or why there is none.
+pub fn read_verdict(s: &[u8]) -> EntryRead
+    ensures { λ r. ⌜ toldEntry r ≡ readEntry (now (s .entry)) ⌝ }
+{
+    if s.len() < VERDICT {
+        return EntryRead::Refused(Refusal::SheetShort);
+    }
+    let n = layout::read_half(s);
+    let e = entry_of(n);
+    let f = fault(e, n % 4);
+    if f == 0 {
+        return EntryRead::Good(e);
+    }
+    EntryRead::Refused(Refusal::Field(f as u32))
+}
+
+// The verdict into the first four bytes, or why not.
+pub fn write_verdict(e: Entry, out: &mut [u8]) -> Outcome
+    ensures { λ r. ⌜ Writes (writeEntry e (now (out .entry))) (toldOutcome r) (now (out .exit)) ⌝ }
+{
+    if out.len() < VERDICT {
+        return Outcome::Refused(Refusal::OutputShort);
+    }
+    let f = fault(e, 0);
+    if f != 0 {
+        return Outcome::Refused(Refusal::Field(f as u32));
+    }
+    layout::write_half(out, number_of(e));
+    Outcome::Fine
+}
+
+// Refusals 1 to 5: the header of the sheet, for an output of so many bytes.
+fn header_for(sheet: &[u8], room: usize) -> HeaderRead
+    ensures { λ r. ⌜ toldHeader r ≡ headerFor (now (sheet .entry)) room ⌝ }
+{
+    let read = header::read_header(sheet);
+    match read {
+        HeaderRead::Refused(x) => HeaderRead::Refused(x),
+        HeaderRead::Good(h) => {
+            let n = h.count as usize;
+            if sheet.len() != HEADER + RECORD * n {
+                return HeaderRead::Refused(Refusal::SheetLength);
+            }
+            if room < VERDICT * n {
+                return HeaderRead::Refused(Refusal::OutputShort);
+            }
+            HeaderRead::Good(h)
+        }
+    }
+}
+
+// Refusals 6 to 8 of record i, in its sixteen bytes, after a record with the id `before`.
+fn sound_after(bytes: &[u8], i: u16, before: u16) -> RecordRead
+    ensures { λ r. ⌜ toldRecord r ≡ soundAfter i before (now (bytes .entry)) ⌝ }
+{
+    let read = record::read_record_as(bytes, i);
+    match read {
+        RecordRead::Refused(x) => RecordRead::Refused(x),
+        RecordRead::Good(r) => {
+            if r.id <= before {
+                return RecordRead::Refused(Refusal::Order(i as u32));
+            }
+            RecordRead::Good(r)
+        }
+    }
+}
+
+fn sound_at(sheet: &[u8], i: u16, before: u16) -> RecordRead
+    requires { ⌜ 12 + 16 * i + 16 ≤ length (now sheet) ⌝ }
+    ensures { λ r. ⌜ toldRecord r ≡ soundAfter i before (recordPart (now (sheet .entry)) i) ⌝ }
+{
+    let from = HEADER + RECORD * (i as usize);
+    let to = from + RECORD;
+    sound_after(&sheet[from..to], i, before)
+}
+
+// The first pass: the first fault in the n records of the sheet.
+fn records_fault(sheet: &[u8], n: u16) -> Outcome
+    requires { ⌜ length (now sheet) ≡ 12 + 16 * n ⌝ }
+    ensures { λ r. ⌜ toldOutcome r ≡ plain (recordsIn 0 0 (partsFrom (now (sheet .entry)) 0 n)) ⌝ }
+{
+    // Ids are at least 1, so that the first record's is above this one.
+    let mut before: u16 = 0;
+    let mut i: u16 = 0;
+    while i < n {
+        match sound_at(sheet, i, before) {
+            RecordRead::Refused(x) => {
+                return Outcome::Refused(x);
+            }
+            RecordRead::Good(r) => {
+                before = r.id;
+            }
+        }
+        i += 1;
+    }
+    Outcome::Fine
+}
+
+// What stands where there is no verdict. In a sheet that the first pass has found sound there always is one.
+const BLANK: Entry = Entry {
+    id: 0,
+    rule: 0,
+    required: 0,
+};
+
+// The verdict on record i, in its sixteen bytes.
+fn entry_in(h: Header, bytes: &[u8], i: u16) -> Entry
+    ensures { λ e. ⌜ e ≡ entryBy h (readRecord i (now (bytes .entry))) ⌝ }
+{
+    let read = record::read_record_as(bytes, i);
+    let RecordRead::Good(r) = read else {
+        return BLANK;
+    };
+    let judged = hull::judge(h, r);
+    let Judged::Verdict(v) = judged else {
+        return BLANK;
+    };
+    Entry {
+        id: r.id,
+        rule: v.rule,
+        required: v.required,
+    }
+}
+
+fn entry_at(h: Header, sheet: &[u8], i: u16) -> Entry
+    requires { ⌜ 12 + 16 * i + 16 ≤ length (now sheet) ⌝ }
+    ensures { λ e. ⌜ e ≡ entryBy h (recordOf (now (sheet .entry)) i) ⌝ }
+{
+    let at = HEADER + RECORD * (i as usize);
+    let end = at + RECORD;
+    entry_in(h, &sheet[at..end], i)
+}
+
+fn failing(e: Entry) -> u16
+    ensures { λ r. ⌜ (r ≡ failingOf e) × (r ≤ 1) ⌝ }
+{
+    if e.rule == 0 { 0 } else { 1 }
+}
+
+// The second pass: each record's verdict into its own four bytes of the output. The answer is how many have a rule.
+fn judge_all(h: Header, sheet: &[u8], out: &mut [u8]) -> u16
+    requires { ⌜ Accepted (now sheet) h (length (now out)) ⌝ }
+    ensures { λ r. ⌜ Judges h (now (sheet .entry)) (now (out .entry)) r (now (out .exit)) ⌝ }
+{
+    let count = h.count;
+    let mut failed: u16 = 0;
+    let mut i: u16 = 0;
+    while i < count {
+        let e = entry_at(h, sheet, i);
+        let first = VERDICT * (i as usize);
+        let past = first + VERDICT;
+        write_verdict(e, &mut out[first..past]);
+        failed += failing(e);
+        i += 1;
+    }
+    failed
+}
+
+// The whole sheet. A refusal leaves the output as it was lent; else each record's verdict stands in its own four bytes, and no other byte is touched.
+pub fn check(sheet: &[u8], out: &mut [u8]) -> Checked
+    ensures { λ r. ⌜ Checks (now (sheet .entry)) (now (out .entry)) r (now (out .exit)) ⌝ }
+{
+    let read = header_for(sheet, out.len());
+    let h = match read {
+        HeaderRead::Refused(x) => {
+            return Checked::Refused(x);
+        }
+        HeaderRead::Good(h) => h,
+    };
+    let found = records_fault(sheet, h.count);
+    match found {
+        Outcome::Refused(x) => Checked::Refused(x),
+        Outcome::Fine => {
+            let failed = judge_all(h, sheet, out);
+            Checked::Done { n: h.count, failed }
+        }
+    }
+}
