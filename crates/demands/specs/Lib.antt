@@ -1,0 +1,3 @@
+pub mod Replace
+pub mod Raise
+pub mod Third
