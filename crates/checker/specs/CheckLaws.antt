@@ -56,7 +56,7 @@ header-fits s room h e =
 
 -- ---- refusals 6 to 8 do not arise
 
-sound-read : (i before : ℕ) (b : List ℕ) (r : Record) → soundAfter i before b ≡ given r → (readRecord i b ≡ given r) × (before < r .id)
+pub sound-read : (i before : ℕ) (b : List ℕ) (r : Record) → soundAfter i before b ≡ given r → (readRecord i b ≡ given r) × (before < r .id)
 unfolding soundAfter
 sound-read i before b r e =
     let a = then-given (readRecord i b) _ r e in

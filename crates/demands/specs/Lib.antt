@@ -1,3 +1,4 @@
 pub mod Replace
 pub mod Raise
+pub mod First
 pub mod Third
