@@ -1,12 +1,12 @@
--- `barge::main` is safe and ends: a check that is not refused has found room for its verdicts.
+-- `report::print_answer` is safe and ends: a check that is not refused has found room for its verdicts.
 -- Assumes nothing.
 use borrow.Author.Needs.{needs}
 use native.Mathlib.Omega.{arith}
 use mathlib.Core.Path.{sym, ap, _∙_}
 use Rattle.checker.specs.Check.{toldChecked}
 use Rattle.checker.specs.CheckLaws.{answer-room}
-use Rattle.barge.proofs.main.Statement.{statement}
-use Rattle.barge.proofs.main.Tie as tie
+use Rattle.report.proofs.print_answer.Statement.{statement}
+use Rattle.report.proofs.print_answer.Tie as tie
 
 print-verdicts-requires : tie.Need-print-verdicts-requires
 print-verdicts-requires c κs =
@@ -15,14 +15,10 @@ print-verdicts-requires c κs =
     let room = answer-room _ _ _ (sym (at-check .check .ensures .answer) ∙ ap toldChecked (at-checked .checked2 .given .1)) in
     omega arith
 
-pub main-spec : {M : Type 1} → statement M
-main-spec =
+pub print-answer-spec : {M : Type 1} → statement M
+print-answer-spec =
     tie.close
     (tie.spec
-    (λ c. search needs)
-    (λ c κs. search needs)
-    (λ c. search needs)
-    (λ c. search needs)
     (λ c. search needs)
     (λ c κs. search needs)
     (λ c. search needs)

@@ -1,9 +1,9 @@
--- `barge::print_verdicts` is safe and ends.
+-- `report::print_verdicts` is safe and ends.
 -- Assumes nothing.
 use borrow.Author.Needs.{needs}
 use Prim.Native.Nat.{_-_}
-use Rattle.barge.proofs.print_verdicts.Statement.{statement}
-use Rattle.barge.proofs.print_verdicts.Tie as tie
+use Rattle.report.proofs.print_verdicts.Statement.{statement}
+use Rattle.report.proofs.print_verdicts.Tie as tie
 
 abbrev Inv-loop : tie.InvT-loop
 Inv-loop out n i₀ i = Unit

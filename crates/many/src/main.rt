@@ -1,0 +1,50 @@
+// Checks many sheets in one run. On standard input each sheet stands behind its length in four bytes, most significant first; for each it prints what
+// `barge` prints and then an empty line. A stream that ends early, or a length above 65,536, prints `broken` and ends it.
+use libc::STDIN_FILENO;
+use libc::STDOUT_FILENO;
+
+fn broken() {
+    io::write_all(STDOUT_FILENO, b"broken\n");
+}
+
+// The sheet of so many bytes that comes next, or false where it does not come whole.
+fn one_sheet(space: &mut [u8], n: usize) -> bool {
+    if space.len() < n {
+        return false;
+    }
+    let got = io::read_full(STDIN_FILENO, &mut space[0..n]);
+    if got < n {
+        return false;
+    }
+    report::print_answer(&space[0..n]);
+    io::write_all(STDOUT_FILENO, b"\n");
+    true
+}
+
+// One sheet of the stream, or false at its end.
+fn turn(space: &mut [u8]) -> bool {
+    let mut head = [0u8; 4];
+    let got = io::read_full(STDIN_FILENO, &mut head);
+    if got == 0 {
+        return false;
+    }
+    let n = layout::read_half(&head) as usize;
+    if got < 4 || 65536 < n {
+        broken();
+        return false;
+    }
+    if one_sheet(space, n) {
+        return true;
+    }
+    broken();
+    false
+}
+
+fn main() {
+    let mut space = [0u8; 65536];
+    for _ in 0..4294967296usize {
+        if !turn(&mut space) {
+            return;
+        }
+    }
+}
