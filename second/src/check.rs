@@ -1,0 +1,115 @@
+//! A whole sheet: turned away for the first reason of the table, or judged
+//! record by record.
+
+use crate::form::{Form, HEADER_BYTES, RECORD_BYTES, VERDICT, VERDICT_BYTES};
+use crate::rules::demands;
+use crate::sheet::{read_header, read_record, Header, Record};
+
+#[derive(Clone, Copy, Debug, PartialEq, Eq)]
+pub struct Refusal {
+    pub number: usize,
+    pub place: usize,
+}
+
+impl Refusal {
+    pub fn new(number: usize, place: usize) -> Refusal {
+        Refusal { number, place }
+    }
+}
+
+/// What a check that isn't refused gives.
+#[derive(Clone, Copy, Debug, PartialEq, Eq)]
+pub struct Outcome {
+    pub n: usize,
+    pub failures: usize,
+}
+
+/// Rule 0 is a pass; required is 0 on a pass and where nothing in the gauge will do.
+#[derive(Clone, Copy, Debug, PartialEq, Eq)]
+pub struct Verdict {
+    pub id: i128,
+    pub rule: i128,
+    pub required: i128,
+}
+
+impl Verdict {
+    pub fn pack(&self) -> Vec<u8> {
+        let fields = [
+            ("id", self.id),
+            ("rule", self.rule),
+            ("required", self.required),
+        ];
+        Form::filled(VERDICT, &fields).pack()
+    }
+
+    pub fn unpack(bytes: &[u8]) -> Verdict {
+        let form = Form::unpack(VERDICT, bytes);
+        Verdict {
+            id: form.get("id"),
+            rule: form.get("rule"),
+            required: form.get("required"),
+        }
+    }
+}
+
+/// Names the first rule, in their order, that the record fails.
+pub fn judge(header: &Header, record: &Record) -> Verdict {
+    let id = record.id();
+    for demand in demands(header, record) {
+        if !demand.is_met() {
+            return Verdict {
+                id,
+                rule: demand.rule,
+                required: demand.least().unwrap_or(0),
+            };
+        }
+    }
+    Verdict {
+        id,
+        rule: 0,
+        required: 0,
+    }
+}
+
+/// Reads the whole sheet or refuses it; the steps stand in the order of the table.
+fn read_all(sheet: &[u8], output_bytes: usize) -> Result<(Header, Vec<Record>), Refusal> {
+    let header = read_header(sheet)?;
+    let n = header.n as usize;
+    if sheet.len() != HEADER_BYTES + RECORD_BYTES * n {
+        return Err(Refusal::new(4, 0));
+    }
+    if output_bytes < VERDICT_BYTES * n {
+        return Err(Refusal::new(5, 0));
+    }
+    let mut records: Vec<Record> = Vec::new();
+    let places = sheet[HEADER_BYTES..].chunks(RECORD_BYTES);
+    for (index, bytes) in places.enumerate() {
+        let record = read_record(bytes, index)?;
+        if let Some(before) = records.last() {
+            if record.id() <= before.id() {
+                return Err(Refusal::new(8, index));
+            }
+        }
+        records.push(record);
+    }
+    Ok((header, records))
+}
+
+/// Checks a sheet and writes one verdict per record into `output`. All records
+/// are read before the first verdict is written, so a refused sheet leaves the
+/// output as it was.
+pub fn check(sheet: &[u8], output: &mut [u8]) -> Result<Outcome, Refusal> {
+    let (header, records) = read_all(sheet, output.len())?;
+    let mut failures = 0;
+    for (record, place) in records.iter().zip(output.chunks_mut(VERDICT_BYTES)) {
+        let verdict = judge(&header, record);
+        place.copy_from_slice(&verdict.pack());
+        if verdict.rule != 0 {
+            failures += 1;
+        }
+    }
+    Ok(Outcome {
+        n: records.len(),
+        failures,
+    })
+}

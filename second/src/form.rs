@@ -1,0 +1,119 @@
+//! The layouts of the document ("The sheet, bit by bit") and a form filled in
+//! after one of them. A form holds whatever its bits can hold; which values
+//! are allowed is another subject (`limits`).
+
+use crate::bits::{BitReader, BitWriter};
+
+/// Field names with their widths in bits, in layout order.
+pub type Layout = &'static [(&'static str, u32)];
+
+pub const HEADER: Layout = &[
+    ("version", 4),
+    ("L", 14),
+    ("D0", 10),
+    ("H", 8),
+    ("runs", 1),
+    ("M", 20),
+    ("ZB", 27),
+    ("n", 9),
+    ("zero", 3),
+];
+
+pub const PLATE: Layout = &[
+    ("kind", 4),
+    ("id", 10),
+    ("K", 10),
+    ("z", 10),
+    ("S", 12),
+    ("T", 12),
+    ("b1", 10),
+    ("b2", 10),
+    ("ballast", 1),
+    ("zL", 11),
+    ("cargo", 18),
+    ("zero", 20),
+];
+
+pub const MEMBER: Layout = &[
+    ("kind", 4),
+    ("id", 10),
+    ("z", 10),
+    ("S", 12),
+    ("l", 10),
+    ("T", 12),
+    ("beta_b", 7),
+    ("beta_s", 7),
+    ("eta", 7),
+    ("sigma1", 8),
+    ("W", 17),
+    ("A", 14),
+    ("K", 10),
+];
+
+pub const VERDICT: Layout = &[("id", 10), ("rule", 3), ("required", 17), ("zero", 2)];
+
+pub const HEADER_BYTES: usize = 12;
+pub const RECORD_BYTES: usize = 16;
+pub const VERDICT_BYTES: usize = 4;
+
+/// The layout a record of this kind has; none for a kind that does not exist.
+pub fn record_layout(kind: i128) -> Option<Layout> {
+    match kind {
+        1..=4 => Some(PLATE),
+        5..=8 => Some(MEMBER),
+        _ => None,
+    }
+}
+
+/// The place of a field in its layout, counted from 1 as refusals count.
+pub fn field_number(layout: Layout, name: &str) -> usize {
+    let index = layout.iter().position(|field| field.0 == name);
+    index.unwrap_or_else(|| panic!("no field {name}")) + 1
+}
+
+#[derive(Clone, Debug, PartialEq, Eq)]
+pub struct Form {
+    pub layout: Layout,
+    pub values: Vec<i128>,
+}
+
+impl Form {
+    /// A form with every field 0.
+    pub fn blank(layout: Layout) -> Form {
+        Form {
+            layout,
+            values: vec![0; layout.len()],
+        }
+    }
+
+    /// A blank form with the named fields filled in.
+    pub fn filled(layout: Layout, fields: &[(&str, i128)]) -> Form {
+        let mut form = Form::blank(layout);
+        for (name, value) in fields {
+            form.set(name, *value);
+        }
+        form
+    }
+
+    pub fn get(&self, name: &str) -> i128 {
+        self.values[field_number(self.layout, name) - 1]
+    }
+
+    pub fn set(&mut self, name: &str, value: i128) {
+        self.values[field_number(self.layout, name) - 1] = value;
+    }
+
+    pub fn unpack(layout: Layout, bytes: &[u8]) -> Form {
+        let mut bits = BitReader::new(bytes);
+        let values = layout.iter().map(|field| bits.take(field.1)).collect();
+        Form { layout, values }
+    }
+
+    pub fn pack(&self) -> Vec<u8> {
+        let mut bits = BitWriter::default();
+        for (field, value) in self.layout.iter().zip(&self.values) {
+            bits.put(*value, field.1);
+        }
+        bits.into_bytes()
+    }
+}

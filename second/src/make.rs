@@ -1,0 +1,143 @@
+//! Sheets made from a seed: sound ones whose scantlings stand where a rule
+//! turns, and spoilt ones for every way of being turned away. The same seed
+//! gives the same sheets everywhere.
+
+mod chance;
+mod record;
+mod spoil;
+mod vessel;
+
+use crate::form::{Form, HEADER_BYTES, RECORD_BYTES};
+use crate::limits::{ID_HIGHEST, N_HIGHEST};
+use crate::stream::LONGEST_SHEET;
+use chance::Chance;
+
+/// A sheet not yet packed, so that single fields can still be changed.
+struct Draft {
+    header: Form,
+    records: Vec<Form>,
+}
+
+impl Draft {
+    fn bytes(&self) -> Vec<u8> {
+        let mut bytes = self.header.pack();
+        for record in &self.records {
+            bytes.extend(record.pack());
+        }
+        bytes
+    }
+}
+
+/// Ids that rise strictly and end at or under the highest one.
+fn rising_ids(chance: &mut Chance, n: i128) -> Vec<i128> {
+    let widest_step = ID_HIGHEST / n.max(1);
+    let mut ids: Vec<i128> = Vec::new();
+    for _ in 0..n {
+        let step = chance.between(1, widest_step);
+        ids.push(ids.last().unwrap_or(&0) + step);
+    }
+    if let (true, Some(last)) = (chance.one_in(8), ids.last_mut()) {
+        *last = ID_HIGHEST;
+    }
+    ids
+}
+
+/// A sheet with `n` records that no check turns away.
+fn sound(chance: &mut Chance, n: i128) -> Draft {
+    let mut header = vessel::header(chance);
+    header.set("n", n);
+    let ids = rising_ids(chance, n);
+    let records = ids
+        .into_iter()
+        .map(|id| record::record(chance, &header, id));
+    let records = records.collect();
+    Draft { header, records }
+}
+
+/// Bytes of no meaning; half of them begin as a header of a few records would.
+fn noise(chance: &mut Chance) -> Vec<u8> {
+    let length = match chance.below(4) {
+        0 => chance.between(0, 11),
+        1 => 12,
+        2 => chance.between(13, 300),
+        _ => 12 + 16 * chance.between(1, 6),
+    };
+    let mut bytes: Vec<u8> = (0..length).map(|_| chance.byte()).collect();
+    if chance.one_in(2) && bytes.len() >= HEADER_BYTES {
+        let mut header = vessel::header(chance);
+        header.set("n", (length - 12) / 16);
+        bytes[..HEADER_BYTES].copy_from_slice(&header.pack());
+    }
+    bytes
+}
+
+/// A sheet with more behind its header than 400 records can fill.
+fn longer_than_any(chance: &mut Chance) -> Vec<u8> {
+    let mut draft = sound(chance, 1);
+    let too_many = N_HIGHEST + chance.between(1, 111);
+    draft.header.set("n", *chance.of(&[N_HIGHEST, too_many]));
+    let mut bytes = draft.bytes();
+    let fullest = HEADER_BYTES as i128 + RECORD_BYTES as i128 * N_HIGHEST;
+    let length = match chance.below(4) {
+        0 => fullest + 1,
+        1 => HEADER_BYTES as i128 + RECORD_BYTES as i128 * too_many,
+        2 => LONGEST_SHEET as i128,
+        _ => chance.between(fullest + 1, LONGEST_SHEET as i128),
+    };
+    let record = bytes[HEADER_BYTES..].to_vec();
+    while bytes.len() < length as usize {
+        bytes.extend_from_slice(&record);
+    }
+    bytes.truncate(length as usize);
+    bytes
+}
+
+/// Sheet after sheet, without end.
+pub fn sheets(seed: u64) -> impl Iterator<Item = Vec<u8>> {
+    let mut chance = Chance::new(seed);
+    std::iter::repeat_with(move || one(&mut chance))
+}
+
+fn one(chance: &mut Chance) -> Vec<u8> {
+    match chance.below(1000) {
+        0..5 => sound(chance, N_HIGHEST).bytes(),
+        5..7 => longer_than_any(chance),
+        7..10 => {
+            // A fault far back, so that its place is a great number.
+            let mut draft = sound(chance, N_HIGHEST);
+            spoil::last_record(chance, &mut draft);
+            draft.bytes()
+        }
+        10..30 => sound(chance, 0).bytes(),
+        30..100 => noise(chance),
+        100..250 => {
+            let n = chance.between(1, 6);
+            let mut draft = sound(chance, n);
+            spoil::field_to_an_end(chance, &mut draft);
+            draft.bytes()
+        }
+        250..450 => {
+            // More than one fault at times: the first of the table must be named.
+            let n = chance.between(1, 8);
+            let mut draft = sound(chance, n);
+            for _ in 0..*chance.of(&[1, 1, 1, 2, 3]) {
+                spoil::draft(chance, &mut draft);
+            }
+            let mut bytes = draft.bytes();
+            if chance.one_in(8) {
+                spoil::bytes(chance, &mut bytes);
+            }
+            bytes
+        }
+        450..550 => {
+            let n = chance.between(0, 8);
+            let mut bytes = sound(chance, n).bytes();
+            spoil::bytes(chance, &mut bytes);
+            bytes
+        }
+        _ => {
+            let n = chance.between(1, 12);
+            sound(chance, n).bytes()
+        }
+    }
+}

@@ -1,0 +1,93 @@
+//! Headers: vessels over the whole range, most often where something turns.
+
+use super::chance::Chance;
+use crate::form::{Form, HEADER};
+use crate::limits::VERSION;
+
+/// A header that no check turns away; its count is still to be filled in.
+pub fn header(chance: &mut Chance) -> Form {
+    let (M, ZB) = moment_and_modulus(chance);
+    let fields = [
+        ("version", VERSION),
+        ("L", length(chance)),
+        ("D0", draught(chance)),
+        ("H", *chance.of(&[0, 60, 120])),
+        ("runs", *chance.of(&[0, 0, 1])),
+        ("M", M),
+        ("ZB", ZB),
+    ];
+    Form::filled(HEADER, &fields)
+}
+
+/// Rule 4 changes its form at 12000. With round lengths and K = 1000 the roots
+/// of rules 1 and 4 come out whole, so that "at least" is tried at equality.
+fn length(chance: &mut Chance) -> i128 {
+    match chance.below(4) {
+        0 => *chance.of(&[4000, 4001, 13_499, 13_500]),
+        1 => *chance.of(&[11_999, 12_000, 12_001]),
+        2 => 250 * chance.between(16, 54),
+        _ => chance.between(4000, 13_500),
+    }
+}
+
+/// Deep draughts make floors and girders fail in shear with nothing in the
+/// gauge; odd ones make the half of 56407.5 D0 show.
+fn draught(chance: &mut Chance) -> i128 {
+    match chance.below(5) {
+        0 => *chance.of(&[1, 2, 999, 1000]),
+        1 => chance.between(850, 1000),
+        2 => *chance.of(&[100, 250, 500, 750, 1000]),
+        3 => 2 * chance.between(0, 499) + 1,
+        _ => chance.between(1, 1000),
+    }
+}
+
+fn moment_and_modulus(chance: &mut Chance) -> (i128, i128) {
+    match chance.below(9) {
+        // No hull girder stress: rules 1 and 2 decide alone.
+        0 => (0, chance.between(1, 100_000_000)),
+        1 => {
+            let R = chance.between(1, 30_000);
+            aimed_at(chance, R)
+        }
+        // R with a whole root, or 210,000 - R with one: rule 3 at equality.
+        2 => {
+            let R = *chance.of(&[
+                2500, 10_000, 40_000, 90_000, 160_000, 120_000, 170_000, 200_000,
+            ]);
+            (R, 1_000_000)
+        }
+        3 => {
+            let R = chance.between(30_000, 120_000);
+            aimed_at(chance, R)
+        }
+        // With some K this R lies right at the strict test of kind 1 or kind 2.
+        4 => {
+            let KR = *chance.of(&[121_000_000_000 / 1156, 625_000_000_000 / 6084]);
+            let R = KR / chance.between(500, 1000) + chance.between(0, 1);
+            aimed_at(chance, R)
+        }
+        // The last few R that any thickness meets, and the first that none does.
+        5 => {
+            let R = 210_000 + chance.between(-12, 3) * *chance.of(&[1, 1, 1, 20]);
+            aimed_at(chance, R)
+        }
+        // So much stress that it shows even with K2 at its cap.
+        6 => (
+            chance.between(100_000, 1_000_000),
+            chance.between(3000, 300_000),
+        ),
+        7 => (chance.between(0, 1_000_000), chance.between(1, 10_000_000)),
+        _ => {
+            let M = *chance.of(&[0, 1, 999_999, 1_000_000]);
+            (M, *chance.of(&[1, 2, 3, 99_999_999, 100_000_000]))
+        }
+    }
+}
+
+/// A moment and a modulus from 1,000,000 cm3 up that give R, as a rule after
+/// rounding up: with such a modulus one kNm moves R by at most 1.
+fn aimed_at(chance: &mut Chance, R: i128) -> (i128, i128) {
+    let ZB = chance.between(1_000_000, 4_700_000);
+    (R * ZB / 1_000_000, ZB)
+}

@@ -1,0 +1,27 @@
+//! The lines the document's program prints for one sheet.
+
+use crate::check::{check, Outcome, Refusal, Verdict};
+use crate::form::VERDICT_BYTES;
+use crate::limits::N_HIGHEST;
+
+/// Checks a sheet with room for the longest answer, so refusal 5 cannot arise.
+pub fn verdicts(sheet: &[u8]) -> Result<(Vec<Verdict>, Outcome), Refusal> {
+    let mut output = [0; VERDICT_BYTES * N_HIGHEST as usize];
+    let outcome = check(sheet, &mut output)?;
+    let written = output.chunks(VERDICT_BYTES).take(outcome.n);
+    Ok((written.map(Verdict::unpack).collect(), outcome))
+}
+
+/// `id rule required` for each record and then `n failures`, or `refused number place`.
+pub fn answer(sheet: &[u8]) -> String {
+    match verdicts(sheet) {
+        Err(Refusal { number, place }) => format!("refused {number} {place}\n"),
+        Ok((verdicts, Outcome { n, failures })) => {
+            let mut text = String::new();
+            for Verdict { id, rule, required } in verdicts {
+                text += &format!("{id} {rule} {required}\n");
+            }
+            text + &format!("{n} {failures}\n")
+        }
+    }
+}

@@ -1,0 +1,142 @@
+//! What a sheet says once its fields are known to be allowed: the header, and
+//! records that carry plate data or member data, never both.
+
+use crate::check::Refusal;
+use crate::form::{record_layout, Form, HEADER, HEADER_BYTES};
+use crate::limits::{first_fault, in_header, in_record, VERSION};
+
+#[derive(Clone, Copy, Debug, PartialEq, Eq)]
+pub struct Header {
+    pub L: i128,
+    pub D0: i128,
+    pub H: i128,
+    pub two_runs: bool,
+    pub M: i128,
+    pub ZB: i128,
+    pub n: i128,
+}
+
+#[derive(Clone, Copy, Debug, PartialEq, Eq)]
+pub struct Plate {
+    pub kind: i128,
+    pub id: i128,
+    pub K: i128,
+    pub z: i128,
+    pub S: i128,
+    pub T: i128,
+    pub b1: i128,
+    pub b2: i128,
+    pub ballast: bool,
+    pub zL: i128,
+    pub cargo: i128,
+}
+
+#[derive(Clone, Copy, Debug, PartialEq, Eq)]
+pub struct Member {
+    pub kind: i128,
+    pub id: i128,
+    pub z: i128,
+    pub S: i128,
+    pub l: i128,
+    pub T: i128,
+    pub beta_b: i128,
+    pub beta_s: i128,
+    pub eta: i128,
+    pub sigma1: i128,
+    pub W: i128,
+    pub A: i128,
+    pub K: i128,
+}
+
+#[derive(Clone, Copy, Debug, PartialEq, Eq)]
+pub enum Record {
+    Plate(Plate),
+    Member(Member),
+}
+
+impl Header {
+    pub fn of(form: &Form) -> Header {
+        Header {
+            L: form.get("L"),
+            D0: form.get("D0"),
+            H: form.get("H"),
+            two_runs: form.get("runs") == 1,
+            M: form.get("M"),
+            ZB: form.get("ZB"),
+            n: form.get("n"),
+        }
+    }
+}
+
+impl Record {
+    /// Takes a form of one of the eight kinds.
+    pub fn of(form: &Form) -> Record {
+        if form.get("kind") <= 4 {
+            Record::Plate(Plate {
+                kind: form.get("kind"),
+                id: form.get("id"),
+                K: form.get("K"),
+                z: form.get("z"),
+                S: form.get("S"),
+                T: form.get("T"),
+                b1: form.get("b1"),
+                b2: form.get("b2"),
+                ballast: form.get("ballast") == 1,
+                zL: form.get("zL"),
+                cargo: form.get("cargo"),
+            })
+        } else {
+            Record::Member(Member {
+                kind: form.get("kind"),
+                id: form.get("id"),
+                z: form.get("z"),
+                S: form.get("S"),
+                l: form.get("l"),
+                T: form.get("T"),
+                beta_b: form.get("beta_b"),
+                beta_s: form.get("beta_s"),
+                eta: form.get("eta"),
+                sigma1: form.get("sigma1"),
+                W: form.get("W"),
+                A: form.get("A"),
+                K: form.get("K"),
+            })
+        }
+    }
+
+    pub fn id(&self) -> i128 {
+        match self {
+            Record::Plate(plate) => plate.id,
+            Record::Member(member) => member.id,
+        }
+    }
+}
+
+/// Reads the header at the start of `sheet`: refusals 1, 2 and 3.
+pub fn read_header(sheet: &[u8]) -> Result<Header, Refusal> {
+    if sheet.len() < HEADER_BYTES {
+        return Err(Refusal::new(1, 0));
+    }
+    let form = Form::unpack(HEADER, sheet);
+    if form.get("version") != VERSION {
+        return Err(Refusal::new(2, 0));
+    }
+    match first_fault(&form, in_header) {
+        Some(field) => Err(Refusal::new(3, field)),
+        None => Ok(Header::of(&form)),
+    }
+}
+
+/// Reads record number `index` (from 0) out of its 16 bytes: refusals 6 and 7.
+pub fn read_record(bytes: &[u8], index: usize) -> Result<Record, Refusal> {
+    // The kind comes first because it says which layout the rest has.
+    let kind = i128::from(bytes[0] >> 4);
+    let Some(layout) = record_layout(kind) else {
+        return Err(Refusal::new(6, index));
+    };
+    let form = Form::unpack(layout, bytes);
+    match first_fault(&form, |name| in_record(&form, name)) {
+        Some(field) => Err(Refusal::new(7, 32 * index + field)),
+        None => Ok(Record::of(&form)),
+    }
+}

@@ -1,0 +1,244 @@
+//! The document, "Numbers off the drawing board": the twelve numbered cases and
+//! the printed example; then points of the rules the cases leave open.
+
+#![allow(non_snake_case)]
+
+mod common;
+
+use common::{member, plate, required, sheet, vessel_v, with};
+use second::form::Form;
+use second::loads;
+use second::print::answer;
+use second::sheet::{Header, Member, Plate, Record};
+
+fn sea(header: &Form, z: i128) -> i128 {
+    loads::sea(&Header::of(header), z)
+}
+
+fn relief(header: &Form) -> i128 {
+    loads::relief(&Header::of(header))
+}
+
+fn as_plate(form: &Form) -> Plate {
+    match Record::of(form) {
+        Record::Plate(plate) => plate,
+        Record::Member(_) => panic!("not a plate"),
+    }
+}
+
+fn as_member(form: &Form) -> Member {
+    match Record::of(form) {
+        Record::Member(member) => member,
+        Record::Plate(_) => panic!("not a member"),
+    }
+}
+
+fn pressure(header: &Form, record: &Form) -> i128 {
+    let header = Header::of(header);
+    match Record::of(record) {
+        Record::Plate(plate) => loads::plate_pressure(&header, &plate),
+        Record::Member(member) => loads::member_pressure(&header, &member),
+    }
+}
+
+fn numbers(a: i128, b: i128, c: i128) -> [Option<i128>; 3] {
+    [Some(a), Some(b), Some(c)]
+}
+
+#[test]
+fn case_1_sea_at_and_above_the_draught() {
+    let v = vessel_v();
+    assert_eq!(sea(&v, 0), 27_526_860);
+    assert_eq!(sea(&v, 250), 3_001_860);
+    assert_eq!(sea(&v, 251), 3_259_000);
+}
+
+#[test]
+fn case_2_sea_without_waves_and_with_high_ones() {
+    let still = with(&vessel_v(), &[("H", 0)]);
+    assert_eq!(sea(&still, 250), 0);
+    assert_eq!(sea(&still, 251), 3_250_000);
+    let high = with(&vessel_v(), &[("H", 120)]);
+    assert_eq!(sea(&high, 251), 6_426_000);
+}
+
+#[test]
+fn case_3_relief() {
+    assert_eq!(relief(&vessel_v()), 676_890);
+    assert_eq!(relief(&with(&vessel_v(), &[("H", 120), ("D0", 100)])), 0);
+}
+
+#[test]
+fn case_4_bottom_plate_longitudinal() {
+    assert_eq!(required(&vessel_v(), &plate(2)), numbers(530, 315, 617));
+}
+
+#[test]
+fn case_5_bottom_plate_transverse() {
+    assert_eq!(loads::panel_factor(&as_plate(&plate(1))), 1040);
+    assert_eq!(required(&vessel_v(), &plate(1)), numbers(605, 420, 1034));
+}
+
+#[test]
+fn case_6_panel_factor_is_capped() {
+    let narrow = with(&plate(1), &[("b1", 10), ("b2", 60)]);
+    assert_eq!(loads::panel_factor(&as_plate(&narrow)), 26_000);
+}
+
+/// Kind 1, S 500, K2 1000, ZB 1,000,000: what rule 3 needs at a moment.
+fn rule_3_at(M: i128) -> Option<i128> {
+    let square = with(&plate(1), &[("b1", 1000), ("b2", 10)]);
+    assert_eq!(loads::panel_factor(&as_plate(&square)), 1000);
+    let v = with(&vessel_v(), &[("M", M), ("ZB", 1_000_000)]);
+    required(&v, &square)[2]
+}
+
+#[test]
+fn case_7_greater_moment_needs_less() {
+    assert_eq!(rule_3_at(104_671), Some(1100));
+    assert_eq!(rule_3_at(104_672), Some(1094));
+}
+
+#[test]
+fn case_8_none() {
+    assert_eq!(rule_3_at(209_999), None);
+    assert_eq!(rule_3_at(210_000), None);
+}
+
+#[test]
+fn case_9_inner_bottom() {
+    let loaded = with(&plate(4), &[("cargo", 30_000)]);
+    assert_eq!(required(&vessel_v(), &loaded), numbers(458, 329, 617));
+}
+
+#[test]
+fn case_10_bottom_longitudinal() {
+    let header = Header::of(&vessel_v());
+    let P = loads::member_pressure(&header, &as_member(&member(5)));
+    assert_eq!(loads::line_load(P, 500), 13_764);
+    assert_eq!(required(&vessel_v(), &member(5)), numbers(420, 567, 168));
+}
+
+#[test]
+fn case_11_floor() {
+    let floor = with(&member(6), &[("l", 500)]);
+    assert_eq!(required(&vessel_v(), &floor), numbers(508, 1996, 310));
+}
+
+#[test]
+fn case_12_web_either_side_of_12000() {
+    let wide = with(&member(5), &[("S", 600)]);
+    let web = |L| required(&with(&vessel_v(), &[("L", L)]), &wide)[0];
+    assert_eq!(web(11_999), Some(481));
+    assert_eq!(web(12_000), Some(450));
+}
+
+#[test]
+fn printed_example() {
+    let bottom = with(&plate(2), &[("id", 7), ("T", 600)]);
+    let longitudinal = with(
+        &member(5),
+        &[("id", 12), ("T", 420), ("W", 560), ("A", 168)],
+    );
+    let sheet = sheet(&vessel_v(), &[bottom, longitudinal]);
+    assert_eq!(answer(&sheet), "7 3 617\n12 5 567\n2 2\n");
+}
+
+#[test]
+fn passes_print_zeros_and_an_empty_sheet_is_accepted() {
+    let bottom = with(&plate(2), &[("id", 7), ("T", 617)]);
+    let longitudinal = with(
+        &member(5),
+        &[("id", 12), ("T", 420), ("W", 567), ("A", 168)],
+    );
+    let full = sheet(&vessel_v(), &[bottom, longitudinal]);
+    assert_eq!(answer(&full), "7 0 0\n12 0 0\n2 0\n");
+    assert_eq!(answer(&sheet(&vessel_v(), &[])), "0 0\n");
+}
+
+#[test]
+fn the_first_failed_rule_is_named() {
+    let thin = with(&plate(2), &[("T", 1)]);
+    assert_eq!(answer(&sheet(&vessel_v(), &[thin])), "1 1 530\n1 1\n");
+    let weak = with(&member(5), &[("T", 420), ("W", 567), ("A", 167)]);
+    assert_eq!(answer(&sheet(&vessel_v(), &[weak])), "1 6 168\n1 1\n");
+}
+
+#[test]
+fn ballast_and_relief() {
+    let v = vessel_v();
+    let ballast = [("z", 10), ("ballast", 1), ("zL", 400)];
+    let pB = 98_100 * 490;
+    assert_eq!(pressure(&v, &with(&plate(1), &ballast)), pB - 676_890);
+    assert_eq!(pressure(&v, &with(&plate(3), &ballast)), pB);
+    // The sea or the cargo where it is greater.
+    let low = [("z", 0), ("ballast", 1), ("zL", 0)];
+    assert_eq!(pressure(&v, &with(&plate(2), &low)), 27_526_860);
+    let loaded = with(&plate(4), &low);
+    let loaded = with(&loaded, &[("cargo", 200_000)]);
+    assert_eq!(pressure(&v, &loaded), 200_000_000);
+    // No relief is taken off where waves would make it negative.
+    let shallow = with(&v, &[("H", 120), ("D0", 100)]);
+    assert_eq!(pressure(&shallow, &with(&plate(1), &ballast)), pB);
+}
+
+#[test]
+fn two_runs_round_the_half_up() {
+    let v = with(&vessel_v(), &[("runs", 1), ("D0", 251)]);
+    // 56407.5 x 251 = 14,158,282.5
+    assert_eq!(pressure(&v, &member(8)), 14_158_283 + 3_001_860);
+    assert_eq!(pressure(&v, &member(5)), 98_100 * 251 + 3_001_860);
+    let one_run = with(&v, &[("runs", 0)]);
+    assert_eq!(pressure(&one_run, &member(7)), 98_100 * 251 + 3_001_860);
+}
+
+#[test]
+fn hull_stress_rounds_up() {
+    let stress =
+        |M, ZB| loads::hull_stress(&Header::of(&with(&vessel_v(), &[("M", M), ("ZB", ZB)])));
+    assert_eq!(stress(0, 1), 0);
+    assert_eq!(stress(1, 100_000_000), 1);
+    assert_eq!(stress(1_000_000, 1), 1_000_000_000_000);
+    assert_eq!(stress(20_000, 200_000), 100_000);
+}
+
+#[test]
+fn second_form_of_rule_3_is_for_the_bottom_only() {
+    let v = with(&vessel_v(), &[("M", 210_000), ("ZB", 1_000_000)]);
+    assert_eq!(required(&v, &plate(1))[2], None);
+    assert_eq!(required(&v, &plate(2))[2], None);
+    // 25 T2 1040^2 >= 1156 x 500^2 x 210,000 and 10^8 T2 >= 1521 x 500^2 x 210,000
+    assert_eq!(required(&v, &plate(3))[2], Some(1499));
+    assert_eq!(required(&v, &plate(4))[2], Some(894));
+}
+
+#[test]
+fn no_stress_left_for_rule_5() {
+    // At z = D0 without waves q is 0, and W = 1 would do under 214.
+    let v = with(&vessel_v(), &[("H", 0)]);
+    let at = |sigma1| required(&v, &with(&member(5), &[("z", 250), ("sigma1", sigma1)]))[1];
+    assert_eq!([at(213), at(214), at(255)], [Some(1), None, None]);
+    // q 12,263: 2x10^9 W >= 25 x 100 x 90 x 12,263 x 100^2 at 196.
+    let short = with(&member(8), &[("l", 100)]);
+    let girder = |sigma1| required(&v, &with(&short, &[("sigma1", sigma1)]))[1];
+    assert_eq!(
+        [girder(196), girder(197), girder(198)],
+        [Some(13_796), None, None]
+    );
+}
+
+#[test]
+fn girders_have_no_eta_in_shear() {
+    let shear = |kind, eta| required(&vessel_v(), &with(&member(kind), &[("eta", eta)]))[2];
+    assert_eq!(shear(8, 1), shear(8, 100));
+    assert_ne!(shear(5, 1), shear(5, 100));
+}
+
+#[test]
+fn rule_2_can_ask_for_the_whole_gauge() {
+    let wide = with(&plate(3), &[("S", 2000)]);
+    let at = |cargo| required(&vessel_v(), &with(&wide, &[("cargo", cargo)]))[1];
+    assert_eq!(at(156_250), Some(4000));
+    assert_eq!(at(156_251), None);
+    assert_eq!(at(0), Some(1));
+}

@@ -1,0 +1,240 @@
+//! "When the sheet is turned away": every number, every place, and the order.
+
+mod common;
+
+use common::{member, plate, sheet, vessel_v, with};
+use second::check::{check, Refusal};
+use second::form::{field_number, Form};
+use second::limits::in_record;
+use second::print::answer;
+
+fn refusal(sheet: &[u8]) -> Option<(usize, usize)> {
+    let mut output = [0xee; 1600];
+    let refused = check(sheet, &mut output).err();
+    if refused.is_some() {
+        assert_eq!(
+            output, [0xee; 1600],
+            "a refused sheet leaves the output as lent"
+        );
+    }
+    refused.map(|Refusal { number, place }| (number, place))
+}
+
+fn numbered(records: &[Form]) -> Vec<Form> {
+    let ids = 1..;
+    let pairs = records.iter().zip(ids);
+    pairs
+        .map(|(record, id)| with(record, &[("id", id)]))
+        .collect()
+}
+
+#[test]
+fn number_1_short_sheets() {
+    let whole = sheet(&vessel_v(), &[]);
+    for length in 0..12 {
+        assert_eq!(refusal(&whole[..length]), Some((1, 0)));
+    }
+    assert_eq!(refusal(&whole), None);
+    assert_eq!(answer(&[]), "refused 1 0\n");
+}
+
+#[test]
+fn number_2_version() {
+    for version in (0..16).filter(|version| *version != 1) {
+        let v = with(&vessel_v(), &[("version", version), ("L", 0)]);
+        assert_eq!(refusal(&sheet(&v, &[])), Some((2, 0)));
+    }
+}
+
+#[test]
+fn number_3_each_header_field() {
+    let faults = [
+        ("L", 3999, 2),
+        ("L", 13_501, 2),
+        ("D0", 0, 3),
+        ("D0", 1001, 3),
+        ("H", 59, 4),
+        ("H", 121, 4),
+        ("M", 1_000_001, 6),
+        ("ZB", 0, 7),
+        ("ZB", 100_000_001, 7),
+        ("zero", 1, 9),
+        ("zero", 4, 9),
+    ];
+    for (name, value, place) in faults {
+        let v = with(&vessel_v(), &[(name, value)]);
+        assert_eq!(refusal(&sheet(&v, &[])), Some((3, place)), "{name} {value}");
+    }
+    let too_many = with(&vessel_v(), &[("n", 401)]).pack();
+    assert_eq!(refusal(&too_many), Some((3, 8)));
+}
+
+#[test]
+fn number_4_length() {
+    let whole = sheet(&vessel_v(), &[plate(2)]);
+    assert_eq!(refusal(&whole), None);
+    assert_eq!(refusal(&whole[..27]), Some((4, 0)));
+    assert_eq!(refusal(&whole[..12]), Some((4, 0)));
+    let longer = [whole, vec![0]].concat();
+    assert_eq!(refusal(&longer), Some((4, 0)));
+}
+
+#[test]
+fn number_5_output() {
+    let records = numbered(&[plate(2), plate(2)]);
+    let sound = sheet(&vessel_v(), &records);
+    let mut output = [0xee; 7];
+    assert_eq!(check(&sound, &mut output), Err(Refusal::new(5, 0)));
+    assert_eq!(output, [0xee; 7]);
+    // Before the records are looked at, after the length.
+    let no_kind = sheet(&vessel_v(), &[with(&plate(2), &[("kind", 0)])]);
+    assert_eq!(check(&no_kind, &mut []), Err(Refusal::new(5, 0)));
+    assert_eq!(check(&no_kind[..20], &mut []), Err(Refusal::new(4, 0)));
+    assert!(check(&sheet(&vessel_v(), &[]), &mut []).is_ok());
+}
+
+#[test]
+fn number_6_kind() {
+    for kind in [0, 9, 10, 11, 12, 13, 14, 15] {
+        let mut records = numbered(&[plate(2), member(5), plate(2)]);
+        records[2].set("kind", kind);
+        assert_eq!(refusal(&sheet(&vessel_v(), &records)), Some((6, 2)));
+    }
+}
+
+/// Every field of every kind at both ends of its values and one past them,
+/// with the place the layout gives it.
+#[test]
+fn number_7_each_record_field() {
+    let ballasted = |kind| with(&plate(kind), &[("z", 5), ("ballast", 1), ("zL", 9)]);
+    let mut records: Vec<Form> = (1..=4).map(plate).collect();
+    records.extend((1..=4).map(ballasted));
+    records.extend((5..=8).map(member));
+    for record in records {
+        for (index, (name, width)) in record.layout.iter().enumerate().skip(1) {
+            let allowed = in_record(&record, name);
+            let at = |value| {
+                let pair = numbered(&[plate(4), with(&record, &[("id", 2)])]);
+                let changed = with(&pair[1], &[(name, value)]);
+                refusal(&sheet(&vessel_v(), &[pair[0].clone(), changed]))
+            };
+            let outside = [allowed.lowest() - 1, allowed.highest() + 1];
+            for value in outside
+                .into_iter()
+                .filter(|value| (0..1 << width).contains(value))
+            {
+                assert_eq!(at(value), Some((7, 32 + index + 1)), "{name} {value}");
+            }
+            // An id at its lowest is not above the one before; ballast and z
+            // move the range of zL, which then is the fault.
+            let inside = [allowed.lowest(), allowed.highest()];
+            for value in inside {
+                let expected = match *name {
+                    "id" if value == 1 => Some((8, 1)),
+                    "ballast" if value != record.get("ballast") => {
+                        (value == 0).then_some((7, 32 + 10))
+                    }
+                    "z" if record.layout.len() == 12 && value > record.get("zL") => {
+                        (record.get("ballast") == 1).then_some((7, 32 + 10))
+                    }
+                    _ => None,
+                };
+                assert_eq!(at(value), expected, "{name} {value}");
+            }
+        }
+    }
+}
+
+#[test]
+fn places_of_some_record_fields() {
+    let place = |record: Form| refusal(&sheet(&vessel_v(), &[record]));
+    assert_eq!(place(with(&plate(2), &[("id", 0)])), Some((7, 2)));
+    assert_eq!(place(with(&plate(2), &[("b1", 10)])), Some((7, 7)));
+    assert_eq!(place(with(&plate(2), &[("zL", 1)])), Some((7, 10)));
+    assert_eq!(place(with(&plate(1), &[("cargo", 1)])), Some((7, 11)));
+    assert_eq!(place(with(&plate(4), &[("zero", 1 << 19)])), Some((7, 12)));
+    assert_eq!(place(with(&member(6), &[("z", 1)])), Some((7, 3)));
+    assert_eq!(place(with(&member(7), &[("eta", 99)])), Some((7, 9)));
+    assert_eq!(place(with(&member(6), &[("sigma1", 1)])), Some((7, 10)));
+    assert_eq!(place(with(&member(8), &[("K", 499)])), Some((7, 13)));
+    // zL rests on z: the later one is the fault.
+    let under = with(&plate(1), &[("z", 200), ("ballast", 1), ("zL", 199)]);
+    assert_eq!(place(under), Some((7, 10)));
+}
+
+#[test]
+fn number_8_order_of_ids() {
+    let records = |first, second| {
+        [
+            with(&plate(2), &[("id", first)]),
+            with(&plate(2), &[("id", second)]),
+        ]
+    };
+    assert_eq!(refusal(&sheet(&vessel_v(), &records(5, 6))), None);
+    assert_eq!(refusal(&sheet(&vessel_v(), &records(5, 5))), Some((8, 1)));
+    assert_eq!(refusal(&sheet(&vessel_v(), &records(5, 4))), Some((8, 1)));
+}
+
+#[test]
+fn the_first_of_several_faulty_fields_is_named() {
+    let v = with(&vessel_v(), &[("zero", 1), ("M", 1_000_001), ("H", 1)]);
+    assert_eq!(refusal(&sheet(&v, &[])), Some((3, 4)));
+    let record = with(&plate(2), &[("zero", 1), ("T", 0), ("S", 0)]);
+    let place = field_number(record.layout, "S");
+    assert_eq!(refusal(&sheet(&vessel_v(), &[record])), Some((7, place)));
+}
+
+/// One sheet with every fault at once, mended one by one from the top of the table.
+#[test]
+fn the_order_of_the_table() {
+    let mut header = with(&vessel_v(), &[("version", 2), ("L", 0), ("n", 3)]);
+    let mut records = [
+        with(&plate(2), &[("kind", 9), ("id", 0)]),
+        with(&plate(2), &[("id", 9), ("T", 0)]),
+        with(&plate(2), &[("kind", 0), ("id", 9), ("zero", 1)]),
+    ];
+    let mut extra = vec![0];
+    let packed = |header: &Form, records: &[Form], extra: &[u8]| -> Vec<u8> {
+        let parts = records.iter().flat_map(Form::pack);
+        header
+            .pack()
+            .into_iter()
+            .chain(parts)
+            .chain(extra.iter().copied())
+            .collect()
+    };
+    assert_eq!(
+        refusal(&packed(&header, &records, &extra)[..11]),
+        Some((1, 0))
+    );
+    assert_eq!(refusal(&packed(&header, &records, &extra)), Some((2, 0)));
+    header.set("version", 1);
+    assert_eq!(refusal(&packed(&header, &records, &extra)), Some((3, 2)));
+    header.set("L", 4000);
+    assert_eq!(refusal(&packed(&header, &records, &extra)), Some((4, 0)));
+    extra.clear();
+    let sheet = packed(&header, &records, &extra);
+    assert_eq!(check(&sheet, &mut [0; 11]), Err(Refusal::new(5, 0)));
+    assert_eq!(refusal(&sheet), Some((6, 0)));
+    records[0].set("kind", 2);
+    assert_eq!(refusal(&packed(&header, &records, &extra)), Some((7, 2)));
+    records[0].set("id", 9);
+    // Record 1 is finished (7, then 8) before record 2's kind is looked at.
+    assert_eq!(
+        refusal(&packed(&header, &records, &extra)),
+        Some((7, 32 + 6))
+    );
+    records[1].set("T", 1);
+    assert_eq!(refusal(&packed(&header, &records, &extra)), Some((8, 1)));
+    records[1].set("id", 10);
+    assert_eq!(refusal(&packed(&header, &records, &extra)), Some((6, 2)));
+    records[2].set("kind", 4);
+    assert_eq!(
+        refusal(&packed(&header, &records, &extra)),
+        Some((7, 64 + 12))
+    );
+    records[2].set("zero", 0);
+    assert_eq!(refusal(&packed(&header, &records, &extra)), Some((8, 2)));
+    records[2].set("id", 11);
+    assert_eq!(refusal(&packed(&header, &records, &extra)), None);
+}
