@@ -1,18 +1,18 @@
 -- The second pass: one turn of it, and the whole.
 -- Assumes nothing.
-use Prim.Native.Nat.{ℕ, zero, suc, _+_, _-_, _*_, _≤_, _<_}
+use Prim.Native.Nat.{ℕ, suc, _+_, _-_, _*_, _≤_, _<_}
 use mathlib.Core.Path.{_≡_, refl, sym, ap, ap₂, _∙_}
 use mathlib.Core.List.{List, [], _∷_, _++_, map, append-assoc, append-nil}
 use native.Mathlib.Omega.{arith}
 use native.Mathlib.Nat.{sub-zero}
 use lib.ListN.{length, take, drop, take-append-drop, length-take, length-drop, length-append}
-use lib.Seq.{drop-drop, take-at, length-take-le}
+use lib.Seq.{drop-drop, take-at}
 use borrow.Rule.Slice.PartMut.{putMid, drop-put}
 use Rattle.sheet.specs.declared.Header.{Header}
 use Rattle.sheet.specs.declared.Record.{Record}
 use Rattle.sheet.specs.Refusals.{Answer, given, refused}
 use Rattle.sheet.specs.RefusalLaws.{given-refused}
-use Rattle.sheet.specs.Header.{readHeader, headerFault}
+use Rattle.sheet.specs.Header.{headerFault}
 use Rattle.verdict.specs.JudgedLaws.{Sound, sound-given}
 use Rattle.hull.specs.Hull.{verdict}
 use Rattle.checker.specs.declared.Entry.{Entry}
@@ -20,8 +20,10 @@ use Rattle.checker.specs.Entry.{entryFault, entryBytes, writeEntry}
 use Rattle.checker.specs.EntryLaws.{bytes-written}
 use Rattle.checker.specs.Check.{recordPart, recordOf, partsFrom, recordsIn, entryOf, bytesOf, failing, failures}
 use Rattle.checker.specs.Passes.{plain, judgedEntry, entryBy, entriesFrom, Accepted}
-use Rattle.checker.specs.Sound.{header-sound, record-sound, entry-sound}
-use Rattle.checker.specs.CheckLaws.{Taken, none, next, taken, taken-at}
+use Rattle.sheet.specs.HeaderBack.{header-read-fine}
+use Rattle.sheet.specs.RecordBack.{record-read-fine}
+use Rattle.checker.specs.Sound.{entry-sound}
+use Rattle.checker.specs.CheckLaws.{Taken, next, taken, taken-at}
 
 -- ---- an accepted sheet
 
@@ -40,7 +42,7 @@ unfolding entriesFrom
 entries-taken h s i before [] z t = refl
 entries-taken h s i before (r ∷ rs) z (next e o t) =
     ap₂ {C = List Entry} (λ x xs. x ∷ xs)
-    (ap (entryBy h) e ∙ entry-judged h r (record { header = z; body = record-sound i (recordPart s i) r e }))
+    (ap (entryBy h) e ∙ entry-judged h r (record { header = z; body = record-read-fine i (recordPart s i) r e }))
     (entries-taken h s (i + 1) (r .id) rs z t)
 
 module _ (s : List ℕ) (h : Header) (room : ℕ) (ok : Accepted s h room) where
@@ -54,7 +56,7 @@ module _ (s : List ℕ) (h : Header) (room : ℕ) (ok : Accepted s h room) where
   -- the entries that the second pass works out are the verdicts
   pub entries-verdicts : entriesFrom h s 0 (h .count) ≡ map (entryOf h) (found .0)
   entries-verdicts =
-      ap (entriesFrom h s 0) (sym (accepted-taken .1)) ∙ entries-taken h s 0 0 (found .0) (header-sound s h (ok .header)) (accepted-taken .0)
+      ap (entriesFrom h s 0) (sym (accepted-taken .1)) ∙ entries-taken h s 0 0 (found .0) (header-read-fine s h (ok .header)) (accepted-taken .0)
 
   -- and each can be written
   pub entry-fits : (i : ℕ) → i < h .count → entryFault (entryBy h (recordOf s i)) 0 ≡ 0
@@ -62,8 +64,8 @@ module _ (s : List ℕ) (h : Header) (room : ℕ) (ok : Accepted s h room) where
       let a = taken-at s 0 0 (found .0) (accepted-taken .0) i (omega (arith, accepted-taken .1)) in
       let m : i ≡ 0 + i = omega arith in
       let e : recordOf s i ≡ given (a .0) = ap (recordOf s) m ∙ a .1 in
-      let f = record-sound i (recordPart s i) (a .0) e in
-      ap (λ (x : Entry). entryFault x 0) (ap (entryBy h) e ∙ entry-judged h (a .0) (record { header = header-sound s h (ok .header); body = f })) ∙ entry-sound h (a .0) f
+      let f = record-read-fine i (recordPart s i) (a .0) e in
+      ap (λ (x : Entry). entryFault x 0) (ap (entryBy h) e ∙ entry-judged h (a .0) (record { header = header-read-fine s h (ok .header); body = f })) ∙ entry-sound h (a .0) f
 
 -- ---- a turn
 

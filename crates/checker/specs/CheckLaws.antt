@@ -1,7 +1,7 @@
 -- The laws of the whole sheet: what is known of a sheet that is not turned away.
 -- Assumes nothing.
 use Prim.Native.Nat.{ℕ, zero, suc, _+_, _-_, _*_, _≤_, _<_}
-use mathlib.Core.Path.{_≡_, refl, sym, ap, ap₂, subst, _∙_}
+use mathlib.Core.Path.{_≡_, refl, sym, ap, subst, _∙_}
 use mathlib.Core.Bool.{Bool, true, false, cond}
 use mathlib.Core.List.{List, [], _∷_, _++_, map, append-nil}
 use native.Mathlib.Omega.{arith}
@@ -15,12 +15,13 @@ use Rattle.sheet.specs.declared.Record.{Record}
 use Rattle.sheet.specs.Refusals.{Answer, given, refused}
 use Rattle.sheet.specs.RefusalLaws.{given-refused, given-same}
 use Rattle.sheet.specs.Header.{readHeader}
-use Rattle.sheet.specs.Record.{readRecord, recordFault}
+use Rattle.sheet.specs.Record.{readRecord}
 use Rattle.checker.specs.declared.Entry.{Entry}
 use Rattle.checker.specs.Entry.{entryBytes, readEntry}
 use Rattle.checker.specs.EntryLaws.{bytes-read}
-use Rattle.checker.specs.Check.{_then_, demand, headerFor, recordPart, recordOf, partsFrom, soundAfter, recordsIn, Sheet, sheetIn, entryOf, verdicts, bytesOf, failing, failures, Totals, answerOf, outputBy, outputOf}
-use Rattle.checker.specs.Sound.{header-sound, record-sound, entry-sound}
+use Rattle.checker.specs.Check.{_then_, demand, headerFor, recordPart, recordOf, partsFrom, soundAfter, recordsIn, Sheet, sheetIn, entryOf, verdicts, bytesOf, failures, Totals, answerOf, outputBy, outputOf}
+use Rattle.sheet.specs.RecordBack.{record-read-fine}
+use Rattle.checker.specs.Sound.{entry-sound}
 
 -- what comes next is given only where what comes first is
 pub then-given : {A B : Type 0} (x : Answer A) (next : A → Answer B) (b : B) → (x then next) ≡ given b → (a : A) × (x ≡ given a) × (next a ≡ given b)
@@ -154,7 +155,7 @@ module _ (s out : List ℕ) (t : Sheet) (given-t : sheetIn s (length out) ≡ gi
   pub verdict-read : (i : ℕ) → i < t .header .count → (r : Record) → recordOf s i ≡ given r → readEntry (take 4 (drop (4 * i) (outputOf s out))) ≡ given (entryOf (t .header) r)
   verdict-read i l r e =
       ap readEntry (verdict-at i l r e ∙ sym (append-nil (entryBytes (entryOf (t .header) r))))
-      ∙ bytes-read (entryOf (t .header) r) [] (entry-sound (t .header) r (record-sound i (recordPart s i) r e))
+      ∙ bytes-read (entryOf (t .header) r) [] (entry-sound (t .header) r (record-read-fine i (recordPart s i) r e))
 
   -- there is one verdict for each record
   pub verdicts-count : length (verdicts t) ≡ t .header .count

@@ -14,7 +14,7 @@ use Rattle.sheet.specs.Refusals.{Answer, given, refused}
 use Rattle.sheet.specs.Header.{headerIn, readHeader}
 use Rattle.sheet.specs.HeaderLaws.{header-ranges}
 use Rattle.checker.specs.Check.{_then_, demand, headerFor, Sheet, sheetIn, outputBy, outputOf, answerOf}
-use Rattle.checker.specs.Sound.{header-sound}
+use Rattle.sheet.specs.HeaderBack.{header-read-fine}
 
 -- one byte more than the longest sheet, 12 + 16 · 400 bytes, has
 abbrev pub enough : ℕ
@@ -29,7 +29,7 @@ too-long : (s : List ℕ) (room : ℕ) (x : Answer Header) → readHeader s ≡ 
 unfolding sheetIn headerFor _then_ demand
 too-long s room (refused k p) e l = rw e
 too-long s room (given h) e l =
-    let few = header-ranges h 0 (header-sound s h e) .count-high in
+    let few = header-ranges h 0 (header-read-fine s h e) .count-high in
     let other : length s ≡ 12 + 16 * h .count → ⊥ = λ z. omega arith in
     rw (e, ne-eqb (length s) (12 + 16 * h .count) other)
 

@@ -1,89 +1,32 @@
--- What is read is sound, and the verdict on a sound record can be written.
+-- The verdict on a sound record can be written.
 -- Assumes nothing.
-use Prim.Native.Nat.{ℕ, _+_, _*_, _≤_, _<_}
-use mathlib.Core.Path.{_≡_, refl, sym, ap, ap₂, _∙_}
+use Prim.Native.Nat.{ℕ, _+_, _≤_}
+use mathlib.Core.Path.{_≡_, refl}
 use mathlib.Core.Bool.{Bool, true, false, cond, _&&_}
 use mathlib.Core.List.{List, [], _∷_}
 use native.Mathlib.Omega.{arith}
-use native.Mathlib.Decide.{decLt}
-use lib.ListN.{length, getD, take}
-use lib.Dec.{leb, ltb, eqb}
-use borrow.Author.Tests.{lt-ltb, le-ltb, le-leb, leb-true, ne-eqb}
+use lib.Dec.{leb, eqb}
+use borrow.Author.Tests.{le-leb, leb-true, ne-eqb}
 use Rattle.quantity.specs.Range.{from, within, modulus}
 use Rattle.gauge.specs.declared.Least.{Least}
 use Rattle.gauge.specs.declared.Least.the-variants.{At, Nothing}
 use Rattle.gauge.specs.Least.{leastIn, numberOf, Answer as LeastAnswer}
 use Rattle.gauge.specs.LeastLaws.{least-answers}
-use Rattle.layout.specs.Layout.{pack, unpack, bytes}
-use Rattle.layout.specs.Line.{Allowed}
-use Rattle.layout.specs.LineLaws.{none-all, low-high}
+use Rattle.layout.specs.LineLaws.{none-all}
 use Rattle.sheet.specs.declared.Header.{Header}
 use Rattle.sheet.specs.declared.Record.{Record}
-use Rattle.sheet.specs.declared.Plate.{Plate}
 use Rattle.sheet.specs.declared.Body.{Body}
 use Rattle.sheet.specs.declared.Body.the-variants.{Plate as isPlate, Member as isMember}
-use Rattle.sheet.specs.Lines.{headerLines, headerWidths, plateLines, memberLines}
-use Rattle.sheet.specs.Refusals.{Answer, given, refused}
-use Rattle.sheet.specs.RefusalLaws.{given-refused, by-none}
-use Rattle.sheet.specs.Header.{headerValues, headerAt, headerFault, headerIn, readHeader}
-use Rattle.sheet.specs.HeaderLaws.{header-in}
-use Rattle.sheet.specs.Record.{plateValues, memberValues, plateFault, memberFault, bodyFault, recordFault, recordIn, readRecord}
-use Rattle.sheet.specs.RecordLaws.{recordAt, spareAt, record-in}
+use Rattle.sheet.specs.Lines.{plateLines, memberLines}
+use Rattle.sheet.specs.Record.{plateValues, memberValues, plateFault, memberFault, bodyFault, recordFault}
 use Rattle.verdict.specs.declared.Verdict.{Verdict}
 use Rattle.verdict.specs.Verdict.{Rule, failing, verdictOf}
-use Rattle.verdict.specs.JudgedLaws.{Sound}
 use Rattle.hull.specs.Hull.{bodyRules, verdict}
 use Rattle.plating.specs.Rules.{plateRules}
 use Rattle.framing.specs.Rules.{memberRules}
 use Rattle.checker.specs.Entry.{entryFault}
 use Rattle.checker.specs.EntryLaws.{allowed-entry}
 use Rattle.checker.specs.Check.{entryOf}
-
--- ---- what is read
-
--- an answer that wants so many bytes is given only where they are there
-long-enough : {A : Type 0} (k : ℕ) (s : List ℕ) (x : Answer A) (a : A) → cond (ltb (length s) k) (refused 1 0) x ≡ given a → (k ≤ length s) × (x ≡ given a)
-long-enough k s x a e = go (decLt (length s) k)
-  where
-    go : Dec (length s < k) → (k ≤ length s) × (x ≡ given a)
-    go (yes l) = given-refused (sym (rw (lt-ltb _ _ l) at e))
-    go (no l) = let m : k ≤ length s = omega arith in (m, rw (le-ltb _ _ m) at e)
-
--- bits that carry nothing and are allowed are 0
-zero-spare : (spare : ℕ) → within (from 0 0) spare ≡ true → spare ≡ 0
-zero-spare spare a = omega (arith, low-high (from 0 0) spare a)
-
-header-spare : (h : Header) (spare : ℕ) → headerFault h spare ≡ 0 → headerFault h 0 ≡ 0
-unfolding headerFault
-header-spare h spare e =
-    let a = none-all 0 headerLines (headerValues h spare) e in
-    ap (headerFault h) (sym (zero-spare spare (a .1 .1 .1 .1 .1 .1 .1 .1 .0))) ∙ e
-
--- the header that is read has no fault
-pub header-sound : (s : List ℕ) (h : Header) → readHeader s ≡ given h → headerFault h 0 ≡ 0
-unfolding readHeader
-header-sound s h e =
-    let n = pack (bytes 12) (take 12 s) in
-    let vs = unpack headerWidths n in
-    let r = by-none 2 0 3 (λ k. k) (headerFault (headerAt vs) (getD vs 8 0)) (headerAt vs) h (sym (header-in n) ∙ long-enough 12 s (headerIn n) h e .1) in
-    header-spare h (getD vs 8 0) (ap (λ (g : Header). headerFault g (getD vs 8 0)) (sym (r .1)) ∙ r .0)
-
-body-spare : (kind id : ℕ) (b : Body) (spare : ℕ) → bodyFault kind id b spare ≡ 0 → bodyFault kind id b 0 ≡ 0
-unfolding plateFault
-body-spare kind id (isPlate p) spare e =
-    let a = none-all 0 (plateLines kind (p .ballast) (p .z .0)) (plateValues kind id p spare) e in
-    ap (plateFault kind id p) (sym (zero-spare spare (a .1 .1 .1 .1 .1 .1 .1 .1 .1 .1 .1 .0))) ∙ e
-body-spare kind id (isMember m) spare e = e
-
--- and so has a record
-pub record-sound : (i : ℕ) (s : List ℕ) (r : Record) → readRecord i s ≡ given r → recordFault r 0 ≡ 0
-unfolding readRecord
-record-sound i s r e =
-    let n = pack (bytes 16) (take 16 s) in
-    let w = by-none 6 i 7 (λ k. 32 * i + k) (recordFault (recordAt n) (spareAt n)) (recordAt n) r (sym (record-in i n) ∙ long-enough 16 s (recordIn i n) r e .1) in
-    body-spare (r .kind) (r .id) (r .body) (spareAt n) (ap (λ (q : Record). recordFault q (spareAt n)) (sym (w .1)) ∙ w .0)
-
--- ---- its verdict
 
 -- a record's id is one that a verdict can carry
 id-allowed : (kind id : ℕ) (b : Body) → bodyFault kind id b 0 ≡ 0 → within (from 1 1000) id ≡ true
