@@ -19,8 +19,13 @@ use Rattle.checker.specs.declared.Entry.{Entry}
 use Rattle.checker.specs.Entry.{entryFault, entryBytes, writeEntry}
 use Rattle.checker.specs.EntryLaws.{bytes-written}
 use Rattle.checker.specs.Check.{recordPart, recordOf, partsFrom, recordsIn, entryOf, bytesOf, failing, failures}
-use Rattle.checker.specs.Passes.{plain, judgedEntry, entryBy, entriesFrom, Accepted}
+use Rattle.checker.specs.Passes.{plain, judgedEntry, judgedIn, entriesFrom, Accepted}
 use Rattle.sheet.specs.HeaderBack.{header-read-fine}
+use Rattle.layout.specs.BytesLaws.{read-all}
+use Rattle.sheet.specs.RecordLaws.{recordAt}
+use Rattle.sheet.specs.Record.{readRecord}
+use Rattle.sheet.specs.RecordExactly.{record-read-given}
+use Rattle.verdict.specs.Judged.{judgedBy}
 use Rattle.sheet.specs.RecordBack.{record-read-fine}
 use Rattle.checker.specs.Sound.{entry-sound}
 use Rattle.checker.specs.CheckLaws.{Taken, next, taken, taken-at}
@@ -32,18 +37,23 @@ plain-given : {A : Type 0} (x : Answer A) → plain x ≡ given tt → (a : A) �
 plain-given (given a) e = (a, refl)
 plain-given (refused k p) e = given-refused (sym e)
 
--- the entry of a sound record is the verdict on it
-entry-judged : (h : Header) (r : Record) → Sound h r → entryBy h (given r) ≡ entryOf h r
-unfolding entryOf entryBy
-entry-judged h r s = ap (judgedEntry (r .id)) (sound-given h r (verdict h r) s)
+-- what judging a record gives
+abbrev judgedOf : Header → Record → Entry
+judgedOf h r = judgedEntry (r .id) (judgedBy h r (verdict h r))
+
+-- the entry of a sound record, from its bytes, is the verdict on it
+entry-judged : (h : Header) (i : ℕ) (b : List ℕ) (r : Record) → headerFault h 0 ≡ 0 → readRecord i b ≡ given r → judgedIn h b ≡ entryOf h r
+unfolding entryOf judgedIn
+entry-judged h i b r z e =
+    let w = record-read-given i b r .0 e in
+    let s : Sound h r = record { header = z; body = record-read-fine i b r e } in
+    ap (λ (n : ℕ). judgedOf h (recordAt n)) (read-all 16 b (w .0)) ∙ ap (judgedOf h) (w .2) ∙ ap (judgedEntry (r .id)) (sound-given h r (verdict h r) s)
 
 entries-taken : (h : Header) (s : List ℕ) (i before : ℕ) (rs : List Record) → headerFault h 0 ≡ 0 → Taken s i before rs → entriesFrom h s i (length rs) ≡ map (entryOf h) rs
 unfolding entriesFrom
 entries-taken h s i before [] z t = refl
 entries-taken h s i before (r ∷ rs) z (next e o t) =
-    ap₂ {C = List Entry} (λ x xs. x ∷ xs)
-    (ap (entryBy h) e ∙ entry-judged h r (record { header = z; body = record-read-fine i (recordPart s i) r e }))
-    (entries-taken h s (i + 1) (r .id) rs z t)
+    ap₂ {C = List Entry} (λ x xs. x ∷ xs) (entry-judged h i (recordPart s i) r z e) (entries-taken h s (i + 1) (r .id) rs z t)
 
 module _ (s : List ℕ) (h : Header) (room : ℕ) (ok : Accepted s h room) where
   -- its records
@@ -59,13 +69,13 @@ module _ (s : List ℕ) (h : Header) (room : ℕ) (ok : Accepted s h room) where
       ap (entriesFrom h s 0) (sym (accepted-taken .1)) ∙ entries-taken h s 0 0 (found .0) (header-read-fine s h (ok .header)) (accepted-taken .0)
 
   -- and each can be written
-  pub entry-fits : (i : ℕ) → i < h .count → entryFault (entryBy h (recordOf s i)) 0 ≡ 0
+  pub entry-fits : (i : ℕ) → i < h .count → entryFault (judgedIn h (recordPart s i)) 0 ≡ 0
   entry-fits i l =
       let a = taken-at s 0 0 (found .0) (accepted-taken .0) i (omega (arith, accepted-taken .1)) in
       let m : i ≡ 0 + i = omega arith in
       let e : recordOf s i ≡ given (a .0) = ap (recordOf s) m ∙ a .1 in
       let f = record-read-fine i (recordPart s i) (a .0) e in
-      ap (λ (x : Entry). entryFault x 0) (ap (entryBy h) e ∙ entry-judged h (a .0) (record { header = header-read-fine s h (ok .header); body = f })) ∙ entry-sound h (a .0) f
+      ap (λ (x : Entry). entryFault x 0) (entry-judged h i (recordPart s i) (a .0) (header-read-fine s h (ok .header)) e) ∙ entry-sound h (a .0) f
 
 -- ---- a turn
 
@@ -116,7 +126,7 @@ wrote-four e o after l z w =
     drop-all (a ∷ b ∷ c ∷ []) m = refl
     drop-all (a ∷ b ∷ c ∷ d ∷ x ∷ q) m = absurd (omega arith)
 
-module _ (n : ℕ) (h : Header) (s : List ℕ) (i : ℕ) (more : i < n) (e : Entry) (judged : e ≡ entryBy h (recordOf s i)) where
+module _ (n : ℕ) (h : Header) (s : List ℕ) (i : ℕ) (more : i < n) (e : Entry) (judged : e ≡ judgedIn h (recordPart s i)) where
   rest-step : rest n h s i ≡ e ∷ rest n h s (i + 1)
   unfolding entriesFrom rest
   rest-step =

@@ -5,13 +5,15 @@ use mathlib.Core.List.{List, [], _∷_, _++_}
 use lib.ListN.{length, drop}
 use Rattle.sheet.specs.declared.Header.{Header}
 use Rattle.sheet.specs.declared.Record.{Record}
+use Rattle.layout.specs.Bytes.{readOf}
+use Rattle.sheet.specs.RecordLaws.{recordAt}
 use Rattle.sheet.specs.Refusals.{Answer, given, refused}
 use Rattle.sheet.specs.Header.{readHeader}
 use Rattle.verdict.specs.declared.Verdict.{Verdict}
 use Rattle.verdict.specs.Judged.{judgedBy}
 use Rattle.hull.specs.Hull.{verdict}
 use Rattle.checker.specs.declared.Entry.{Entry}
-use Rattle.checker.specs.Check.{recordOf, partsFrom, recordsIn, bytesOf, failures}
+use Rattle.checker.specs.Check.{recordPart, partsFrom, recordsIn, bytesOf, failures}
 
 -- whether an answer is given, or the refusal
 abbrev pub plain : {A : Type 0} → Answer A → Answer (Unit {0})
@@ -27,15 +29,14 @@ abbrev pub judgedEntry : ℕ → Answer Verdict → Entry
 judgedEntry id (given v) = record { id = id; rule = v .rule; required = v .required }
 judgedEntry id (refused k p) = blank
 
--- the entry of a record as it is read
-unfoldable pub entryBy : Header → Answer Record → Entry
-entryBy h (given r) = judgedEntry (r .id) (judgedBy h r (verdict h r))
-entryBy h (refused k p) = blank
+-- the entry of a record, from its bytes, whatever its values
+unfoldable pub judgedIn : Header → List ℕ → Entry
+judgedIn h b = let r = recordAt (readOf 16 b) in judgedEntry (r .id) (judgedBy h r (verdict h r))
 
 -- those of the records i, i + 1, .., so many of them
 unfoldable pub entriesFrom : Header → List ℕ → (i count : ℕ) → List Entry
 entriesFrom h s i zero = []
-entriesFrom h s i (suc count) = entryBy h (recordOf s i) ∷ entriesFrom h s (i + 1) count
+entriesFrom h s i (suc count) = judgedIn h (recordPart s i) ∷ entriesFrom h s (i + 1) count
 
 -- a sheet in which the first pass has found nothing
 pub record Accepted (s : List ℕ) (h : Header) (room : ℕ) : Type 0 where

@@ -19,7 +19,7 @@ ghost use Rattle.sheet.specs.Record.{readRecord};
 ghost use Rattle.sheet.specs.Writes.{Writes};
 ghost use Rattle.checker.specs.Entry.{verdictWidths, entryValues, entryAt, entryFault, toldEntry, readEntry, writeEntry};
 ghost use Rattle.checker.specs.Check.{headerFor, recordPart, recordOf, partsFrom, soundAfter, recordsIn, failing as failingOf, Checks};
-ghost use Rattle.checker.specs.Passes.{plain, entryBy, Accepted, Judges};
+ghost use Rattle.checker.specs.Passes.{plain, judgedIn, Accepted, Judges};
 
 // One verdict as it stands in the output, with the id of its record.
 pub struct Entry {
@@ -190,14 +190,11 @@ const BLANK: Entry = Entry {
     required: 0,
 };
 
-// The verdict on record i, in its sixteen bytes.
-fn entry_in(h: Header, bytes: &[u8], i: u16) -> Entry
-    ensures { λ e. ⌜ e ≡ entryBy h (readRecord i (now (bytes .entry))) ⌝ }
+// The verdict on a record, from its sixteen bytes. Judging tests its values again, so that reading need not.
+fn entry_in(h: Header, bytes: &[u8]) -> Entry
+    ensures { λ e. ⌜ e ≡ judgedIn h (now (bytes .entry)) ⌝ }
 {
-    let read = record::read_record_as(bytes, i);
-    let RecordRead::Good(r) = read else {
-        return BLANK;
-    };
+    let r = record::record_in(bytes);
     let judged = hull::judge(h, r);
     let Judged::Verdict(v) = judged else {
         return BLANK;
@@ -211,11 +208,11 @@ fn entry_in(h: Header, bytes: &[u8], i: u16) -> Entry
 
 fn entry_at(h: Header, sheet: &[u8], i: u16) -> Entry
     requires { ⌜ 12 + 16 * i + 16 ≤ length (now sheet) ⌝ }
-    ensures { λ e. ⌜ e ≡ entryBy h (recordOf (now (sheet .entry)) i) ⌝ }
+    ensures { λ e. ⌜ e ≡ judgedIn h (recordPart (now (sheet .entry)) i) ⌝ }
 {
     let at = HEADER + RECORD * (i as usize);
     let end = at + RECORD;
-    entry_in(h, &sheet[at..end], i)
+    entry_in(h, &sheet[at..end])
 }
 
 fn failing(e: Entry) -> u16

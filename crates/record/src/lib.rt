@@ -18,7 +18,7 @@ ghost use mathlib.Core.Bool.{cond};
 ghost use Prim.Native.Nat.{_+_, _*_};
 ghost use lib.Dec.{eqb};
 ghost use Rattle.layout.specs.Layout.{pack, unpack, Fit};
-ghost use Rattle.layout.specs.Bytes.{longOf};
+ghost use Rattle.layout.specs.Bytes.{longOf, readOf};
 ghost use Rattle.sheet.specs.Kinds.{isLong, isBottom, isFloor, isDeep};
 ghost use Rattle.sheet.specs.Lines.{plateWidths, memberWidths};
 ghost use Rattle.sheet.specs.Refusals.{given, toldOutcome, toldRecord, recordRefused};
@@ -372,7 +372,14 @@ pub fn read_record_as(s: &[u8], i: u16) -> RecordRead
     RecordRead::Refused(refuse(i, f))
 }
 
-// The same of a record alone, which is record 0.
+// The record in the first sixteen bytes, whatever its values, for whoever has it judged next; fewer bytes are read as 0.
+pub fn record_in(s: &[u8]) -> Record
+    ensures { λ r. ⌜ r ≡ recordAt (readOf 16 (now (s .entry))) ⌝ }
+{
+    record_of(layout::read_long(s))
+}
+
+// `read_record_as` of a record alone, which is record 0.
 pub fn read_record(s: &[u8]) -> RecordRead
     ensures { λ r. ⌜ toldRecord r ≡ readRecord 0 (now (s .entry)) ⌝ }
 {

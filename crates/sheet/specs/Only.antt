@@ -12,6 +12,8 @@ use Rattle.sheet.specs.declared.RecordRead.{RecordRead}
 use Rattle.sheet.specs.Refusals.{given, numberOf, placeOf, toldOutcome, toldHeader, toldRecord, headerRefused, recordRefused, Wrote}
 use Rattle.sheet.specs.RefusalLaws.{outcome-only, header-only, record-only}
 use Rattle.sheet.specs.Header.{headerFault, readHeader, writeHeader}
+use Rattle.layout.specs.Bytes.{readOf}
+use Rattle.sheet.specs.RecordLaws.{recordAt}
 use Rattle.sheet.specs.Record.{recordFault, readRecord, writeRecord}
 use Rattle.sheet.specs.Writes.{Writes}
 
@@ -47,3 +49,6 @@ number-only r a b p q = p ∙ sym q
 
 pub place-only : (r : Refusal) (a b : ℕ) → a ≡ placeOf r → b ≡ placeOf r → a ≡ b
 place-only r a b p q = p ∙ sym q
+
+pub record-in-only : (s : List ℕ) (a b : Record) → a ≡ recordAt (readOf 16 s) → b ≡ recordAt (readOf 16 s) → a ≡ b
+record-in-only s a b p q = p ∙ sym q
