@@ -28,8 +28,6 @@ ghost use Rattle.sheet.specs.Writes.{Writes};
 
 const P6: u64 = 64;
 
-const P10: u64 = 1024;
-
 const P18: u64 = 262144;
 
 const P20: u64 = 1048576;
@@ -243,7 +241,7 @@ fn member_of(n: Long) -> Member
     let eta = (lo / P49 % 128) as u8;
     let stress = (lo / P41 % 256) as u8;
     let modulus = Modulus((lo / P24 % 131072) as u32);
-    let area = ShearArea((lo / P10 % 16384) as u16);
+    let area = ShearArea((lo / 1024 % 16384) as u16);
     let factor = SteelFactor((lo % 1024) as u16);
     Member {
         z,
@@ -314,7 +312,7 @@ fn member_number(kind: u8, id: u16, m: Member) -> Long
     let top = (kind as u64) * P60 + (id as u64) * P50 + (m.z.0 as u64) * P40;
     let mid = (m.spacing.0 as u64) * P28 + (m.span.0 as u64) * P18 + (m.thickness.0 as u64) * P6;
     let low = bending % 2 * P63 + (m.shear as u64) * P56 + (m.eta as u64) * P49;
-    let last = (m.stress as u64) * P41 + (m.modulus.0 as u64) * P24 + (m.area.0 as u64) * P10;
+    let last = (m.stress as u64) * P41 + (m.modulus.0 as u64) * P24 + (m.area.0 as u64) * 1024;
     Long {
         hi: top + mid + bending / 2,
         lo: low + last + m.factor.0 as u64,
