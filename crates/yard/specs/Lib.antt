@@ -1,2 +1,4 @@
 pub mod Packed
 pub mod Fields
+pub mod Writing
+pub mod Held

@@ -29,6 +29,8 @@ ghost use Rattle.sheet.specs.Refusals.{given, told, toldOutcome, toldHeader, to
 ghost use Rattle.sheet.specs.Header.{readHeader};
 ghost use Rattle.sheet.specs.Record.{readRecord};
 ghost use Rattle.yard.specs.Packed.{packed, fine, Checks, Reads, Wrote};
+ghost use Rattle.yard.specs.Writing.{writeHeaderNumbers, writeRecordNumbers};
+ghost use Rattle.yard.specs.Held.{held, firstOf, headerHeld, plateHeld, memberHeld, recordHeld, headerApart, plateApart, memberApart, recordApart};
 ghost use Rattle.yard.specs.Fields.{entryNumbers, headerNumbers, plateNumbers, memberNumbers, recordNumbers, numbered};
 
 // A refusal's number counts these.
@@ -226,4 +228,200 @@ pub extern "C" fn yard_read_record(bytes: &[u8], fields: &mut [u32; 13]) -> u64
             0
         }
     }
+}
+
+// A number that the byte cannot hold becomes 255, never a cut one. Every line but that of σ1 ends below that, so that such a number is still faulty.
+fn held_byte(x: u32) -> u8
+    ensures { λ r. ⌜ r ≡ held 255 x ⌝ }
+{
+    if x <= 255 { x as u8 } else { 255 }
+}
+
+// The same in sixteen bits, below whose highest number every line ends.
+fn held_short(x: u32) -> u16
+    ensures { λ r. ⌜ r ≡ held 65535 x ⌝ }
+{
+    if x <= 65535 { x as u16 } else { 65535 }
+}
+
+// The first of two faulty fields, or of two refusals by their numbers, 0 being none: the refusal of an earlier field has the lower number.
+fn first_of(a: u64, b: u64) -> u64
+    ensures { λ r. ⌜ r ≡ firstOf a b ⌝ }
+{
+    if a == 0 {
+        return b;
+    }
+    if b == 0 {
+        return a;
+    }
+    if a < b { a } else { b }
+}
+
+fn header_held(f: [u32; 8]) -> Header
+    ensures { λ r. ⌜ r ≡ headerHeld f ⌝ }
+{
+    let version = held_byte(f[0]);
+    let length = Span(held_short(f[1]));
+    let draught = Span(held_short(f[2]));
+    let wave = Span(held_short(f[3]));
+    let two_runs = f[4] == 1;
+    let moment = f[5];
+    let bottom_modulus = f[6];
+    let count = held_short(f[7]);
+    Header {
+        version,
+        length,
+        draught,
+        wave,
+        two_runs,
+        moment,
+        bottom_modulus,
+        count,
+    }
+}
+
+// The field of a header that is at fault although what it was held as is not, or 0: runs.
+fn header_apart(f: [u32; 8]) -> u8
+    ensures { λ r. ⌜ r ≡ headerApart f ⌝ }
+{
+    layout::fault_unless(f[4], 0, 1, 5, 0)
+}
+
+#[no_mangle]
+pub extern "C" fn yard_write_header(fields: &[u32; 8], out: &mut [u8]) -> u64
+    ensures { λ r. ⌜ Wrote (writeHeaderNumbers (now (fields .entry)) (now (out .entry))) r (now (out .exit)) ⌝ }
+{
+    let f = *fields;
+    let h = header_held(f);
+    let apart = header_apart(f);
+    if apart == 0 {
+        let o = header::write_header(h, out);
+        return packed_outcome(o);
+    }
+    if out.len() < 12 {
+        return packed_refusal(Refusal::OutputShort);
+    }
+    let found = packed_outcome(header::header_fault(h));
+    let here = packed_refusal(Refusal::HeaderField(apart as u32));
+    first_of(found, here)
+}
+
+fn plate_held(f: [u32; 13]) -> Plate
+    ensures { λ r. ⌜ r ≡ plateHeld f ⌝ }
+{
+    let factor = SteelFactor(held_short(f[2]));
+    let z = Span(held_short(f[3]));
+    let spacing = Spacing(held_short(f[4]));
+    let thickness = Thickness(held_short(f[5]));
+    let b1 = Span(held_short(f[6]));
+    let b2 = Span(held_short(f[7]));
+    let ballast = f[8] == 1;
+    let tank_top = Span(held_short(f[9]));
+    let cargo = f[10];
+    Plate {
+        factor,
+        z,
+        spacing,
+        thickness,
+        b1,
+        b2,
+        ballast,
+        tank_top,
+        cargo,
+    }
+}
+
+fn member_held(f: [u32; 13]) -> Member
+    ensures { λ r. ⌜ r ≡ memberHeld f ⌝ }
+{
+    let z = Span(held_short(f[2]));
+    let spacing = Spacing(held_short(f[3]));
+    let span = Span(held_short(f[4]));
+    let thickness = Thickness(held_short(f[5]));
+    let bending = held_byte(f[6]);
+    let shear = held_byte(f[7]);
+    let eta = held_byte(f[8]);
+    let stress = held_byte(f[9]);
+    let modulus = Modulus(f[10]);
+    let area = ShearArea(held_short(f[11]));
+    let factor = SteelFactor(held_short(f[12]));
+    Member {
+        z,
+        spacing,
+        span,
+        thickness,
+        bending,
+        shear,
+        eta,
+        stress,
+        modulus,
+        area,
+        factor,
+    }
+}
+
+fn record_held(f: [u32; 13]) -> Record
+    ensures { λ r. ⌜ r ≡ recordHeld f ⌝ }
+{
+    let kind = held_byte(f[0]);
+    let id = held_short(f[1]);
+    if f[0] < 5 {
+        let p = plate_held(f);
+        Record {
+            kind,
+            id,
+            body: Body::Plate(p),
+        }
+    } else {
+        let m = member_held(f);
+        Record {
+            kind,
+            id,
+            body: Body::Member(m),
+        }
+    }
+}
+
+// The first field of a plate that is at fault although what it was held as is not, or 0: ballast, and the numbers past the cargo, which are 0.
+fn plate_apart(f: [u32; 13]) -> u8
+    ensures { λ r. ⌜ r ≡ plateApart f ⌝ }
+{
+    let past = layout::fault_unless(f[12], 0, 0, 12, 0);
+    let past = layout::fault_unless(f[11], 0, 0, 12, past);
+    layout::fault_unless(f[8], 0, 1, 9, past)
+}
+
+// The same of a member: σ1.
+fn member_apart(f: [u32; 13]) -> u8
+    ensures { λ r. ⌜ r ≡ memberApart f ⌝ }
+{
+    layout::fault_unless(f[9], 0, 255, 10, 0)
+}
+
+fn record_apart(f: [u32; 13]) -> u8
+    ensures { λ r. ⌜ r ≡ recordApart f ⌝ }
+{
+    if f[0] < 5 {
+        return plate_apart(f);
+    }
+    member_apart(f)
+}
+
+#[no_mangle]
+pub extern "C" fn yard_write_record(fields: &[u32; 13], out: &mut [u8]) -> u64
+    ensures { λ r. ⌜ Wrote (writeRecordNumbers (now (fields .entry)) (now (out .entry))) r (now (out .exit)) ⌝ }
+{
+    let f = *fields;
+    let a = record_held(f);
+    let apart = record_apart(f);
+    if apart == 0 {
+        let o = record::write_record(a, out);
+        return packed_outcome(o);
+    }
+    if out.len() < 16 {
+        return packed_refusal(Refusal::OutputShort);
+    }
+    let found = packed_outcome(record::record_fault(a, 0));
+    let here = packed_refusal(Refusal::Field(apart as u32));
+    first_of(found, here)
 }
