@@ -1,0 +1,267 @@
+/* Calls every function of the library yard on good, short and damaged input, and prints what each did. Every buffer stands between canaries, which are
+   looked at after every call. With a sheet on standard input and the word "check", prints what ./barge prints; with the word "sheet", writes the
+   example of the scope, made by the library. */
+#include "praithong.h"
+
+int printf(const char *format, ...);
+int strcmp(const char *a, const char *b);
+long read(int fd, void *buffer, unsigned long count);
+long write(int fd, const void *buffer, unsigned long count);
+void exit(int status);
+
+#define GUARD 16
+#define ROOM 8192
+#define CANARY 0xC5
+
+/* A buffer of bytes or of numbers, with a guard on each side. */
+static uint8_t guarded_bytes[GUARD + ROOM + GUARD];
+static uint8_t guarded_sheet[GUARD + ROOM + GUARD];
+static uint32_t guarded_fields[GUARD + 16 + GUARD];
+static uint8_t *const out = guarded_bytes + GUARD;
+static uint8_t *const sheet = guarded_sheet + GUARD;
+static uint32_t *const fields = guarded_fields + GUARD;
+
+static void fill(void) {
+  for (int i = 0; i < (int)sizeof guarded_bytes; i++) guarded_bytes[i] = CANARY;
+  for (int i = 0; i < GUARD + 16 + GUARD; i++) guarded_fields[i] = CANARY;
+}
+
+static void clear_sheet(void) {
+  for (int i = 0; i < (int)sizeof guarded_sheet; i++) guarded_sheet[i] = CANARY;
+}
+
+static void broken(const char *name, const char *what, int at) {
+  printf("%s: %s %d was changed\n", name, what, at);
+  exit(1);
+}
+
+/* Nothing but the first `bytes` bytes of out and the first `numbers` fields may have changed, and nothing around the sheet. */
+static void intact(const char *name, int bytes, int numbers) {
+  for (int i = 0; i < (int)sizeof guarded_bytes; i++)
+    if ((i < GUARD || GUARD + bytes <= i) && guarded_bytes[i] != CANARY) broken(name, "byte", i - GUARD);
+  for (int i = 0; i < GUARD + 16 + GUARD; i++)
+    if ((i < GUARD || GUARD + numbers <= i) && guarded_fields[i] != CANARY) broken(name, "field", i - GUARD);
+  for (int i = 0; i < GUARD; i++)
+    if (guarded_sheet[i] != CANARY || guarded_sheet[GUARD + ROOM + i] != CANARY) broken(name, "byte around the sheet", i);
+}
+
+static void refused(const char *name, uint64_t answer) {
+  printf("%s: refused %u %u\n", name, yard_number(answer), yard_place(answer));
+  intact(name, 0, 0);
+}
+
+static void show_bytes(const char *name, int count) {
+  printf("%s:", name);
+  for (int i = 0; i < count; i++) printf(" %02x", out[i]);
+  printf("\n");
+  intact(name, count, 0);
+}
+
+static void show_fields(const char *name, int count) {
+  printf("%s:", name);
+  for (int i = 0; i < count; i++) printf(" %u", fields[i]);
+  printf("\n");
+  intact(name, 0, count);
+}
+
+static void check(const char *name, uint64_t length, uint64_t room) {
+  fill();
+  uint64_t answer = yard_check(sheet, length, out, room);
+  if (yard_is_refused(answer)) {
+    refused(name, answer);
+    return;
+  }
+  printf("%s: n %u failed %u\n", name, yard_n(answer), yard_failed(answer));
+  show_bytes(name, 4 * (int)yard_n(answer));
+}
+
+static void read_as(const char *name, int count, uint64_t (*function)(const uint8_t *, uint64_t, uint32_t *), uint64_t length) {
+  fill();
+  uint64_t answer = function(sheet, length, fields);
+  if (yard_is_refused(answer)) {
+    refused(name, answer);
+    return;
+  }
+  printf("%s: answer %lu\n", name, answer);
+  show_fields(name, count);
+}
+
+static void write_as(const char *name, const uint32_t *numbers, int count, uint64_t (*function)(const uint32_t *, uint8_t *, uint64_t), uint64_t room) {
+  fill();
+  uint64_t answer = function(numbers, out, room);
+  if (yard_is_refused(answer)) {
+    refused(name, answer);
+    return;
+  }
+  printf("%s: answer %lu\n", name, answer);
+  show_bytes(name, count);
+}
+
+static const uint32_t vessel[8] = {1, 8000, 250, 60, 0, 20000, 200000, 2};
+static const uint32_t plate[13] = {2, 7, 1000, 0, 500, 600, 0, 0, 0, 0, 0, 0, 0};
+static const uint32_t member[13] = {5, 12, 0, 500, 300, 420, 100, 100, 90, 50, 560, 168, 1000};
+static uint32_t damaged[13];
+
+static const uint32_t *with(const uint32_t *numbers, int count, int at, uint32_t number) {
+  for (int i = 0; i < count; i++) damaged[i] = i == at ? number : numbers[i];
+  return damaged;
+}
+
+/* The example of the scope: a vessel with a plate and a longitudinal. */
+static void example(void) {
+  clear_sheet();
+  if (yard_write_header(vessel, sheet, 44) | yard_write_record(plate, sheet + 12, 32) | yard_write_record(member, sheet + 28, 16)) {
+    printf("the example was not written\n");
+    exit(1);
+  }
+}
+
+static void headers(void) {
+  write_as("header written", vessel, 12, yard_write_header, 12);
+  write_as("header into more room", vessel, 12, yard_write_header, 40);
+  write_as("header into 11 bytes", vessel, 12, yard_write_header, 11);
+  write_as("header into no bytes", with(vessel, 8, 0, 7), 12, yard_write_header, 0);
+  write_as("version 2", with(vessel, 8, 0, 2), 12, yard_write_header, 12);
+  write_as("version 257", with(vessel, 8, 0, 257), 12, yard_write_header, 12);
+  write_as("L 70000", with(vessel, 8, 1, 70000), 12, yard_write_header, 12);
+  write_as("L 8000 + 65536", with(vessel, 8, 1, 8000 + 65536), 12, yard_write_header, 12);
+  write_as("D0 0", with(vessel, 8, 2, 0), 12, yard_write_header, 12);
+  write_as("H 61", with(vessel, 8, 3, 61), 12, yard_write_header, 12);
+  write_as("H 65596", with(vessel, 8, 3, 65596), 12, yard_write_header, 12);
+  write_as("two runs", with(vessel, 8, 4, 1), 12, yard_write_header, 12);
+  write_as("runs 2", with(vessel, 8, 4, 2), 12, yard_write_header, 12);
+  write_as("runs 2 in 11 bytes", damaged, 12, yard_write_header, 11);
+  damaged[7] = 401;
+  write_as("runs 2 and n 401", damaged, 12, yard_write_header, 12);
+  damaged[2] = 1001;
+  write_as("D0 1001, runs 2 and n 401", damaged, 12, yard_write_header, 12);
+  write_as("M 1000001", with(vessel, 8, 5, 1000001), 12, yard_write_header, 12);
+  write_as("ZB 4294967295", with(vessel, 8, 6, 4294967295u), 12, yard_write_header, 12);
+  write_as("n 65938", with(vessel, 8, 7, 65938), 12, yard_write_header, 12);
+  example();
+  read_as("header read", 8, yard_read_header, 44);
+  read_as("header in 12 bytes", 8, yard_read_header, 12);
+  read_as("header in 11 bytes", 8, yard_read_header, 11);
+  sheet[11] |= 1;
+  read_as("header with a spare bit", 8, yard_read_header, 12);
+  sheet[0] = 0;
+  read_as("header with no version", 8, yard_read_header, 12);
+}
+
+static void records(void) {
+  write_as("plate written", plate, 16, yard_write_record, 16);
+  write_as("plate into 15 bytes", plate, 16, yard_write_record, 15);
+  write_as("kind 257", with(plate, 13, 0, 257), 16, yard_write_record, 16);
+  write_as("kind 258 of a plate", with(plate, 13, 0, 258), 16, yard_write_record, 16);
+  write_as("kind 0", with(plate, 13, 0, 0), 16, yard_write_record, 16);
+  write_as("kind 9", with(member, 13, 0, 9), 16, yard_write_record, 16);
+  write_as("id 65543", with(plate, 13, 1, 65543), 16, yard_write_record, 16);
+  write_as("z 65536", with(plate, 13, 3, 65536), 16, yard_write_record, 16);
+  write_as("ballast 7", with(plate, 13, 8, 7), 16, yard_write_record, 16);
+  write_as("ballast 7 in 3 bytes", damaged, 16, yard_write_record, 3);
+  damaged[10] = 1;
+  damaged[11] = 1;
+  write_as("ballast 7, cargo and a number past it", damaged, 16, yard_write_record, 16);
+  damaged[5] = 4294967295u;
+  write_as("T 4294967295, ballast 7, cargo and a number past it", damaged, 16, yard_write_record, 16);
+  write_as("ballast with a tank top at z", with(plate, 13, 8, 1), 16, yard_write_record, 16);
+  damaged[9] = 120;
+  write_as("ballast with a tank top", damaged, 16, yard_write_record, 16);
+  damaged[3] = 121;
+  write_as("a tank top below z", damaged, 16, yard_write_record, 16);
+  write_as("a number past the cargo", with(plate, 13, 11, 1), 16, yard_write_record, 16);
+  write_as("the last number", with(plate, 13, 12, 4294967295u), 16, yard_write_record, 16);
+  damaged[10] = 5;
+  write_as("cargo and the last number", damaged, 16, yard_write_record, 16);
+  write_as("member written", member, 16, yard_write_record, 16);
+  write_as("sigma 1 of 255", with(member, 13, 9, 255), 16, yard_write_record, 16);
+  write_as("sigma 1 of 256", with(member, 13, 9, 256), 16, yard_write_record, 16);
+  damaged[12] = 0;
+  write_as("sigma 1 of 256 and K 0", damaged, 16, yard_write_record, 16);
+  damaged[8] = 356;
+  write_as("eta 356, sigma 1 of 256 and K 0", damaged, 16, yard_write_record, 16);
+  write_as("W 100001", with(member, 13, 10, 100001), 16, yard_write_record, 16);
+  example();
+  for (int i = 0; i < 16; i++) sheet[i] = sheet[i + 12];
+  read_as("plate read", 13, yard_read_record, 16);
+  read_as("plate in 15 bytes", 13, yard_read_record, 15);
+  sheet[15] |= 1;
+  read_as("plate with a spare bit", 13, yard_read_record, 16);
+  sheet[0] &= 15;
+  read_as("record with no kind", 13, yard_read_record, 16);
+  for (int i = 0; i < 16; i++) sheet[i] = sheet[i + 28];
+  read_as("member read", 13, yard_read_record, 20);
+  sheet[14] &= 0xFC;
+  read_as("member with K 232", 13, yard_read_record, 16);
+}
+
+static void sheets(void) {
+  example();
+  check("example", 44, 8);
+  check("example into more room", 44, 100);
+  check("example into 7 bytes", 44, 7);
+  check("example with a byte too few", 43, 8);
+  check("example with a byte too many", 45, 8);
+  check("11 bytes", 11, 8);
+  sheet[28] = 0xF0;
+  check("kind 15", 44, 8);
+  example();
+  sheet[42] &= 0xFC;
+  check("K 232 in record 1", 44, 8);
+  example();
+  for (int i = 28; i < 44; i++) sheet[i] = sheet[i - 16];
+  check("equal ids", 44, 8);
+}
+
+static void verdicts(void) {
+  example();
+  fill();
+  yard_check(sheet, 44, out, 8);
+  for (int i = 0; i < 8; i++) sheet[i] = out[i];
+  read_as("verdict read", 3, yard_read_verdict, 8);
+  read_as("verdict in 3 bytes", 3, yard_read_verdict, 3);
+  sheet[3] |= 1;
+  read_as("verdict with a spare bit", 3, yard_read_verdict, 4);
+  sheet[1] &= 0xC7;
+  read_as("pass that requires", 3, yard_read_verdict, 4);
+}
+
+/* What ./barge prints of the sheet on standard input. */
+static void as_barge(void) {
+  fill();
+  uint64_t length = 0;
+  long got;
+  while (length < ROOM && (got = read(0, sheet + length, ROOM - length)) > 0) length += (uint64_t)got;
+  uint64_t answer = yard_check(sheet, length, out, ROOM);
+  if (yard_is_refused(answer)) {
+    intact("check", 0, 0);
+    printf("refused %u %u\n", yard_number(answer), yard_place(answer));
+    return;
+  }
+  intact("check", 4 * (int)yard_n(answer), 0);
+  for (uint32_t i = 0; i < yard_n(answer); i++) {
+    if (yard_read_verdict(out + 4 * i, 4, fields) != 0) {
+      printf("verdict %u cannot be read\n", i);
+      exit(1);
+    }
+    intact("verdict", 4 * (int)yard_n(answer), 3);
+    printf("%u %u %u\n", fields[0], fields[1], fields[2]);
+  }
+  printf("%u %u\n", yard_n(answer), yard_failed(answer));
+}
+
+int main(int count, char **words) {
+  clear_sheet();
+  if (count == 2 && strcmp(words[1], "check") == 0) {
+    as_barge();
+  } else if (count == 2 && strcmp(words[1], "sheet") == 0) {
+    example();
+    write(1, sheet, 44);
+  } else {
+    headers();
+    records();
+    sheets();
+    verdicts();
+  }
+  return 0;
+}

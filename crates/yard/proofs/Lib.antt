@@ -1,0 +1,5 @@
+pub mod Reading
+pub mod First
+pub mod Numbers
+pub mod Writing
+pub mod Writers

@@ -1,0 +1,331 @@
+-- The first fault of a header's and of a record's numbers, from what they are held as; and where there is none, they are held as they are.
+-- Assumes nothing.
+use Prim.Native.Nat.{ℕ, _+_, _≤_, _<_}
+use mathlib.Core.Path.{_≡_, refl, sym, ap, ap₂, _∙_}
+use mathlib.Core.Bool.{Bool, true, false, cond, _&&_}
+use mathlib.Core.List.{List, [], _∷_, _++_}
+use native.Mathlib.Omega.{arith}
+use lib.ListN.{getD}
+use lib.Dec.{leb, eqb, lit≤}
+use borrow.Author.Tests.{eq-eqb, ne-eqb, eqb-true, eqb-false, le-leb, lt-leb, leb-false}
+use Rattle.quantity.specs.Range.{Range, within, from, span, spacing, thickness, modulus, shearArea, steelFactor}
+use Rattle.quantity.specs.Laws.{one-value}
+use Rattle.layout.specs.Line.{Line, Allowed, faultFrom, endBelow}
+use Rattle.layout.specs.LineLaws.{none-all, low-high}
+use Rattle.sheet.specs.declared.Record.{Record}
+use Rattle.sheet.specs.declared.Body.the-variants.{Plate as isPlate, Member as isMember}
+use Rattle.sheet.specs.Kinds.{isLong, isBottom, isFloor, isDeep}
+use Rattle.sheet.specs.Lines.{either, none, headerLines, plateLines, memberLines, waves}
+use Rattle.sheet.specs.Header.{headerValues, headerAt, headerFault}
+use Rattle.sheet.specs.Record.{plateValues, memberValues, plateRecord, memberRecord, plateLinesOf, memberLinesOf, plateFault, memberFault, bodyFault, recordFault}
+use Rattle.sheet.specs.HeaderLaws.{flag-within}
+use Rattle.yard.specs.Held.{held, firstOf, headerHeld, headerApart, plateHeld, plateApart, memberHeld, memberApart, recordHeld, recordApart}
+use Rattle.yard.specs.Writing.{numbersFrom, headerNumbersFault, plateFields, recordFrom, recordNumbersFault, plateNumbered}
+use Rattle.yard.proofs.First.{okays, faultOf, Agree, agree-fault, held-allows, held-same, held-in}
+
+and-true : (b : Bool) → b ≡ (b && true)
+and-true true = refl
+and-true false = refl
+
+-- a flag's number is tested by itself: what it is held as is always allowed
+flag-alone : (x : ℕ) → within (from 0 1) x ≡ (within (from 0 1) x && within (from 0 1) (cond (eqb x 1) 1 0))
+flag-alone x = rw (flag-within (eqb x 1)) (and-true (within (from 0 1) x))
+
+-- ---- a header
+
+module _ (ns : List ℕ) where
+  abbrev n : ℕ → ℕ
+  n i = getD ns i 0
+
+  abbrev headerTests : List Bool
+  headerTests = true ∷ true ∷ true ∷ true ∷ within (from 0 1) (n 4) ∷ true ∷ true ∷ true ∷ true ∷ []
+
+  header-agree : Agree (okays headerLines (numbersFrom 0 8 ns ++ 0 ∷ [])) headerTests (okays headerLines (headerValues (headerHeld ns) 0))
+  header-agree = (
+    held-allows 255 (from 1 1 ∷ []) (n 0) refl,
+    λ t₁. (
+      held-allows 65535 (from 4000 (span .high) ∷ []) (n 1) refl,
+      λ t₂. (
+        held-allows 65535 (from 1 1000 ∷ []) (n 2) refl,
+        λ t₃. (
+          held-allows 65535 waves (n 3) refl,
+          λ t₄. (
+            flag-alone (n 4),
+            λ t₅. (
+              refl,
+              λ t₆. (
+                refl,
+                λ t₇. (
+                  held-allows 65535 (from 0 400 ∷ []) (n 7) refl,
+                  λ t₈.
+                      (refl, λ t₉. tt),
+                ),
+              ),
+            ),
+          ),
+        ),
+      ),
+    ),
+  )
+
+  pub header-numbers-fault : headerNumbersFault ns ≡ firstOf (headerFault (headerHeld ns) 0) (headerApart ns)
+  unfolding headerNumbersFault headerFault
+  header-numbers-fault = agree-fault 0 (okays headerLines (numbersFrom 0 8 ns ++ 0 ∷ [])) headerTests (okays headerLines (headerValues (headerHeld ns) 0)) header-agree
+
+  pub header-held-same : headerNumbersFault ns ≡ 0 → headerHeld ns ≡ headerAt ns
+  unfolding headerNumbersFault
+  header-held-same e =
+      let a : Allowed headerLines (numbersFrom 0 8 ns ++ 0 ∷ []) = none-all 0 headerLines (numbersFrom 0 8 ns ++ 0 ∷ []) e in
+      rw (
+        held-in 255 (from 1 1 ∷ []) (n 0) refl (a .0),
+        held-in 65535 (from 4000 (span .high) ∷ []) (n 1) refl (a .1 .0),
+        held-in 65535 (from 1 1000 ∷ []) (n 2) refl (a .1 .1 .0),
+        held-in 65535 waves (n 3) refl (a .1 .1 .1 .0),
+        held-in 65535 (from 0 400 ∷ []) (n 7) refl (a .1 .1 .1 .1 .1 .1 .1 .0),
+      )
+
+  pub header-apart-past : (headerApart ns ≡ 0 → ⊥) → 2 ≤ headerApart ns
+  header-apart-past = go (within (from 0 1) (n 4))
+    where
+      go : (b : Bool) → (_≡_ {A = ℕ} (cond b 0 5) 0 → ⊥) → 2 ≤ cond b 0 5
+      go true h = absurd (h refl)
+      go false h = lit≤ tt
+
+-- ---- a plate
+
+-- one test and then another is both
+both-tests : {A : Type 0} (a b : Bool) (x y : A) → cond (a && b) x y ≡ cond a (cond b x y) y
+both-tests true b x y = refl
+both-tests false b x y = refl
+
+-- two numbers are 0 exactly when their sum is
+zero-sum : (a b : ℕ) → within none (a + b) ≡ ((within none a && within none b) && true)
+zero-sum a b = one-value 0 (a + b) ∙ go (eqb a 0) refl (eqb b 0) refl ∙ sym (ap₂ (λ (s t : Bool). (s && t) && true) (one-value 0 a) (one-value 0 b))
+  where
+    go : (s : Bool) → eqb a 0 ≡ s → (t : Bool) → eqb b 0 ≡ t → eqb (a + b) 0 ≡ ((s && t) && true)
+    go true p true q = eq-eqb (a + b) 0 (omega (arith, eqb-true a 0 p, eqb-true b 0 q))
+    go true p false q = let m = eqb-false b 0 q in ne-eqb (a + b) 0 (λ z. m (omega arith))
+    go false p t q = let m = eqb-false a 0 p in ne-eqb (a + b) 0 (λ z. m (omega arith))
+
+-- lines by a test end below what is held, in either case
+by-test : (t : Bool) (top : ℕ) (r s : Range) → endBelow top (r ∷ []) ≡ true → endBelow top (s ∷ []) ≡ true → endBelow top (either t r s ∷ []) ≡ true
+by-test true top r s p q = p
+by-test false top r s p q = q
+
+module _ (ns : List ℕ) where
+  abbrev m : ℕ → ℕ
+  m i = getD ns i 0
+
+  abbrev kind : ℕ
+  kind = held 255 (m 0)
+
+  abbrev plateTests : List Bool
+  plateTests =
+      true ∷ true ∷ true ∷ true ∷ true ∷ true ∷ true ∷ true ∷ within (from 0 1) (m 8) ∷ true ∷ true ∷ (within none (m 11) && within none (m 12)) ∷ []
+
+  abbrev heldPlateLines : List Line
+  heldPlateLines = plateLines kind (eqb (m 8) 1) (held 65535 (m 3))
+
+  abbrev heldPlateValues : List ℕ
+  heldPlateValues = plateValues kind (held 65535 (m 1)) (plateHeld ns) 0
+
+  kind-held : within (from 1 4) (m 0) ≡ true → m 0 ≡ kind
+  kind-held t = sym (held-in 255 (from 1 4 ∷ []) (m 0) refl t)
+
+  -- b1 and b2
+  breadth : (x : ℕ) → within (from 1 4) (m 0) ≡ true → within (either (isLong (m 0)) none (from 10 1000)) x ≡ within (either (isLong kind) none (from 10 1000)) (held 65535 x)
+  breadth x t =
+      held-allows 65535 (either (isLong (m 0)) none (from 10 1000) ∷ []) x (by-test (isLong (m 0)) 65535 none (from 10 1000) refl refl)
+      ∙ ap (λ (k : ℕ). within (either (isLong k) none (from 10 1000)) (held 65535 x)) (kind-held t)
+
+  plate-agree : Agree (okays (plateLinesOf ns) (plateFields ns)) plateTests (okays heldPlateLines heldPlateValues)
+  plate-agree = (
+    held-allows 255 (from 1 4 ∷ []) (m 0) refl,
+    λ t₁. (
+      held-allows 65535 (from 1 1000 ∷ []) (m 1) refl,
+      λ t₂. (
+        held-allows 65535 (steelFactor ∷ []) (m 2) refl,
+        λ t₃. (
+          held-allows 65535 (from 0 1000 ∷ []) (m 3) refl,
+          λ t₄. (
+            held-allows 65535 (from (spacing .low) 2000 ∷ []) (m 4) refl,
+            λ t₅. (
+              held-allows 65535 (thickness ∷ []) (m 5) refl,
+              λ t₆. (
+                breadth (m 6) t₁,
+                λ t₇. (
+                  breadth (m 7) t₁,
+                  λ t₈. (
+                    flag-alone (m 8),
+                    λ t₉. (
+                      held-allows 65535 (either (eqb (m 8) 1) (from (m 3) 1200) none ∷ []) (m 9) (by-test (eqb (m 8) 1) 65535 (from (m 3) 1200) none refl refl)
+                          ∙ ap (λ (z : ℕ). within (either (eqb (m 8) 1) (from z 1200) none) (held 65535 (m 9))) (sym (held-in 65535 (from 0 1000 ∷ []) (m 3) refl t₄)),
+                      λ t₁₀. (
+                        ap (λ (k : ℕ). within (from 0 (cond (isBottom k) 0 200000)) (m 10)) (kind-held t₁),
+                        λ t₁₁.
+                            (zero-sum (m 11) (m 12), λ t₁₂. tt),
+                      ),
+                    ),
+                  ),
+                ),
+              ),
+            ),
+          ),
+        ),
+      ),
+    ),
+  )
+
+  plate-numbers-fault : faultFrom 1 (plateLinesOf ns) (plateFields ns) ≡ firstOf (plateFault kind (held 65535 (m 1)) (plateHeld ns) 0) (plateApart ns)
+  unfolding plateFault
+  plate-numbers-fault =
+      agree-fault 0 (okays (plateLinesOf ns) (plateFields ns)) plateTests (okays heldPlateLines heldPlateValues) plate-agree
+      ∙ ap (λ (x : ℕ). firstOf (faultFrom 1 heldPlateLines heldPlateValues) (cond (within (from 0 1) (m 8)) x 9)) (both-tests (within none (m 11)) (within none (m 12)) 0 12)
+
+  plate-held-same : faultFrom 1 (plateLinesOf ns) (plateFields ns) ≡ 0
+      → _≡_ {A = Record} (record { kind = kind; id = held 65535 (m 1); body = isPlate (plateHeld ns) }) (plateRecord ns)
+  plate-held-same e =
+      let a : Allowed (plateLinesOf ns) (plateFields ns) = none-all 0 (plateLinesOf ns) (plateFields ns) e in
+      let b = a .1 .1 .1 .1 .1 .1 in
+      let breadths = either (isLong (m 0)) none (from 10 1000) ∷ [] in
+      let below = by-test (isLong (m 0)) 65535 none (from 10 1000) refl refl in
+      rw (
+        held-in 255 (from 1 4 ∷ []) (m 0) refl (a .0),
+        held-in 65535 (from 1 1000 ∷ []) (m 1) refl (a .1 .0),
+        held-in 65535 (steelFactor ∷ []) (m 2) refl (a .1 .1 .0),
+        held-in 65535 (from 0 1000 ∷ []) (m 3) refl (a .1 .1 .1 .0),
+        held-in 65535 (from (spacing .low) 2000 ∷ []) (m 4) refl (a .1 .1 .1 .1 .0),
+        held-in 65535 (thickness ∷ []) (m 5) refl (a .1 .1 .1 .1 .1 .0),
+        held-in 65535 breadths (m 6) below (b .0),
+        held-in 65535 breadths (m 7) below (b .1 .0),
+        held-in 65535 (either (eqb (m 8) 1) (from (m 3) 1200) none ∷ []) (m 9) (by-test (eqb (m 8) 1) 65535 (from (m 3) 1200) none refl refl) (b .1 .1 .1 .0),
+      )
+
+  -- ---- a member
+
+  abbrev memberTests : List Bool
+  memberTests = true ∷ true ∷ true ∷ true ∷ true ∷ true ∷ true ∷ true ∷ true ∷ within (from 0 255) (m 9) ∷ true ∷ true ∷ true ∷ []
+
+  abbrev heldMemberValues : List ℕ
+  heldMemberValues = memberValues kind (held 65535 (m 1)) (memberHeld ns)
+
+  member-kind : within (from 5 8) (m 0) ≡ true → m 0 ≡ kind
+  member-kind t = sym (held-in 255 (from 5 8 ∷ []) (m 0) refl t)
+
+  -- σ1 is tested by itself: what more than 255 is held as is allowed
+  stress-alone : (t : Bool) (x : ℕ) → within (from 0 (cond t 0 255)) x ≡ (within (from 0 255) x && within (from 0 (cond t 0 255)) (held 255 x))
+  stress-alone t x = go (leb x 255) refl
+    where
+      over : (t : Bool) → 255 < x → cond t 0 255 < x
+      over true l = omega arith
+      over false l = l
+
+      go : (b : Bool) → leb x 255 ≡ b → within (from 0 (cond t 0 255)) x ≡ ((leb 0 x && b) && within (from 0 (cond t 0 255)) (cond b x 255))
+      go true e = rw (le-leb 0 x (omega arith))
+      go false e = rw (le-leb 0 x (omega arith), lt-leb x (cond t 0 255) (over t (leb-false x 255 e)))
+
+  deep-below : (t : Bool) → endBelow 65535 (from 0 (cond t 0 1000) ∷ []) ≡ true
+  deep-below true = refl
+  deep-below false = refl
+
+  member-agree : Agree (okays (memberLinesOf ns) (numbersFrom 0 13 ns)) memberTests (okays (memberLines kind) heldMemberValues)
+  member-agree = (
+    held-allows 255 (from 5 8 ∷ []) (m 0) refl,
+    λ t₁. (
+      held-allows 65535 (from 1 1000 ∷ []) (m 1) refl,
+      λ t₂. (
+        held-allows 65535 (from 0 (cond (isDeep (m 0)) 0 1000) ∷ []) (m 2) (deep-below (isDeep (m 0)))
+            ∙ ap (λ (k : ℕ). within (from 0 (cond (isDeep k) 0 1000)) (held 65535 (m 2))) (member-kind t₁),
+        λ t₃. (
+          held-allows 65535 (spacing ∷ []) (m 3) refl,
+          λ t₄. (
+            held-allows 65535 (from 10 1000 ∷ []) (m 4) refl,
+            λ t₅. (
+              held-allows 65535 (thickness ∷ []) (m 5) refl,
+              λ t₆. (
+                held-allows 255 (from 1 100 ∷ []) (m 6) refl,
+                λ t₇. (
+                  held-allows 255 (from 1 100 ∷ []) (m 7) refl,
+                  λ t₈. (
+                    held-allows 255 (either (isFloor (m 0)) (from 100 100) (from 1 100) ∷ []) (m 8) (by-test (isFloor (m 0)) 255 (from 100 100) (from 1 100) refl refl)
+                        ∙ ap (λ (k : ℕ). within (either (isFloor k) (from 100 100) (from 1 100)) (held 255 (m 8))) (member-kind t₁),
+                    λ t₉. (
+                      stress-alone (isFloor (m 0)) (m 9)
+                          ∙ ap (λ (k : ℕ). within (from 0 255) (m 9) && within (from 0 (cond (isFloor k) 0 255)) (held 255 (m 9))) (member-kind t₁),
+                      λ t₁₀. (
+                        refl,
+                        λ t₁₁. (
+                          held-allows 65535 (shearArea ∷ []) (m 11) refl,
+                          λ t₁₂.
+                              (held-allows 65535 (steelFactor ∷ []) (m 12) refl, λ t₁₃. tt),
+                        ),
+                      ),
+                    ),
+                  ),
+                ),
+              ),
+            ),
+          ),
+        ),
+      ),
+    ),
+  )
+
+  member-numbers-fault : faultFrom 1 (memberLinesOf ns) (numbersFrom 0 13 ns) ≡ firstOf (memberFault kind (held 65535 (m 1)) (memberHeld ns)) (memberApart ns)
+  unfolding memberFault
+  member-numbers-fault = agree-fault 0 (okays (memberLinesOf ns) (numbersFrom 0 13 ns)) memberTests (okays (memberLines kind) heldMemberValues) member-agree
+
+  member-held-same : faultFrom 1 (memberLinesOf ns) (numbersFrom 0 13 ns) ≡ 0
+      → _≡_ {A = Record} (record { kind = kind; id = held 65535 (m 1); body = isMember (memberHeld ns) }) (memberRecord ns)
+  member-held-same e =
+      let a : Allowed (memberLinesOf ns) (numbersFrom 0 13 ns) = none-all 0 (memberLinesOf ns) (numbersFrom 0 13 ns) e in
+      let b = a .1 .1 .1 .1 .1 .1 in
+      rw (
+        held-in 255 (from 5 8 ∷ []) (m 0) refl (a .0),
+        held-in 65535 (from 1 1000 ∷ []) (m 1) refl (a .1 .0),
+        held-in 65535 (from 0 (cond (isDeep (m 0)) 0 1000) ∷ []) (m 2) (deep-below (isDeep (m 0))) (a .1 .1 .0),
+        held-in 65535 (spacing ∷ []) (m 3) refl (a .1 .1 .1 .0),
+        held-in 65535 (from 10 1000 ∷ []) (m 4) refl (a .1 .1 .1 .1 .0),
+        held-in 65535 (thickness ∷ []) (m 5) refl (a .1 .1 .1 .1 .1 .0),
+        held-in 255 (from 1 100 ∷ []) (m 6) refl (b .0),
+        held-in 255 (from 1 100 ∷ []) (m 7) refl (b .1 .0),
+        held-in 255 (either (isFloor (m 0)) (from 100 100) (from 1 100) ∷ []) (m 8) (by-test (isFloor (m 0)) 255 (from 100 100) (from 1 100) refl refl) (b .1 .1 .0),
+        stress-held (isFloor (m 0)) (m 9) (b .1 .1 .1 .0),
+        held-in 65535 (shearArea ∷ []) (m 11) refl (b .1 .1 .1 .1 .1 .0),
+        held-in 65535 (steelFactor ∷ []) (m 12) refl (b .1 .1 .1 .1 .1 .1 .0),
+      )
+    where
+      stress-held : (t : Bool) (x : ℕ) → within (from 0 (cond t 0 255)) x ≡ true → held 255 x ≡ x
+      stress-held true x q = held-in 255 (from 0 0 ∷ []) x refl q
+      stress-held false x q = held-same 255 x (low-high (from 0 255) x q .1)
+
+  -- ---- a record
+
+  pub record-numbers-fault : recordNumbersFault ns ≡ firstOf (recordFault (recordHeld ns) 0) (recordApart ns)
+  unfolding recordNumbersFault
+  record-numbers-fault = go (plateNumbered ns)
+    where
+      go : (t : Bool) → cond t (faultFrom 1 (plateLinesOf ns) (plateFields ns)) (faultFrom 1 (memberLinesOf ns) (numbersFrom 0 13 ns))
+          ≡ firstOf (bodyFault kind (held 65535 (m 1)) (cond t (isPlate (plateHeld ns)) (isMember (memberHeld ns))) 0) (cond t (plateApart ns) (memberApart ns))
+      go true = plate-numbers-fault
+      go false = member-numbers-fault
+
+  pub record-held-same : recordNumbersFault ns ≡ 0 → recordHeld ns ≡ recordFrom ns
+  unfolding recordNumbersFault
+  record-held-same = go (plateNumbered ns)
+    where
+      go : (t : Bool) → cond t (faultFrom 1 (plateLinesOf ns) (plateFields ns)) (faultFrom 1 (memberLinesOf ns) (numbersFrom 0 13 ns)) ≡ 0
+          → _≡_ {A = Record} (record { kind = kind; id = held 65535 (m 1); body = cond t (isPlate (plateHeld ns)) (isMember (memberHeld ns)) }) (cond t (plateRecord ns) (memberRecord ns))
+      go true e = plate-held-same e
+      go false e = member-held-same e
+
+  pub record-apart-past : (recordApart ns ≡ 0 → ⊥) → 2 ≤ recordApart ns
+  record-apart-past = go (plateNumbered ns) (within (from 0 1) (m 8)) (within none (m 11)) (within none (m 12)) (within (from 0 255) (m 9))
+    where
+      go : (t b c d s : Bool) → (_≡_ {A = ℕ} (cond t (cond b (cond c (cond d 0 12) 12) 9) (cond s 0 10)) 0 → ⊥) → 2 ≤ cond t (cond b (cond c (cond d 0 12) 12) 9) (cond s 0 10)
+      go true true true true s h = absurd (h refl)
+      go true true true false s h = lit≤ tt
+      go true true false d s h = lit≤ tt
+      go true false c d s h = lit≤ tt
+      go false b c d true h = absurd (h refl)
+      go false b c d false h = lit≤ tt

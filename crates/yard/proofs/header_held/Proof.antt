@@ -1,0 +1,32 @@
+-- `yard::header_held` meets its contract.
+-- Assumes nothing.
+use borrow.Author.Needs.{needs}
+use Rattle.yard.proofs.header_held.Statement.{statement}
+use Rattle.yard.proofs.header_held.Tie as tie
+
+returns : tie.Need-returns
+returns c =
+    let c₁ = c .before in
+    let c₂ = c₁ .before in
+    let c₃ = c₂ .before in
+    let c₄ = c₃ .before in
+    rw (c .held-short4 .ensures, c₁ .held-short3 .ensures, c₂ .held-short2 .ensures, c₃ .held-short .ensures, c₄ .held-byte .ensures)
+
+pub header-held-spec : {M : Type 1} → statement M
+header-held-spec =
+    tie.close
+    (tie.spec
+    (λ c. search needs)
+    (λ c κs. search needs)
+    (λ c. search needs)
+    (λ c κs. search needs)
+    (λ c. search needs)
+    (λ c κs. search needs)
+    (λ c. search needs)
+    (λ c κs. search needs)
+    (λ c. search needs)
+    (λ c. search needs)
+    (λ c. search needs)
+    (λ c. search needs)
+    (λ c κs. search needs)
+    returns)

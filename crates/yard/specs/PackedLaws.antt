@@ -1,0 +1,34 @@
+-- No two answers have the same number.
+-- Assumes nothing.
+use Prim.Native.Nat.{ℕ, _+_, _*_, _<_}
+use mathlib.Core.Path.{_≡_, refl, ap₂}
+use native.Mathlib.Omega.{arith}
+use Rattle.sheet.specs.Refusals.{Answer, given, refused}
+use Rattle.checker.specs.Check.{Totals}
+use Rattle.yard.specs.Packed.{packed, fine}
+
+-- the ranges that refusals have: the number is at least 1, and the place stays clear of it
+abbrev pub Told : {A : Type 0} → Answer A → Type 0
+Told (given a) = Unit {0}
+Told (refused k p) = (0 < k) × (p < 1099511627776)
+
+-- and those of a check's answer: what is given stays clear of the number of a refusal
+abbrev pub Answered : Answer Totals → Type 0
+Answered (given t) = (t .n < 16777216) × (t .failed < 65536)
+Answered (refused k p) = Told {A = Totals} (refused k p)
+
+pub packed-same : (a b : Answer Totals) → Answered a → Answered b → packed a ≡ packed b → a ≡ b
+packed-same (given t) (given u) x y e = ap₂ (λ (n f : ℕ). given (record { n = n; failed = f })) (omega (arith, x, y)) (omega (arith, x, y))
+packed-same (given t) (refused k p) x y e = absurd (omega (arith, x, y))
+packed-same (refused k p) (given t) x y e = absurd (omega (arith, x, y))
+packed-same (refused k p) (refused l q) x y e = ap₂ refused (omega (arith, x, y)) (omega (arith, x, y))
+
+-- of a reader or a writer: 0 exactly where there is no refusal
+pub fine-given : {A : Type 0} (a : Answer A) → Told a → fine a ≡ 0 → (x : A) × (a ≡ given x)
+fine-given (given x) t e = (x, refl)
+fine-given (refused k p) t e = absurd (omega (arith, t))
+
+-- and else which refusal it is
+pub fine-refused : {A : Type 0} (a : Answer A) (k p : ℕ) → Told a → 0 < k → p < 1099511627776 → fine a ≡ k * 1099511627776 + p → a ≡ refused k p
+fine-refused (given x) k p t l m e = absurd (omega arith)
+fine-refused (refused j q) k p t l m e = ap₂ refused (omega (arith, t)) (omega (arith, t))

@@ -1,0 +1,427 @@
+// The checker, the header, the records and the verdicts for programs in C or Rust: an answer crosses as one number, the fields as numbers in layout
+// order. include/praithong.h declares these functions.
+use checker::Checked;
+use checker::Entry;
+use checker::EntryRead;
+use quantity::Modulus;
+use quantity::ShearArea;
+use quantity::Spacing;
+use quantity::Span;
+use quantity::SteelFactor;
+use quantity::Thickness;
+use sheet::Body;
+use sheet::Header;
+use sheet::HeaderRead;
+use sheet::Member;
+use sheet::Outcome;
+use sheet::Plate;
+use sheet::Record;
+use sheet::RecordRead;
+use sheet::Refusal;
+ghost use mathlib.Core.Path.{_≡_};
+ghost use mathlib.Core.Bool.{cond};
+ghost use Prim.Native.Nat.{_+_, _*_, _≤_, _<_};
+ghost use lib.Dec.{leb, ltb, eqb};
+ghost use lib.ListN.{length, getD};
+ghost use Rattle.checker.specs.Check.{toldChecked};
+ghost use Rattle.checker.specs.Entry.{readEntry};
+ghost use Rattle.sheet.specs.Refusals.{given, told, toldOutcome, toldHeader, toldRecord};
+ghost use Rattle.sheet.specs.Header.{readHeader};
+ghost use Rattle.sheet.specs.Record.{readRecord};
+ghost use Rattle.yard.specs.Packed.{packed, fine, Checks, Reads, Wrote};
+ghost use Rattle.yard.specs.Writing.{writeHeaderNumbers, writeRecordNumbers};
+ghost use Rattle.yard.specs.Held.{held, firstOf, headerHeld, plateHeld, memberHeld, recordHeld, headerApart, plateApart, memberApart, recordApart};
+ghost use Rattle.yard.specs.Fields.{entryNumbers, headerNumbers, plateNumbers, memberNumbers, recordNumbers, numbered};
+
+// A refusal's number counts these.
+const NUMBER: u64 = 1099511627776;
+
+// And n counts these, in an answer that is no refusal.
+const COUNT: u64 = 65536;
+
+fn packed_refusal(r: Refusal) -> u64
+    ensures { λ n. ⌜ n ≡ fine (told {A = Unit {0}} r) ⌝ }
+{
+    let number = r.number() as u64;
+    number * NUMBER + r.place() as u64
+}
+
+fn packed_outcome(o: Outcome) -> u64
+    ensures { λ n. ⌜ n ≡ fine (toldOutcome o) ⌝ }
+{
+    match o {
+        Outcome::Fine => 0,
+        Outcome::Refused(r) => packed_refusal(r),
+    }
+}
+
+fn packed_checked(c: Checked) -> u64
+    ensures { λ r. ⌜ r ≡ packed (toldChecked c) ⌝ }
+{
+    match c {
+        Checked::Done { n, failed } => (n as u64) * COUNT + failed as u64,
+        Checked::Refused(r) => packed_refusal(r),
+    }
+}
+
+#[no_mangle]
+pub extern "C" fn yard_check(sheet: &[u8], out: &mut [u8]) -> u64
+    ensures { λ r. ⌜ Checks (now (sheet .entry)) (now (out .entry)) r (now (out .exit)) ⌝ }
+{
+    packed_checked(checker::check(sheet, out))
+}
+
+fn flag(b: bool) -> u32
+    ensures { λ r. ⌜ r ≡ cond b 1 0 ⌝ }
+{
+    if b { 1 } else { 0 }
+}
+
+fn byte(x: u8) -> u32
+    ensures { λ r. ⌜ r ≡ x ⌝ }
+{
+    x as u32
+}
+
+fn short(x: u16) -> u32
+    ensures { λ r. ⌜ r ≡ x ⌝ }
+{
+    x as u32
+}
+
+fn entry_numbers(e: Entry) -> [u32; 3]
+    ensures { λ r. ⌜ r ≡ entryNumbers e ⌝ }
+{
+    let id = short(e.id);
+    let rule = byte(e.rule);
+    [id, rule, e.required]
+}
+
+#[no_mangle]
+pub extern "C" fn yard_read_verdict(bytes: &[u8], fields: &mut [u32; 3]) -> u64
+    ensures { λ r. ⌜ Reads (numbered entryNumbers (readEntry (now (bytes .entry)))) (now (fields .entry)) r (now (fields .exit)) ⌝ }
+{
+    let read = checker::read_verdict(bytes);
+    match read {
+        EntryRead::Refused(x) => packed_refusal(x),
+        EntryRead::Good(e) => {
+            *fields = entry_numbers(e);
+            0
+        }
+    }
+}
+
+fn header_numbers(h: Header) -> [u32; 8]
+    ensures { λ r. ⌜ r ≡ headerNumbers h ⌝ }
+{
+    let version = h.version as u32;
+    let length = h.length.0 as u32;
+    let draught = h.draught.0 as u32;
+    let wave = h.wave.0 as u32;
+    let runs = flag(h.two_runs);
+    let count = h.count as u32;
+    [
+        version,
+        length,
+        draught,
+        wave,
+        runs,
+        h.moment,
+        h.bottom_modulus,
+        count,
+    ]
+}
+
+#[no_mangle]
+pub extern "C" fn yard_read_header(bytes: &[u8], fields: &mut [u32; 8]) -> u64
+    ensures { λ r. ⌜ Reads (numbered headerNumbers (readHeader (now (bytes .entry)))) (now (fields .entry)) r (now (fields .exit)) ⌝ }
+{
+    let read = header::read_header(bytes);
+    match read {
+        HeaderRead::Refused(x) => packed_refusal(x),
+        HeaderRead::Good(h) => {
+            *fields = header_numbers(h);
+            0
+        }
+    }
+}
+
+fn plate_numbers(kind: u8, id: u16, p: Plate) -> [u32; 13]
+    ensures { λ r. ⌜ r ≡ plateNumbers kind id p ⌝ }
+{
+    let factor = short(p.factor.0);
+    let z = short(p.z.0);
+    let spacing = short(p.spacing.0);
+    let thickness = short(p.thickness.0);
+    let b1 = short(p.b1.0);
+    let b2 = short(p.b2.0);
+    let ballast = flag(p.ballast);
+    let top = short(p.tank_top.0);
+    [
+        byte(kind),
+        short(id),
+        factor,
+        z,
+        spacing,
+        thickness,
+        b1,
+        b2,
+        ballast,
+        top,
+        p.cargo,
+        0,
+        0,
+    ]
+}
+
+fn member_numbers(kind: u8, id: u16, m: Member) -> [u32; 13]
+    ensures { λ r. ⌜ r ≡ memberNumbers kind id m ⌝ }
+{
+    let z = short(m.z.0);
+    let spacing = short(m.spacing.0);
+    let span = short(m.span.0);
+    let thickness = short(m.thickness.0);
+    let bending = byte(m.bending);
+    let shear = byte(m.shear);
+    let eta = byte(m.eta);
+    let stress = byte(m.stress);
+    let area = short(m.area.0);
+    let factor = short(m.factor.0);
+    [
+        byte(kind),
+        short(id),
+        z,
+        spacing,
+        span,
+        thickness,
+        bending,
+        shear,
+        eta,
+        stress,
+        m.modulus.0,
+        area,
+        factor,
+    ]
+}
+
+fn record_numbers(r: Record) -> [u32; 13]
+    ensures { λ n. ⌜ n ≡ recordNumbers r ⌝ }
+{
+    let kind = r.kind;
+    let id = r.id;
+    let body = r.body;
+    match body {
+        Body::Plate(p) => plate_numbers(kind, id, p),
+        Body::Member(m) => member_numbers(kind, id, m),
+    }
+}
+
+#[no_mangle]
+pub extern "C" fn yard_read_record(bytes: &[u8], fields: &mut [u32; 13]) -> u64
+    ensures { λ r. ⌜ Reads (numbered recordNumbers (readRecord 0 (now (bytes .entry)))) (now (fields .entry)) r (now (fields .exit)) ⌝ }
+{
+    let read = record::read_record(bytes);
+    match read {
+        RecordRead::Refused(x) => packed_refusal(x),
+        RecordRead::Good(r) => {
+            *fields = record_numbers(r);
+            0
+        }
+    }
+}
+
+// A number that the byte cannot hold becomes 255, never a cut one. Every line but that of σ1 ends below that, so that such a number is still faulty.
+fn held_byte(x: u32) -> u8
+    ensures { λ r. ⌜ r ≡ held 255 x ⌝ }
+{
+    if x <= 255 { x as u8 } else { 255 }
+}
+
+// The same in sixteen bits, below whose highest number every line ends.
+fn held_short(x: u32) -> u16
+    ensures { λ r. ⌜ r ≡ held 65535 x ⌝ }
+{
+    if x <= 65535 { x as u16 } else { 65535 }
+}
+
+// The first of two faulty fields, or of two refusals by their numbers, 0 being none: the refusal of an earlier field has the lower number.
+fn first_of(a: u64, b: u64) -> u64
+    ensures { λ r. ⌜ r ≡ firstOf a b ⌝ }
+{
+    if a == 0 {
+        return b;
+    }
+    if b == 0 {
+        return a;
+    }
+    if a < b { a } else { b }
+}
+
+fn header_held(f: [u32; 8]) -> Header
+    ensures { λ r. ⌜ r ≡ headerHeld f ⌝ }
+{
+    let version = held_byte(f[0]);
+    let length = Span(held_short(f[1]));
+    let draught = Span(held_short(f[2]));
+    let wave = Span(held_short(f[3]));
+    let two_runs = f[4] == 1;
+    let moment = f[5];
+    let bottom_modulus = f[6];
+    let count = held_short(f[7]);
+    Header {
+        version,
+        length,
+        draught,
+        wave,
+        two_runs,
+        moment,
+        bottom_modulus,
+        count,
+    }
+}
+
+// The field of a header that is at fault although what it was held as is not, or 0: runs.
+fn header_apart(f: [u32; 8]) -> u8
+    ensures { λ r. ⌜ r ≡ headerApart f ⌝ }
+{
+    layout::fault_unless(f[4], 0, 1, 5, 0)
+}
+
+#[no_mangle]
+pub extern "C" fn yard_write_header(fields: &[u32; 8], out: &mut [u8]) -> u64
+    ensures { λ r. ⌜ Wrote (writeHeaderNumbers (now (fields .entry)) (now (out .entry))) r (now (out .exit)) ⌝ }
+{
+    let f = *fields;
+    let h = header_held(f);
+    let apart = header_apart(f);
+    if apart == 0 {
+        let o = header::write_header(h, out);
+        return packed_outcome(o);
+    }
+    if out.len() < 12 {
+        return packed_refusal(Refusal::OutputShort);
+    }
+    let found = packed_outcome(header::header_fault(h));
+    let here = packed_refusal(Refusal::HeaderField(apart as u32));
+    first_of(found, here)
+}
+
+fn plate_held(f: [u32; 13]) -> Plate
+    ensures { λ r. ⌜ r ≡ plateHeld f ⌝ }
+{
+    let factor = SteelFactor(held_short(f[2]));
+    let z = Span(held_short(f[3]));
+    let spacing = Spacing(held_short(f[4]));
+    let thickness = Thickness(held_short(f[5]));
+    let b1 = Span(held_short(f[6]));
+    let b2 = Span(held_short(f[7]));
+    let ballast = f[8] == 1;
+    let tank_top = Span(held_short(f[9]));
+    let cargo = f[10];
+    Plate {
+        factor,
+        z,
+        spacing,
+        thickness,
+        b1,
+        b2,
+        ballast,
+        tank_top,
+        cargo,
+    }
+}
+
+fn member_held(f: [u32; 13]) -> Member
+    ensures { λ r. ⌜ r ≡ memberHeld f ⌝ }
+{
+    let z = Span(held_short(f[2]));
+    let spacing = Spacing(held_short(f[3]));
+    let span = Span(held_short(f[4]));
+    let thickness = Thickness(held_short(f[5]));
+    let bending = held_byte(f[6]);
+    let shear = held_byte(f[7]);
+    let eta = held_byte(f[8]);
+    let stress = held_byte(f[9]);
+    let modulus = Modulus(f[10]);
+    let area = ShearArea(held_short(f[11]));
+    let factor = SteelFactor(held_short(f[12]));
+    Member {
+        z,
+        spacing,
+        span,
+        thickness,
+        bending,
+        shear,
+        eta,
+        stress,
+        modulus,
+        area,
+        factor,
+    }
+}
+
+fn record_held(f: [u32; 13]) -> Record
+    ensures { λ r. ⌜ r ≡ recordHeld f ⌝ }
+{
+    let kind = held_byte(f[0]);
+    let id = held_short(f[1]);
+    if f[0] < 5 {
+        let p = plate_held(f);
+        Record {
+            kind,
+            id,
+            body: Body::Plate(p),
+        }
+    } else {
+        let m = member_held(f);
+        Record {
+            kind,
+            id,
+            body: Body::Member(m),
+        }
+    }
+}
+
+// The first field of a plate that is at fault although what it was held as is not, or 0: ballast, and the numbers past the cargo, which are 0.
+fn plate_apart(f: [u32; 13]) -> u8
+    ensures { λ r. ⌜ r ≡ plateApart f ⌝ }
+{
+    let past = layout::fault_unless(f[12], 0, 0, 12, 0);
+    let past = layout::fault_unless(f[11], 0, 0, 12, past);
+    layout::fault_unless(f[8], 0, 1, 9, past)
+}
+
+// The same of a member: σ1.
+fn member_apart(f: [u32; 13]) -> u8
+    ensures { λ r. ⌜ r ≡ memberApart f ⌝ }
+{
+    layout::fault_unless(f[9], 0, 255, 10, 0)
+}
+
+fn record_apart(f: [u32; 13]) -> u8
+    ensures { λ r. ⌜ r ≡ recordApart f ⌝ }
+{
+    if f[0] < 5 {
+        return plate_apart(f);
+    }
+    member_apart(f)
+}
+
+#[no_mangle]
+pub extern "C" fn yard_write_record(fields: &[u32; 13], out: &mut [u8]) -> u64
+    ensures { λ r. ⌜ Wrote (writeRecordNumbers (now (fields .entry)) (now (out .entry))) r (now (out .exit)) ⌝ }
+{
+    let f = *fields;
+    let a = record_held(f);
+    let apart = record_apart(f);
+    if apart == 0 {
+        let o = record::write_record(a, out);
+        return packed_outcome(o);
+    }
+    if out.len() < 16 {
+        return packed_refusal(Refusal::OutputShort);
+    }
+    let found = packed_outcome(record::record_fault(a, 0));
+    let here = packed_refusal(Refusal::Field(apart as u32));
+    first_of(found, here)
+}

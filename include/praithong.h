@@ -1,0 +1,63 @@
+/* Praithong: a checker for the plates and bars of a dumb barge. The functions of the static library yard, for C and C++ on x86-64.
+
+   Every function is proved to do what is said here on every input: no caller has to look first, and none of them reads or writes outside what it
+   is lent. What is lent must be there: no pointer is null, also where a length is 0, and what is written overlaps nothing else.
+
+   An answer is one number of 64 bits. A refusal is number * 2^40 + place, with the number and the place of the sheet's table of refusals; the
+   number is at least 1. Any other answer is below 2^40. A refusal leaves every byte and every field as it was. */
+#ifndef PRAITHONG_H
+#define PRAITHONG_H
+
+#include <stdint.h>
+
+#ifdef __cplusplus
+extern "C" {
+#endif
+
+/* How many numbers a header, a record and a verdict are. */
+#define YARD_HEADER_FIELDS 8
+#define YARD_RECORD_FIELDS 13
+#define YARD_VERDICT_FIELDS 3
+
+/* How many bytes they take. */
+#define YARD_HEADER_BYTES 12
+#define YARD_RECORD_BYTES 16
+#define YARD_VERDICT_BYTES 4
+
+/* Checks a whole sheet: n * 2^16 + failed. Each record's verdict goes into its own four bytes of out, whose first 4n bytes are written and no
+   others. */
+uint64_t yard_check(const uint8_t *sheet, uint64_t sheet_len, uint8_t *out, uint64_t out_len);
+
+/* Reads the header in the first twelve bytes: 0, and fields are version, L, D0, H, runs (0 one, 1 two), M, ZB, n. */
+uint64_t yard_read_header(const uint8_t *bytes, uint64_t bytes_len, uint32_t fields[8]);
+
+/* Writes the header that the fields are into the first twelve bytes of out, and into no others: 0. A number that its field does not allow is
+   refused at that field, however great it is, and the first such field is the one named. */
+uint64_t yard_write_header(const uint32_t fields[8], uint8_t *out, uint64_t out_len);
+
+/* Reads the record in the first sixteen bytes, as record 0: 0, and the fields are,
+   of a plate (kinds 1 to 4): kind, id, K, z, S, T, b1, b2, ballast (0 or 1), zL, cargo pressure, and two that are 0;
+   of a member (kinds 5 to 8): kind, id, z, S, l, T, bending and shear coefficient, eta, sigma 1, W, A, K. */
+uint64_t yard_read_record(const uint8_t *bytes, uint64_t bytes_len, uint32_t fields[13]);
+
+/* Writes the record that the fields are into the first sixteen bytes of out, and into no others: 0. Refused as a header is; the two last numbers of a
+   plate must be 0, and are refused as field 12, the zero bits, where they are not. */
+uint64_t yard_write_record(const uint32_t fields[13], uint8_t *out, uint64_t out_len);
+
+/* Reads one verdict in the first four bytes: 0, and fields are id, rule (0 is a pass) and required (0 on a pass, and where nothing will do). */
+uint64_t yard_read_verdict(const uint8_t *bytes, uint64_t bytes_len, uint32_t fields[3]);
+
+#ifdef __cplusplus
+}
+#endif
+
+/* Whether an answer is a refusal; the refusal's number, from 1 to 8, and its place. */
+static inline int yard_is_refused(uint64_t answer) { return (answer >> 40) != 0; }
+static inline uint32_t yard_number(uint64_t answer) { return (uint32_t)(answer >> 40); }
+static inline uint32_t yard_place(uint64_t answer) { return (uint32_t)answer; }
+
+/* Of a check that is not refused: how many records there are, and how many of them failed. */
+static inline uint32_t yard_n(uint64_t answer) { return (uint32_t)(answer >> 16); }
+static inline uint32_t yard_failed(uint64_t answer) { return (uint32_t)(answer & 65535); }
+
+#endif
