@@ -5,3 +5,4 @@ pub mod Held
 pub mod PackedLaws
 pub mod Only
 pub mod Back
+pub mod Answers
