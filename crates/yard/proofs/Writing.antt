@@ -9,7 +9,7 @@ use lib.ListN.{length, drop}
 use lib.Dec.{ltb, eqb}
 use borrow.Author.Tests.{eqb-true, eqb-false, ltb-true, ltb-false, ne-eqb, lt-ltb, le-ltb}
 use Rattle.sheet.specs.Refusals.{Answer, given, refused, Wrote as WroteBy}
-use Rattle.sheet.specs.RefusalLaws.{Which, which, none, first, later, at-first, at-later}
+use Rattle.sheet.specs.RefusalLaws.{Which, which, none, first, later, at-later}
 use Rattle.sheet.specs.Writes.{Writes}
 use Rattle.sheet.specs.Exactly.{Cases, byFault}
 use Rattle.sheet.specs.Written.{written, writtenIf}

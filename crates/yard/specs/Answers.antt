@@ -1,7 +1,7 @@
 -- Every answer is within the ranges in which no two have the same number.
 -- Assumes nothing.
 use Prim.Native.Nat.{ℕ, zero, suc, _+_, _*_, _≤_, _<_}
-use mathlib.Core.Path.{_≡_, refl, sym, ap, _∙_, subst}
+use mathlib.Core.Path.{_≡_, refl, sym, ap, subst}
 use mathlib.Core.Bool.{Bool, true, false, cond}
 use mathlib.Core.List.{List, [], _∷_, _++_}
 use native.Mathlib.Omega.{arith}
@@ -25,7 +25,7 @@ use Rattle.sheet.specs.HeaderExactly.{headerCases}
 use Rattle.sheet.specs.RecordExactly.{recordCases, linesAt, fieldsAt, record-by-fields}
 use Rattle.checker.specs.declared.Entry.{Entry}
 use Rattle.checker.specs.Entry.{verdictLines, verdictWidths, entryAt, entryIn, readEntry}
-use Rattle.checker.specs.Check.{_then_, demand, headerFor, recordPart, partsFrom, soundAfter, recordsIn, Sheet, sheetIn, failing, failures, entryOf, verdicts, Totals, answerOf}
+use Rattle.checker.specs.Check.{_then_, demand, headerFor, recordPart, partsFrom, soundAfter, recordsIn, sheetIn, failures, entryOf, verdicts, Totals, answerOf}
 use Rattle.checker.specs.CheckLaws.{header-fits, sheet-whole, answer-sheet}
 use Rattle.checker.specs.Sound.{header-sound}
 use Rattle.yard.specs.PackedLaws.{Told, Answered}

@@ -1,12 +1,12 @@
 -- There and back across the boundary: numbers that are written are read again, and numbers that are read are written to the same bytes.
 -- Assumes nothing.
-use Prim.Native.Nat.{ℕ, zero, suc, _+_, _≤_, _<_}
-use mathlib.Core.Path.{_≡_, refl, sym, ap, ap₂, _∙_, subst}
+use Prim.Native.Nat.{ℕ, zero, suc, _+_, _≤_}
+use mathlib.Core.Path.{_≡_, refl, sym, ap, ap₂, _∙_}
 use mathlib.Core.Bool.{Bool, true, false, cond}
 use mathlib.Core.List.{List, [], _∷_, _++_}
 use native.Mathlib.Omega.{arith}
 use lib.ListN.{length, getD, take}
-use lib.Dec.{eqb, ltb}
+use lib.Dec.{eqb}
 use borrow.Author.Tests.{lt-ltb, le-ltb}
 use Rattle.quantity.specs.Range.{from}
 use Rattle.layout.specs.Layout.{bytes, Fit}
@@ -16,10 +16,10 @@ use Rattle.sheet.specs.declared.Header.{Header}
 use Rattle.sheet.specs.declared.Body.{Body}
 use Rattle.sheet.specs.declared.Body.the-variants.{Plate as isPlate, Member as isMember}
 use Rattle.sheet.specs.declared.Record.{Record}
-use Rattle.sheet.specs.Lines.{none, headerLines, plateLines}
-use Rattle.sheet.specs.Refusals.{Answer, given}
-use Rattle.sheet.specs.Header.{headerValues, headerAt, headerFault, readHeader, headerBytes, writeHeader}
-use Rattle.sheet.specs.Record.{plateValues, plateRecord, memberRecord, plateLinesOf, memberLinesOf, plateFault, memberFault, recordFault, readRecord, recordBytes, writeRecord}
+use Rattle.sheet.specs.Lines.{none, headerLines}
+use Rattle.sheet.specs.Refusals.{given}
+use Rattle.sheet.specs.Header.{headerAt, headerFault, readHeader, headerBytes, writeHeader}
+use Rattle.sheet.specs.Record.{plateRecord, memberRecord, plateLinesOf, memberLinesOf, plateFault, memberFault, recordFault, readRecord, recordBytes, writeRecord}
 use Rattle.sheet.specs.HeaderLaws.{flag-read, flag-written}
 use Rattle.sheet.specs.RecordLaws.{plate-ranges, member-ranges}
 use Rattle.sheet.specs.Written.{written, written-fine}
@@ -27,7 +27,7 @@ use Rattle.sheet.specs.HeaderExactly.{headerCases}
 use Rattle.sheet.specs.RecordExactly.{recordCases}
 use Rattle.sheet.specs.HeaderBack.{header-read-again, header-written-again}
 use Rattle.sheet.specs.RecordBack.{record-read-again, record-read-fine, record-written-again}
-use Rattle.yard.specs.Fields.{numbered, headerNumbers, plateNumbers, memberNumbers, recordNumbers}
+use Rattle.yard.specs.Fields.{numbered, headerNumbers, recordNumbers}
 use Rattle.yard.specs.Writing.{numbersFrom, headerNumbersFault, writeHeaderNumbers, plateNumbered, plateFields, recordFrom, recordNumbersFault, writeRecordNumbers}
 
 -- ---- all the numbers of a list
