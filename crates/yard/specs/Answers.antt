@@ -28,6 +28,7 @@ use Rattle.checker.specs.Entry.{verdictLines, verdictWidths, entryAt, entryIn, 
 use Rattle.checker.specs.Check.{_then_, demand, headerFor, recordPart, partsFrom, soundAfter, recordsIn, sheetIn, failures, entryOf, verdicts, Totals, answerOf}
 use Rattle.checker.specs.CheckLaws.{header-fits, sheet-whole, answer-sheet}
 use Rattle.checker.specs.Sound.{header-sound}
+use Rattle.yard.specs.Packed.{numberUnit}
 use Rattle.yard.specs.PackedLaws.{Told, Answered}
 use Rattle.yard.specs.Writing.{numbersFrom, headerNumbersFault, writeHeaderNumbers, plateNumbered, plateFields, recordFrom, recordNumbersFault, writeRecordNumbers}
 
@@ -42,7 +43,7 @@ most ls vs same = go (faultFrom 1 ls vs) refl
     go (suc i) e = let l = fault-first ls vs same i e .inside in omega arith
 
 -- a header's cases, and those of a record that a sheet can have
-fault-told : {A : Type 0} (c : Cases) (f : ℕ) (a : A) → 0 < c .first → 0 < c .later → c .at < 1099511627776 → c .place f < 1099511627776 → Told (byFault c f a)
+fault-told : {A : Type 0} (c : Cases) (f : ℕ) (a : A) → 0 < c .first → 0 < c .later → c .at < numberUnit → c .place f < numberUnit → Told (byFault c f a)
 fault-told {A} c f a p q x y = go (which (c .first) (c .at) (c .later) (c .place) f a)
   where
     go : Which (c .first) (c .at) (c .later) (c .place) f a → Told (byFault c f a)
@@ -96,7 +97,7 @@ read-verdict-told s =
     slice-told (ltb (length s) 4) 1 (cond (eqb f 0) (given (entryAt vs)) (refused 7 f)) (omega arith)
     (go f (eqb f 0) (entryAt vs) (omega (arith, most (verdictLines (getD vs 1 0)) vs refl)))
   where
-    go : (f : ℕ) (t : Bool) (e : Entry) → f < 1099511627776 → Told (cond t (given e) (refused 7 f))
+    go : (f : ℕ) (t : Bool) (e : Entry) → f < numberUnit → Told (cond t (given e) (refused 7 f))
     go f true e l = tt
     go f false e l = (omega arith, l)
 
