@@ -8,7 +8,7 @@ use native.Mathlib.Omega.{arith}
 use lib.ListN.{getD}
 use lib.Dec.{leb, eqb, lit≤}
 use borrow.Author.Tests.{eq-eqb, ne-eqb, eqb-true, eqb-false, le-leb, lt-leb, leb-false}
-use Rattle.quantity.specs.Range.{Range, within, from, span, spacing, thickness, modulus, shearArea, steelFactor}
+use Rattle.quantity.specs.Range.{Range, within, from, span, spacing, thickness, shearArea, steelFactor}
 use Rattle.quantity.specs.Laws.{one-value}
 use Rattle.layout.specs.Line.{Line, Allowed, faultFrom, endBelow}
 use Rattle.layout.specs.LineLaws.{none-all, low-high}
@@ -21,7 +21,7 @@ use Rattle.sheet.specs.Record.{plateValues, memberValues, plateRecord, memberRe
 use Rattle.sheet.specs.HeaderLaws.{flag-within}
 use Rattle.yard.specs.Held.{held, firstOf, headerHeld, headerApart, plateHeld, plateApart, memberHeld, memberApart, recordHeld, recordApart}
 use Rattle.yard.specs.Writing.{numbersFrom, headerNumbersFault, plateFields, recordFrom, recordNumbersFault, plateNumbered}
-use Rattle.yard.proofs.First.{okays, faultOf, Agree, agree-fault, held-allows, held-same, held-in}
+use Rattle.yard.proofs.First.{okays, Agree, agree-fault, held-allows, held-same, held-in}
 
 and-true : (b : Bool) → b ≡ (b && true)
 and-true true = refl

@@ -13,7 +13,7 @@ use Rattle.sheet.specs.Record.{recordFault, recordBytes, writeRecord}
 use Rattle.sheet.specs.HeaderExactly.{headerCases}
 use Rattle.sheet.specs.RecordExactly.{recordCases}
 use Rattle.sheet.specs.Writes.{Writes}
-use Rattle.yard.specs.Packed.{fine, Wrote}
+use Rattle.yard.specs.Packed.{numberUnit, fine, Wrote}
 use Rattle.yard.specs.Writing.{headerNumbersFault, writeHeaderNumbers, recordFrom, recordNumbersFault, writeRecordNumbers}
 use Rattle.yard.specs.Held.{firstOf, headerHeld, headerApart, recordHeld, recordApart}
 use Rattle.yard.proofs.Numbers.{header-numbers-fault, header-held-same, header-apart-past, record-numbers-fault, record-held-same, record-apart-past}
@@ -41,7 +41,7 @@ module _ (ns o : List ℕ) (x : Header) (e : ℕ) (is-held : x ≡ headerHeld ns
   header-short = wrote-short headerCases o (headerNumbersFault ns) (headerBytes (headerAt ns))
 
   pub header-by-itself : (r p q : ℕ) {a : Answer (Unit {0})} → 12 ≤ length o → (e ≡ 0 → ⊥) → a ≡ headerRefused (headerFault x 0) (given tt) → p ≡ fine a
-      → q ≡ 3 * 1099511627776 + e → r ≡ firstOf p q → Wrote (writeHeaderNumbers ns o) r o
+      → q ≡ 3 * numberUnit + e → r ≡ firstOf p q → Wrote (writeHeaderNumbers ns o) r o
   unfolding writeHeaderNumbers
   header-by-itself =
       wrote-apart headerCases o (omega arith) (omega arith) (λ k. refl) (headerNumbersFault ns) (headerFault x 0) e (headerBytes x) (headerBytes (headerAt ns)) header-first header-past header-same
@@ -68,7 +68,7 @@ module _ (ns o : List ℕ) (x : Record) (e : ℕ) (is-held : x ≡ recordHeld ns
   record-short = wrote-short (recordCases 0) o (recordNumbersFault ns) (recordBytes (recordFrom ns))
 
   pub record-by-itself : (r p q : ℕ) {a : Answer (Unit {0})} → 16 ≤ length o → (e ≡ 0 → ⊥) → a ≡ recordRefused 0 (recordFault x 0) (given tt) → p ≡ fine a
-      → q ≡ 7 * 1099511627776 + e → r ≡ firstOf p q → Wrote (writeRecordNumbers ns o) r o
+      → q ≡ 7 * numberUnit + e → r ≡ firstOf p q → Wrote (writeRecordNumbers ns o) r o
   unfolding writeRecordNumbers
   record-by-itself =
       wrote-apart (recordCases 0) o (omega arith) (omega arith) (λ k. omega arith) (recordNumbersFault ns) (recordFault x 0) e (recordBytes x) (recordBytes (recordFrom ns)) record-first record-past record-same

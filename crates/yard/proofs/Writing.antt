@@ -9,11 +9,11 @@ use lib.ListN.{length, drop}
 use lib.Dec.{ltb, eqb}
 use borrow.Author.Tests.{eqb-true, eqb-false, ltb-true, ltb-false, ne-eqb, lt-ltb, le-ltb}
 use Rattle.sheet.specs.Refusals.{Answer, given, refused, Wrote as WroteBy}
-use Rattle.sheet.specs.RefusalLaws.{Which, which, none, first, later, at-first, at-later}
+use Rattle.sheet.specs.RefusalLaws.{Which, which, none, first, later, at-later}
 use Rattle.sheet.specs.Writes.{Writes}
 use Rattle.sheet.specs.Exactly.{Cases, byFault}
 use Rattle.sheet.specs.Written.{written, writtenIf}
-use Rattle.yard.specs.Packed.{fine, Wrote}
+use Rattle.yard.specs.Packed.{numberUnit, fine, Wrote}
 use Rattle.yard.specs.Held.{firstOf}
 use Rattle.yard.proofs.First.{first-left, first-right, first-none}
 
@@ -38,38 +38,38 @@ module _ (c : Cases) (o : List ℕ) where
       subst (λ (t : Bool). Wrote (writtenIf t c f bs o) r o) (sym (lt-ltb (length o) (c .size) l)) (record { answer = e; bytes = refl })
 
   -- the refusal of an earlier field has the lower number
-  module _ (some : 0 < c .first) (low : c .first * 1099511627776 + c .at < c .later * 1099511627776) (places : (k : ℕ) → c .place k ≡ k) where
+  module _ (some : 0 < c .first) (low : c .first * numberUnit + c .at < c .later * numberUnit) (places : (k : ℕ) → c .place k ≡ k) where
     abbrev F : ℕ → Answer (Unit {0})
     F f = byFault c f tt
 
     refused-later : (f : ℕ) → 2 ≤ f → F f ≡ refused (c .later) (c .place f)
     refused-later f l = at-later (refused (c .first) (c .at)) (λ k. refused (c .later) (c .place k)) f (given tt) l
 
-    packed-first : (g e : ℕ) → 2 ≤ e → fine (F (firstOf g e)) ≡ firstOf (fine (F g)) (c .later * 1099511627776 + c .place e)
+    packed-first : (g e : ℕ) → 2 ≤ e → fine (F (firstOf g e)) ≡ firstOf (fine (F g)) (c .later * numberUnit + c .place e)
     packed-first g e l = go (which (c .first) (c .at) (c .later) (c .place) g (tt {0}))
       where
         E : ℕ
-        E = c .later * 1099511627776 + c .place e
+        E = c .later * numberUnit + c .place e
 
         packed-e : fine (F e) ≡ E
         packed-e = ap fine (refused-later e l)
 
-        by-order : 2 ≤ g → (t : Bool) → ltb g e ≡ t → fine (F (firstOf g e)) ≡ firstOf (c .later * 1099511627776 + c .place g) E
+        by-order : 2 ≤ g → (t : Bool) → ltb g e ≡ t → fine (F (firstOf g e)) ≡ firstOf (c .later * numberUnit + c .place g) E
         by-order m true q =
             ap (λ (x : ℕ). fine (F x)) (first-left g e (omega arith) (ltb-true g e q))
             ∙ ap fine (refused-later g m)
-            ∙ sym (first-left (c .later * 1099511627776 + c .place g) E (omega arith) (omega (arith, places g, places e, ltb-true g e q)))
+            ∙ sym (first-left (c .later * numberUnit + c .place g) E (omega arith) (omega (arith, places g, places e, ltb-true g e q)))
         by-order m false q =
             ap (λ (x : ℕ). fine (F x)) (first-right g e (omega arith) (ltb-false g e q))
             ∙ packed-e
-            ∙ sym (first-right (c .later * 1099511627776 + c .place g) E (omega arith) (omega (arith, places g, places e, ltb-false g e q)))
+            ∙ sym (first-right (c .later * numberUnit + c .place g) E (omega arith) (omega (arith, places g, places e, ltb-false g e q)))
 
         go : Which (c .first) (c .at) (c .later) (c .place) g (tt {0}) → fine (F (firstOf g e)) ≡ firstOf (fine (F g)) E
         go (none z w) = ap (λ (x : ℕ). fine (F (firstOf x e))) z ∙ packed-e ∙ sym (ap (λ (a : Answer (Unit {0})). firstOf (fine a) E) w)
         go (first z w) =
             ap (λ (x : ℕ). fine (F x)) (first-left g e (omega arith) (omega arith))
             ∙ ap fine w
-            ∙ sym (first-left (c .first * 1099511627776 + c .at) E (omega arith) (omega arith))
+            ∙ sym (first-left (c .first * numberUnit + c .at) E (omega arith) (omega arith))
             ∙ sym (ap (λ (a : Answer (Unit {0})). firstOf (fine a) E) w)
         go (later m w) = by-order m (ltb g e) refl ∙ sym (ap (λ (a : Answer (Unit {0})). firstOf (fine a) E) w)
 
@@ -92,7 +92,7 @@ module _ (c : Cases) (o : List ℕ) where
           (ap (λ (x : ℕ). written c x bs o) (sym (by-first ∙ ap (firstOf g) z ∙ first-none g)) ∙ written-same f bs cs same)
 
       -- a field that is tested by itself is at fault
-      pub wrote-apart : (r x y : ℕ) {a : Answer (Unit {0})} → c .size ≤ length o → (e ≡ 0 → ⊥) → a ≡ F g → x ≡ fine a → y ≡ c .later * 1099511627776 + e → r ≡ firstOf x y
+      pub wrote-apart : (r x y : ℕ) {a : Answer (Unit {0})} → c .size ≤ length o → (e ≡ 0 → ⊥) → a ≡ F g → x ≡ fine a → y ≡ c .later * numberUnit + e → r ≡ firstOf x y
           → Wrote (written c f cs o) r o
       wrote-apart r x y l n ea ex ey er =
           let m = past n in
@@ -100,7 +100,7 @@ module _ (c : Cases) (o : List ℕ) where
           (record {
             answer =
                 er
-                ∙ ap₂ firstOf (ex ∙ ap fine ea) (ey ∙ ap (λ (k : ℕ). c .later * 1099511627776 + k) (sym (places e)))
+                ∙ ap₂ firstOf (ex ∙ ap fine ea) (ey ∙ ap (λ (k : ℕ). c .later * numberUnit + k) (sym (places e)))
                 ∙ sym (packed-first g e m)
                 ∙ ap (λ (k : ℕ). fine (F k)) (sym by-first);
             bytes = sym (ap (λ (t : Bool). cond t (cs ++ drop (c .size) o) o) (ne-eqb f 0 (λ z. some-first g e m (sym by-first ∙ z))));

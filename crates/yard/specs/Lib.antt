@@ -4,3 +4,5 @@ pub mod Writing
 pub mod Held
 pub mod PackedLaws
 pub mod Only
+pub mod Back
+pub mod Answers

@@ -6,10 +6,14 @@ use lib.ListN.{length}
 use Rattle.sheet.specs.Refusals.{Answer, given, refused, Wrote as WroteBy}
 use Rattle.checker.specs.Check.{Totals, answerOf, outputOf}
 
+-- what a refusal's number counts: 2⁴⁰
+abbrev pub numberUnit : ℕ
+numberUnit = 1099511627776
+
 -- an answer by the number of what is given
 abbrev pub packedBy : {A : Type 0} → (A → ℕ) → Answer A → ℕ
 packedBy number (given a) = number a
-packedBy number (refused k p) = k * 1099511627776 + p
+packedBy number (refused k p) = k * numberUnit + p
 
 -- a check that is not refused: n · 2¹⁶ + failed
 abbrev pub totalled : Totals → ℕ

@@ -5,12 +5,12 @@ use mathlib.Core.Path.{_≡_, refl, ap₂}
 use native.Mathlib.Omega.{arith}
 use Rattle.sheet.specs.Refusals.{Answer, given, refused}
 use Rattle.checker.specs.Check.{Totals}
-use Rattle.yard.specs.Packed.{packed, fine}
+use Rattle.yard.specs.Packed.{numberUnit, packed, fine}
 
 -- the ranges that refusals have: the number is at least 1, and the place stays clear of it
 abbrev pub Told : {A : Type 0} → Answer A → Type 0
 Told (given a) = Unit {0}
-Told (refused k p) = (0 < k) × (p < 1099511627776)
+Told (refused k p) = (0 < k) × (p < numberUnit)
 
 -- and those of a check's answer: what is given stays clear of the number of a refusal
 abbrev pub Answered : Answer Totals → Type 0
@@ -29,6 +29,6 @@ fine-given (given x) t e = (x, refl)
 fine-given (refused k p) t e = absurd (omega (arith, t))
 
 -- and else which refusal it is
-pub fine-refused : {A : Type 0} (a : Answer A) (k p : ℕ) → Told a → 0 < k → p < 1099511627776 → fine a ≡ k * 1099511627776 + p → a ≡ refused k p
+pub fine-refused : {A : Type 0} (a : Answer A) (k p : ℕ) → Told a → 0 < k → p < numberUnit → fine a ≡ k * numberUnit + p → a ≡ refused k p
 fine-refused (given x) k p t l m e = absurd (omega arith)
 fine-refused (refused j q) k p t l m e = ap₂ refused (omega (arith, t)) (omega (arith, t))

@@ -1,6 +1,5 @@
 -- `yard::first_of` meets its contract.
 -- Assumes nothing.
-use borrow.Author.Needs.{needs}
 use borrow.Author.Tests.{eq-eqb, ne-eqb, lt-ltb, le-ltb}
 use Rattle.yard.proofs.first_of.Statement.{statement}
 use Rattle.yard.proofs.first_of.Tie as tie

@@ -1,7 +1,6 @@
 -- `yard::record_apart` meets its contract.
 -- Assumes nothing.
 use borrow.Author.Needs.{needs}
-use mathlib.Core.Path.{_∙_}
 use borrow.Author.Tests.{lt-ltb, le-ltb}
 use Rattle.yard.proofs.record_apart.Statement.{statement}
 use Rattle.yard.proofs.record_apart.Tie as tie
