@@ -27,7 +27,7 @@ use Rattle.checker.specs.declared.Entry.{Entry}
 use Rattle.checker.specs.Entry.{verdictLines, verdictWidths, entryAt, entryIn, readEntry}
 use Rattle.checker.specs.Check.{_then_, demand, headerFor, recordPart, partsFrom, soundAfter, recordsIn, sheetIn, failures, entryOf, verdicts, Totals, answerOf}
 use Rattle.checker.specs.CheckLaws.{header-fits, sheet-whole, answer-sheet}
-use Rattle.checker.specs.Sound.{header-sound}
+use Rattle.sheet.specs.HeaderBack.{header-read-fine}
 use Rattle.yard.specs.Packed.{numberUnit}
 use Rattle.yard.specs.PackedLaws.{Told, Answered}
 use Rattle.yard.specs.Writing.{numbersFrom, headerNumbersFault, writeHeaderNumbers, plateNumbered, plateFields, recordFrom, recordNumbersFault, writeRecordNumbers}
@@ -160,7 +160,7 @@ header-told s room =
     (λ u q. then-told (demand (leb (4 * h .count) room) 5) (λ v. given h) (demand-told (leb (4 * h .count) room) 5 (omega arith)) (λ v w. tt)))
 
 count-most : (s : List ℕ) (h : Header) → readHeader s ≡ given h → h .count ≤ 400
-count-most s h e = header-ranges h 0 (header-sound s h e) .count-high
+count-most s h e = header-ranges h 0 (header-read-fine s h e) .count-high
 
 sheet-told : (s : List ℕ) (room : ℕ) → Told (sheetIn s room)
 unfolding sheetIn
