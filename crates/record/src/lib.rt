@@ -1,4 +1,6 @@
 // One record of the sheet: 128 bits, read from sixteen bytes and written to them.
+mod kinds;
+
 use layout::Long;
 use quantity::Modulus;
 use quantity::ShearArea;
@@ -17,9 +19,9 @@ ghost use mathlib.Core.Path.{_≡_};
 ghost use mathlib.Core.Bool.{cond};
 ghost use Prim.Native.Nat.{_+_, _*_};
 ghost use lib.Dec.{eqb};
+ghost use Rattle.quantity.specs.Range.{within, modulus, shearArea, steelFactor};
 ghost use Rattle.layout.specs.Layout.{pack, unpack, Fit};
 ghost use Rattle.layout.specs.Bytes.{longOf, readOf};
-ghost use Rattle.sheet.specs.Kinds.{isLong, isBottom, isFloor, isDeep};
 ghost use Rattle.sheet.specs.Lines.{plateWidths, memberWidths};
 ghost use Rattle.sheet.specs.Refusals.{given, toldOutcome, toldRecord, recordRefused};
 ghost use Rattle.sheet.specs.Record.{plateValues, memberValues, plateAt, memberAt, plateFault, memberFault, recordFault, readRecord, writeRecord, widthsIn, valuesIn, recordNumber};
@@ -66,47 +68,17 @@ fn pick(test: bool, a: u32, b: u32) -> u32
     if test { a } else { b }
 }
 
-fn is_long(kind: u8) -> bool
-    ensures { λ r. ⌜ r ≡ isLong kind ⌝ }
-{
-    if kind == 2 {
-        return true;
-    }
-    kind == 4
-}
-
-fn is_bottom(kind: u8) -> bool
-    ensures { λ r. ⌜ r ≡ isBottom kind ⌝ }
-{
-    kind <= 2
-}
-
-fn is_deep(kind: u8) -> bool
-    ensures { λ r. ⌜ r ≡ isDeep kind ⌝ }
-{
-    6 <= kind
-}
-
-fn is_floor(kind: u8) -> bool
-    ensures { λ r. ⌜ r ≡ isFloor kind ⌝ }
-{
-    if kind == 6 {
-        return true;
-    }
-    kind == 7
-}
-
 // The first field outside its values, kind being 1, or 0. It goes from the last field to the first, so that the first has the last word.
 fn plate_fault(kind: u8, id: u16, p: Plate, spare: u32) -> u8
     ensures { λ r. ⌜ r ≡ plateFault kind id p spare ⌝ }
 {
-    let long = is_long(kind);
+    let long = kinds::is_long(kind);
     let ballast = p.ballast;
     let z = p.z.0 as u32;
     let b_low = pick(long, 0, 10);
     let b_high = pick(long, 0, 1000);
     let f = layout::fault_unless(spare, 0, 0, 12, 0);
-    let f = layout::fault_unless(p.cargo, 0, pick(is_bottom(kind), 0, 200000), 11, f);
+    let f = layout::fault_unless(p.cargo, 0, pick(kinds::is_bottom(kind), 0, 200000), 11, f);
     let f = layout::fault_unless(
         p.tank_top.0 as u32,
         pick(ballast, z, 0),
@@ -136,10 +108,10 @@ fn plate_fault(kind: u8, id: u16, p: Plate, spare: u32) -> u8
     layout::fault_unless(kind as u32, 1, 4, 1, f)
 }
 
-fn member_fault(kind: u8, id: u16, m: Member) -> u8
-    ensures { λ r. ⌜ r ≡ memberFault kind id m ⌝ }
+// The same of a member's last three fields: W, A and K.
+fn scantling_fault(m: Member) -> u8
+    ensures { λ r. ⌜ r ≡ cond (within modulus (m .modulus .0)) (cond (within shearArea (m .area .0)) (cond (within steelFactor (m .factor .0)) 0 13) 12) 11 ⌝ }
 {
-    let floor = is_floor(kind);
     let f = layout::fault_unless(
         m.factor.0 as u32,
         SteelFactor::LOW as u32,
@@ -154,7 +126,14 @@ fn member_fault(kind: u8, id: u16, m: Member) -> u8
         12,
         f,
     );
-    let f = layout::fault_unless(m.modulus.0, Modulus::LOW, Modulus::HIGH, 11, f);
+    layout::fault_unless(m.modulus.0, Modulus::LOW, Modulus::HIGH, 11, f)
+}
+
+fn member_fault(kind: u8, id: u16, m: Member) -> u8
+    ensures { λ r. ⌜ r ≡ memberFault kind id m ⌝ }
+{
+    let floor = kinds::is_floor(kind);
+    let f = scantling_fault(m);
     let f = layout::fault_unless(m.stress as u32, 0, pick(floor, 0, 255), 10, f);
     let f = layout::fault_unless(
         m.eta as u32,
@@ -180,7 +159,7 @@ fn member_fault(kind: u8, id: u16, m: Member) -> u8
         4,
         f,
     );
-    let f = layout::fault_unless(m.z.0 as u32, 0, pick(is_deep(kind), 0, 1000), 3, f);
+    let f = layout::fault_unless(m.z.0 as u32, 0, pick(kinds::is_deep(kind), 0, 1000), 3, f);
     let f = layout::fault_unless(id as u32, 1, 1000, 2, f);
     layout::fault_unless(kind as u32, 5, 8, 1, f)
 }

@@ -24,42 +24,30 @@ returns c =
     let c₁₄ = c₁₃ .before in
     let c₁₅ = c₁₄ .before .before in
     let c₁₆ = c₁₅ .before in
-    let c₁₇ = c₁₆ .before .before in
-    let c₁₈ = c₁₇ .before .before in
     rw (
-      c .fault-unless13 .ensures,
-      c₁ .fault-unless12 .ensures,
-      c₂ .fault-unless11 .ensures,
+      c .fault-unless10 .ensures,
+      c₁ .fault-unless9 .ensures,
+      c₂ .fault-unless8 .ensures,
       c₃ .pick4 .ensures,
       c₄ .is-deep .ensures,
-      c₅ .fault-unless10 .ensures,
-      c₆ .fault-unless9 .ensures,
-      c₇ .fault-unless8 .ensures,
-      c₈ .fault-unless7 .ensures,
-      c₉ .fault-unless6 .ensures,
-      c₁₀ .fault-unless5 .ensures,
+      c₅ .fault-unless7 .ensures,
+      c₆ .fault-unless6 .ensures,
+      c₇ .fault-unless5 .ensures,
+      c₈ .fault-unless4 .ensures,
+      c₉ .fault-unless3 .ensures,
+      c₁₀ .fault-unless2 .ensures,
       c₁₁ .pick3 .ensures,
       c₁₂ .pick2 .ensures,
-      c₁₃ .fault-unless4 .ensures,
+      c₁₃ .fault-unless .ensures,
       c₁₄ .pick .ensures,
-      c₁₅ .fault-unless3 .ensures,
-      c₁₆ .fault-unless2 .ensures,
-      c₁₇ .fault-unless .ensures,
-      c₁₈ .is-floor .ensures,
+      c₁₅ .scantling-fault .ensures,
+      c₁₆ .is-floor .ensures,
     )
 
 pub member-fault-spec : {M : Type 1} → statement M
 member-fault-spec =
     tie.close
     (tie.spec
-    (λ c κs. search needs)
-    (λ c. search needs)
-    (λ c. search needs)
-    (λ c. search needs)
-    (λ c κs. search needs)
-    (λ c. search needs)
-    (λ c. search needs)
-    (λ c. search needs)
     (λ c κs. search needs)
     (λ c κs. search needs)
     (λ c. search needs)

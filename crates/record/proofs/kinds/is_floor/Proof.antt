@@ -1,8 +1,8 @@
--- `record::is_floor` meets its contract.
+-- `record::kinds::is_floor` meets its contract.
 -- Assumes nothing.
 use borrow.Author.Tests.{eq-eqb, ne-eqb}
-use Rattle.record.proofs.is_floor.Statement.{statement}
-use Rattle.record.proofs.is_floor.Tie as tie
+use Rattle.record.proofs.kinds.is_floor.Statement.{statement}
+use Rattle.record.proofs.kinds.is_floor.Tie as tie
 
 pub is-floor-spec : {M : Type 1} → statement M
 is-floor-spec =

@@ -1,8 +1,8 @@
--- `record::is_long` meets its contract.
+-- `record::kinds::is_long` meets its contract.
 -- Assumes nothing.
 use borrow.Author.Tests.{eq-eqb, ne-eqb}
-use Rattle.record.proofs.is_long.Statement.{statement}
-use Rattle.record.proofs.is_long.Tie as tie
+use Rattle.record.proofs.kinds.is_long.Statement.{statement}
+use Rattle.record.proofs.kinds.is_long.Tie as tie
 
 pub is-long-spec : {M : Type 1} → statement M
 is-long-spec =
