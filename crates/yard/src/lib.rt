@@ -1,5 +1,7 @@
 // The checker, the header, the records and the verdicts for programs in C or Rust: an answer crosses as one number, the fields as numbers in layout
 // order. include/praithong.h declares these functions.
+mod values;
+
 use checker::Checked;
 use checker::Entry;
 use checker::EntryRead;
@@ -68,32 +70,6 @@ pub extern "C" fn yard_check(sheet: &[u8], out: &mut [u8]) -> u64
     packed_checked(checker::check(sheet, out))
 }
 
-fn flag(b: bool) -> u32
-    ensures { λ r. ⌜ r ≡ cond b 1 0 ⌝ }
-{
-    if b { 1 } else { 0 }
-}
-
-fn byte(x: u8) -> u32
-    ensures { λ r. ⌜ r ≡ x ⌝ }
-{
-    x as u32
-}
-
-fn short(x: u16) -> u32
-    ensures { λ r. ⌜ r ≡ x ⌝ }
-{
-    x as u32
-}
-
-fn entry_numbers(e: Entry) -> [u32; 3]
-    ensures { λ r. ⌜ r ≡ entryNumbers e ⌝ }
-{
-    let id = short(e.id);
-    let rule = byte(e.rule);
-    [id, rule, e.required]
-}
-
 #[no_mangle]
 pub extern "C" fn yard_read_verdict(bytes: &[u8], fields: &mut [u32; 3]) -> u64
     ensures { λ r. ⌜ Reads (numbered entryNumbers (readEntry (now (bytes .entry)))) (now (fields .entry)) r (now (fields .exit)) ⌝ }
@@ -102,31 +78,10 @@ pub extern "C" fn yard_read_verdict(bytes: &[u8], fields: &mut [u32; 3]) -> u64
     match read {
         EntryRead::Refused(x) => packed_refusal(x),
         EntryRead::Good(e) => {
-            *fields = entry_numbers(e);
+            *fields = values::entry_numbers(e);
             0
         }
     }
-}
-
-fn header_numbers(h: Header) -> [u32; 8]
-    ensures { λ r. ⌜ r ≡ headerNumbers h ⌝ }
-{
-    let version = h.version as u32;
-    let length = h.length.0 as u32;
-    let draught = h.draught.0 as u32;
-    let wave = h.wave.0 as u32;
-    let runs = flag(h.two_runs);
-    let count = h.count as u32;
-    [
-        version,
-        length,
-        draught,
-        wave,
-        runs,
-        h.moment,
-        h.bottom_modulus,
-        count,
-    ]
 }
 
 #[no_mangle]
@@ -137,7 +92,7 @@ pub extern "C" fn yard_read_header(bytes: &[u8], fields: &mut [u32; 8]) -> u64
     match read {
         HeaderRead::Refused(x) => packed_refusal(x),
         HeaderRead::Good(h) => {
-            *fields = header_numbers(h);
+            *fields = values::header_numbers(h);
             0
         }
     }
@@ -146,17 +101,17 @@ pub extern "C" fn yard_read_header(bytes: &[u8], fields: &mut [u32; 8]) -> u64
 fn plate_numbers(kind: u8, id: u16, p: Plate) -> [u32; 13]
     ensures { λ r. ⌜ r ≡ plateNumbers kind id p ⌝ }
 {
-    let factor = short(p.factor.0);
-    let z = short(p.z.0);
-    let spacing = short(p.spacing.0);
-    let thickness = short(p.thickness.0);
-    let b1 = short(p.b1.0);
-    let b2 = short(p.b2.0);
-    let ballast = flag(p.ballast);
-    let top = short(p.tank_top.0);
+    let factor = values::short(p.factor.0);
+    let z = values::short(p.z.0);
+    let spacing = values::short(p.spacing.0);
+    let thickness = values::short(p.thickness.0);
+    let b1 = values::short(p.b1.0);
+    let b2 = values::short(p.b2.0);
+    let ballast = values::flag(p.ballast);
+    let top = values::short(p.tank_top.0);
     [
-        byte(kind),
-        short(id),
+        values::byte(kind),
+        values::short(id),
         factor,
         z,
         spacing,
@@ -174,19 +129,19 @@ fn plate_numbers(kind: u8, id: u16, p: Plate) -> [u32; 13]
 fn member_numbers(kind: u8, id: u16, m: Member) -> [u32; 13]
     ensures { λ r. ⌜ r ≡ memberNumbers kind id m ⌝ }
 {
-    let z = short(m.z.0);
-    let spacing = short(m.spacing.0);
-    let span = short(m.span.0);
-    let thickness = short(m.thickness.0);
-    let bending = byte(m.bending);
-    let shear = byte(m.shear);
-    let eta = byte(m.eta);
-    let stress = byte(m.stress);
-    let area = short(m.area.0);
-    let factor = short(m.factor.0);
+    let z = values::short(m.z.0);
+    let spacing = values::short(m.spacing.0);
+    let span = values::short(m.span.0);
+    let thickness = values::short(m.thickness.0);
+    let bending = values::byte(m.bending);
+    let shear = values::byte(m.shear);
+    let eta = values::byte(m.eta);
+    let stress = values::byte(m.stress);
+    let area = values::short(m.area.0);
+    let factor = values::short(m.factor.0);
     [
-        byte(kind),
-        short(id),
+        values::byte(kind),
+        values::short(id),
         z,
         spacing,
         span,
