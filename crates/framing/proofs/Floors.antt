@@ -1,10 +1,11 @@
--- The kinds from 6 on by their order: floors below 8, girders from 8.
+-- The kinds from 6 on by their order, floors below 8 and girders from 8; and what rules without η ask.
 -- Assumes nothing.
-use Prim.Native.Nat.{ℕ, _≤_, _<_}
+use Prim.Native.Nat.{ℕ, _*_, _≤_, _<_}
 use mathlib.Core.Bool.{true, false}
-use mathlib.Core.Path.{_≡_}
+use mathlib.Core.Path.{_≡_, ap}
 use native.Mathlib.Omega.{arith}
 use native.Mathlib.Decide.{decLe}
+use native.Mathlib.Nat.{mul-one}
 use borrow.Author.Tests.{eq-eqb, ne-eqb}
 use Rattle.sheet.specs.Kinds.{isFloor}
 
@@ -17,3 +18,7 @@ floors kind l h = go (decLe kind 6)
 
 pub above-floors : (kind : ℕ) → 8 ≤ kind → isFloor kind ≡ false
 above-floors kind l = rw (ne-eqb kind 6 (λ e. omega arith), ne-eqb kind 7 (λ e. omega arith))
+
+-- a product with 1 in the place of η
+pub without-η : (n q x : ℕ) → n * 1 * q * x ≡ n * q * x
+without-η n q x = ap (λ (k : ℕ). k * q * x) (mul-one n)

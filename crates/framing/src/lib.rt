@@ -34,15 +34,6 @@ fn at_least(p: u64, a: u64) -> Shape
     Shape::Floor(gauge::ceil_div(p, a))
 }
 
-// X = step·x − short, X ≥ 0 and a·X² ≥ p.
-fn squared(step: u32, short: u64, p: u64, a: u64) -> Shape
-    requires { ⌜ 0 < a ⌝ }
-    ensures { λ d. ⌜ d ≡ Shape.Square step short (ceilOf p a) ⌝ }
-{
-    let n = gauge::ceil_div(p, a);
-    Shape::Square { step, short, n }
-}
-
 // a·x·(limit − σ1) ≥ p. At σ1 = limit and above no strength is left: nothing meets it, not even with p = 0.
 fn stressed(a: u64, limit: u8, stress: u8, p: u64) -> Shape
     requires { ⌜ (0 < a) × (a ≤ 2 ^ 40) ⌝ }
@@ -71,12 +62,12 @@ fn rule4(kind: u8, length: Span, factor: SteelFactor, spacing: Spacing) -> Shape
     let k = factor.0 as u64;
     let s = spacing.0 as u64;
     if 6 <= kind {
-        return squared(100, 38000, 8 * l2 * k, 3125);
+        return gauge::squared(100, 38000, 8 * l2 * k, 3125);
     }
     if l < 12000 {
-        return squared(100, 16300 + 45 * s, l2 * k, 6250);
+        return gauge::squared(100, 16300 + 45 * s, l2 * k, 6250);
     }
-    squared(10, s, 15210 * k, 1)
+    gauge::squared(10, s, 15210 * k, 1)
 }
 
 // The section modulus.

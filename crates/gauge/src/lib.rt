@@ -79,3 +79,11 @@ pub fn ceil_div(p: u64, a: u64) -> u64
     }
     (p - 1) / a + 1
 }
+
+// X = step·x − short, X ≥ 0 and a·X² ≥ p: no root is taken, and the quotient that the square is held against is rounded up.
+pub fn squared(step: u32, short: u64, p: u64, a: u64) -> Shape
+    ensures { λ d. ⌜ d ≡ Shape.Square step short (ceilOf p a) ⌝ }
+{
+    let n = ceil_div(p, a);
+    Shape::Square { step, short, n }
+}

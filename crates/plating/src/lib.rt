@@ -36,12 +36,7 @@ fn square(a: u64, n: u64) -> Shape
     requires { ⌜ 0 < a ⌝ }
     ensures { λ d. ⌜ Says d (thickness .high) (λ (T : ℕ). leb n (a * (T * T))) ⌝ }
 {
-    let n = gauge::ceil_div(n, a);
-    Shape::Square {
-        step: 1,
-        short: 0,
-        n,
-    }
+    gauge::squared(1, 0, n, a)
 }
 
 // a·T² ≥ b·c, where b·c may be past 64 bits: it is formed only where the thickest plate of the gauge meets the rule.
@@ -61,12 +56,7 @@ fn excess(short: u64, a: u64, n: u64) -> Shape
     requires { ⌜ 0 < a ⌝ }
     ensures { λ d. ⌜ Says d (thickness .high) (λ (T : ℕ). leb short (100 * T) && leb n (a * ((100 * T - short) * (100 * T - short)))) ⌝ }
 {
-    let n = gauge::ceil_div(n, a);
-    Shape::Square {
-        step: 100,
-        short,
-        n,
-    }
+    gauge::squared(100, short, n, a)
 }
 
 fn is_bottom(kind: u8) -> bool

@@ -2,7 +2,7 @@
 -- Assumes nothing.
 use borrow.Author.Needs.{needs}
 use mathlib.Core.Path.{_≡_, refl, ap, sym, _∙_}
-use mathlib.Core.List.{_++_}
+use mathlib.Core.List.{List, _++_}
 use Prim.Native.Nat.{_+_, _*_, _≤_, _-_}
 use native.Mathlib.Omega.{arith}
 use native.Mathlib.Nat.{zero-add}
@@ -29,7 +29,7 @@ loop-holds : tie.Need-loop-holds Inv-loop μ-loop
 loop-holds c =
     let a = c .before .before .args in
     let e = rest-all (a .h .count) (a .h) (now (a .sheet)) in
-    (search needs, search needs, refl, rw (e, zero-add), rw e)
+    (search needs, search needs, refl, zero-add _ ∙ ap failures e, ap (λ (es : List Entry). bytesOf es ++ drop (4 * a .h .count) (now (a .out))) e)
 
 loop-again : tie.Need-loop-again Inv-loop μ-loop
 loop-again c =

@@ -5,9 +5,9 @@ use mathlib.Core.List.{[], _∷_}
 use mathlib.Core.Path.{_≡_, sym, _∙_}
 use borrow.Author.Needs.{needs}
 use borrow.Author.Tests.{not-true, not-false}
-use Rattle.quantity.specs.Range.{modulus, shearArea, lineLoad}
+use Rattle.quantity.specs.Range.{thickness, modulus, shearArea, lineLoad}
 use Rattle.gauge.specs.ShapeLaws.{Says}
-use Rattle.verdict.specs.Verdict.{Rule, verdictOf}
+use Rattle.verdict.specs.Verdict.{Rule, verdictOf, failedOf}
 use Rattle.framing.specs.Rules.{webRule, bendingRule, shearRule}
 use Rattle.framing.specs.Bounds.{member-line-high}
 use Rattle.verdict.specs.Steps.{first-failed, first-met}
@@ -63,7 +63,8 @@ returns c =
     let w = c .before .before in
     let s = w .before .before .before in
     let r = w .before .before .rule4 in
-    c .failed .ensures
+    let named : c .failed .result ≡ failedOf 4 (r .result) (thickness .high) = c .failed .ensures in
+    named
     ∙ first-failed (r .result) (web s) (bending s ∷ shear s ∷ []) (r .ensures) (s .pre .1 .thickness-low) (s .pre .1 .thickness-high)
     (sym (w .meets .ensures) ∙ not-true _ (c .before .if1 .taken))
 
@@ -77,7 +78,8 @@ returns-2 c =
     let w = c .before .before in
     let r = w .before in
     let s = start (r .before .before) in
-    c .failed2 .ensures
+    let named : c .failed2 .result ≡ failedOf 5 (r .rule5 .result) (modulus .high) = c .failed2 .ensures in
+    named
     ∙ first-failed (r .rule5 .result) (bending s) (shear s ∷ []) (bending-said r) (s .pre .1 .modulus-low) (s .pre .1 .modulus-high)
     (sym (w .meets2 .ensures) ∙ not-true _ (c .before .if2 .taken))
     ∙ web-met (r .before .before)
@@ -92,7 +94,8 @@ returns-3 c =
     let w = c .before .before in
     let r = w .before .before in
     let s = start2 (r .before) in
-    c .failed3 .ensures
+    let named : c .failed3 .result ≡ failedOf 6 (r .rule6 .result) (shearArea .high) = c .failed3 .ensures in
+    named
     ∙ first-failed (r .rule6 .result) (shear s) [] (shear-said r) (s .pre .1 .area-low) (s .pre .1 .area-high)
     (sym (w .meets3 .ensures) ∙ not-true _ (c .before .if3 .taken))
     ∙ bending-met (r .before)

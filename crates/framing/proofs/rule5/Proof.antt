@@ -1,16 +1,17 @@
 -- `framing::rule5` meets its contract: each of its forms is a shape.
 -- Assumes nothing.
 use Prim.Native.Nat.{ℕ, _*_, _≤_}
+use mathlib.Core.Path.{_≡_, _∙_}
 use borrow.Author.Needs.{needs}
 use borrow.Author.Tests.{le-leb, lt-leb}
 use native.Mathlib.Omega.{arith}
-use native.Mathlib.Nat.{mul-le-mul, mul-one}
+use native.Mathlib.Nat.{mul-le-mul}
 use lib.Dec.{lit<, lit≤}
 use Rattle.gauge.specs.ShapeLaws.{over-floor}
 use Rattle.framing.specs.Rules.{rule5}
 use Rattle.framing.specs.Shapes.{stressed-said}
 use Rattle.framing.specs.Bounds.{Bounded, Product}
-use Rattle.framing.proofs.Floors.{floors, above-floors}
+use Rattle.framing.proofs.Floors.{floors, above-floors, without-η}
 use Rattle.framing.proofs.rule5.Statement.{statement}
 use Rattle.framing.proofs.rule5.Tie as tie
 
@@ -31,7 +32,9 @@ returns-2 : tie.Need-returns-2
 unfolding rule5
 returns-2 c =
     let b = c .before .before in
-    λ x m n. rw (c .at-least .ensures, c .before .product2 .ensures, le-leb _ _ (b .before .if1 .left), floors _ (b .before .if1 .left) (b .if2 .taken), mul-one) (over-floor _ _ x (lit< tt))
+    let a = b .before .before .before .args in
+    let load : c .before .product2 .result ≡ 29 * a .bending * 1 * a .q .0 * (a .span .0 * a .span .0) = c .before .product2 .ensures in
+    λ x m n. rw (c .at-least .ensures, load ∙ without-η (29 * a .bending) (a .q .0) (a .span .0 * a .span .0), le-leb _ _ (b .before .if1 .left), floors _ (b .before .if1 .left) (b .if2 .taken)) (over-floor _ _ x (lit< tt))
 
 returns-3 : tie.Need-returns-3
 unfolding rule5

@@ -8,5 +8,5 @@ pub refuse-spec : {M : Type 1} → statement M
 refuse-spec =
     tie.close
     (tie.spec
-    (λ c. simp (eq-eqb _ _ (c .if1 .taken)))
-    (λ c. simp (ne-eqb _ _ (c .if1 .left))))
+    (λ c. simp (eq-eqb (c .before .args .f) 1 (c .if1 .taken)))
+    (λ c. simp (ne-eqb (c .before .args .f) 1 (c .if1 .left))))

@@ -1,5 +1,7 @@
 -- `loads::bottom` meets its contract.
 -- Assumes nothing.
+use Prim.Native.Nat.{_-_, max}
+use mathlib.Core.Path.{_≡_, ap₂, _∙_}
 use borrow.Author.Needs.{needs}
 use Rattle.loads.specs.Loads.{bottomLoad}
 use Rattle.loads.proofs.bottom.Statement.{statement}
@@ -9,7 +11,9 @@ returns : tie.Need-returns
 unfolding bottomLoad
 returns c =
     let b = c .before .before .before in
-    rw (b .before .if1 .taken, c .greater .ensures, c .before .cut .ensures, c .before .before .relief .ensures, b .tank .ensures, b .before .before .sea .ensures)
+    let inside = c .before .cut .ensures ∙ ap₂ _-_ (b .tank .ensures) (c .before .before .relief .ensures) in
+    let greater : c .greater .result ≡ max (b .before .before .sea .result .0) (c .before .cut .result) = c .greater .ensures in
+    rw (b .before .if1 .taken) (greater ∙ ap₂ max (b .before .before .sea .ensures) inside)
 
 returns-2 : tie.Need-returns-2
 unfolding bottomLoad

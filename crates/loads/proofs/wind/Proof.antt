@@ -6,10 +6,10 @@ use Rattle.loads.proofs.wind.Statement.{statement}
 use Rattle.loads.proofs.wind.Tie as tie
 
 returns : tie.Need-returns
-returns c = rw (eq-eqb _ _ (c .before .if1 .taken))
+returns c = rw (eq-eqb (c .before .before .before .args .wave .0) 120 (c .before .if1 .taken))
 
 returns-2 : tie.Need-returns-2
-returns-2 c = rw (ne-eqb _ _ (c .if1 .left))
+returns-2 c = rw (ne-eqb (c .before .before .args .wave .0) 120 (c .if1 .left))
 
 pub wind-spec : {M : Type 1} → statement M
 wind-spec = tie.close (tie.spec (λ c. search needs) (λ c. search needs) returns returns-2)

@@ -12,7 +12,7 @@ use Rattle.sheet.specs.declared.Plate.{Plate}
 use Rattle.sheet.specs.Kinds.{isBottom}
 use Rattle.sheet.specs.Ranges.{HeaderRanges, PlateRanges}
 use Rattle.loads.specs.Bounds.{either, bottom-bound, inner-bound}
-use Rattle.verdict.specs.Verdict.{Rule, verdictOf}
+use Rattle.verdict.specs.Verdict.{Rule, verdictOf, failedOf}
 use Rattle.plating.specs.Rules.{K2, rule2, rule3, plateLoad, asked1, asked2, asked3}
 use Rattle.plating.specs.Laws.{R-high}
 use Rattle.plating.proofs.Steps.{Step, step}
@@ -91,17 +91,22 @@ passed2 : (c : tie.Else2) → let s = start2 (c .before) in verdictOf (r1 s ∷ 
 passed2 c = passed1 (c .before .before .before .before) ∙ step2 (c .before) .passes (c .if2 .left)
 
 returns : tie.Need-returns
-returns c = c .failed .ensures ∙ step1 (c .before .before) .fails (c .before .if1 .taken)
+returns c =
+    let m = c .before .before in
+    let named : c .failed .result ≡ failedOf 1 (m .before .rule1 .result) (thickness .high) = c .failed .ensures in
+    named ∙ step1 m .fails (c .before .if1 .taken)
 
 returns-2 : tie.Need-returns-2
 returns-2 c =
     let m = c .before .before in
-    c .failed2 .ensures ∙ step2 m .fails (c .before .if2 .taken) ∙ sym (passed1 (m .before .before .before))
+    let named : c .failed2 .result ≡ failedOf 2 (m .before .rule2 .result) (thickness .high) = c .failed2 .ensures in
+    named ∙ step2 m .fails (c .before .if2 .taken) ∙ sym (passed1 (m .before .before .before))
 
 returns-3 : tie.Need-returns-3
 returns-3 c =
     let m = c .before .before in
-    c .failed3 .ensures ∙ step3 m .fails (c .before .if3 .taken) ∙ sym (passed2 (m .before .before .before))
+    let named : c .failed3 .result ≡ failedOf 3 (m .before .rule3 .result) (thickness .high) = c .failed3 .ensures in
+    named ∙ step3 m .fails (c .before .if3 .taken) ∙ sym (passed2 (m .before .before .before))
 
 returns-4 : tie.Need-returns-4
 returns-4 c =

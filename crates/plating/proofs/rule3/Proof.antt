@@ -1,19 +1,25 @@
 -- `plating::rule3` meets its contract.
 -- Assumes nothing.
-use mathlib.Core.Path.{sym, _∙_}
+use mathlib.Core.Path.{_≡_, sym, _∙_}
+use mathlib.Core.Bool.{true, false}
 use borrow.Author.Needs.{needs}
+use Rattle.plating.specs.Rules.{isSecond}
 use Rattle.plating.proofs.rule3.Statement.{statement}
 use Rattle.plating.proofs.rule3.Tie as tie
 
 returns : tie.Need-returns
 returns c =
     let b = c .before in
-    λ T m h. rw (sym (b .before .is-second .ensures) ∙ b .if1 .taken) (c .second-form .ensures T m h)
+    let a = b .before .before .args in
+    let second : isSecond (a .kind) (a .factor .0) (a .r) ≡ true = sym (b .before .is-second .ensures) ∙ b .if1 .taken in
+    λ T m h. rw second (c .second-form .ensures T m h)
 
 returns-2 : tie.Need-returns-2
 returns-2 c =
     let b = c .before in
-    λ T m h. rw (sym (b .before .is-second .ensures) ∙ b .if1 .left) (c .first-form .ensures T m h)
+    let a = b .before .before .args in
+    let first : isSecond (a .kind) (a .factor .0) (a .r) ≡ false = sym (b .before .is-second .ensures) ∙ b .if1 .left in
+    λ T m h. rw first (c .first-form .ensures T m h)
 
 pub rule3-spec : {M : Type 1} → statement M
 rule3-spec =

@@ -1,8 +1,9 @@
 -- `verdict::admitted` meets its contract.
 -- Assumes nothing.
 use borrow.Author.Needs.{needs}
-use mathlib.Core.Path.{sym, ap, _∙_}
-use Rattle.sheet.specs.Refusals.{toldOutcome, numberOf, placeOf}
+use mathlib.Core.Path.{_≡_, sym, ap, _∙_}
+use Rattle.sheet.specs.Refusals.{toldOutcome, recordRefused, given}
+use Rattle.sheet.specs.Record.{recordFault}
 use Rattle.verdict.specs.JudgedLaws.{header-first, then-record}
 use Rattle.verdict.proofs.admitted.Statement.{statement}
 use Rattle.verdict.proofs.admitted.Tie as tie
@@ -17,7 +18,8 @@ returns-2 : tie.Need-returns-2
 returns-2 c =
     let at-header = c .before .before .before in
     let a = at-header .before .args in
-    c .record-fault .ensures ∙ then-record (a .h) (a .r) (sym (at-header .header-fault .ensures) ∙ ap toldOutcome (c .before .enum-told .given .1))
+    let second : toldOutcome (c .record-fault .result) ≡ recordRefused 0 (recordFault (a .r) 0) (given tt) = c .record-fault .ensures in
+    second ∙ then-record (a .h) (a .r) (sym (at-header .header-fault .ensures) ∙ ap toldOutcome (c .before .enum-told .given .1))
 
 pub admitted-spec : {M : Type 1} → statement M
 admitted-spec =
