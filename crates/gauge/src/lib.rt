@@ -44,8 +44,24 @@ pub fn meets(d: Shape, x: u32) -> bool
     }
 }
 
-// The least of 1, 2, .., top that meets the shape. The gauge's top is tried first, so that the search always has a number that meets it.
-pub fn least_in(d: Shape, top: u32) -> Least
+// The least of 1, 2, .., top that is at least n.
+fn floor_in(n: u64, top: u32) -> Least
+    ensures { λ r. ⌜ r ≡ leastOf (Shape.Floor n) top ⌝ }
+{
+    if (top as u64) < n {
+        return Least::Nothing;
+    }
+    if n == 0 {
+        if top == 0 {
+            return Least::Nothing;
+        }
+        return Least::At(1);
+    }
+    Least::At(n as u32)
+}
+
+// The least of 1, 2, .., top that meets the shape, by halves. The gauge's top is tried first, so that the search always has a number that meets it.
+fn found_in(d: Shape, top: u32) -> Least
     ensures { λ r. ⌜ r ≡ leastOf d top ⌝ }
 {
     if top == 0 {
@@ -65,6 +81,21 @@ pub fn least_in(d: Shape, top: u32) -> Least
         }
     }
     Least::At(lo)
+}
+
+// The least of 1, 2, .., top that meets the shape.
+pub fn least_in(d: Shape, top: u32) -> Least
+    ensures { λ r. ⌜ r ≡ leastOf d top ⌝ }
+{
+    match d {
+        Shape::Never => found_in(d, top),
+        Shape::Floor(n) => floor_in(n, top),
+        Shape::Square {
+            step: _,
+            short: _,
+            n: _,
+        } => found_in(d, top),
+    }
 }
 
 // p / a, rounded up; 0 where a is 0.
