@@ -5,8 +5,8 @@ ghost use mathlib.Core.Bool.{cond};
 ghost use Rattle.quantity.specs.Range.{within, from};
 ghost use Prim.Native.Nat.{_≤_, _<_};
 ghost use lib.ListN.{length, take, drop};
-ghost use mathlib.Core.List.{_++_};
-ghost use Rattle.layout.specs.Layout.{pack, unpack, bytes};
+ghost use mathlib.Core.List.{_++_, reverse};
+ghost use Rattle.layout.specs.Layout.{pack, unpack, bytes, Fit};
 ghost use Rattle.layout.specs.Bytes.{shortOf, longOf, readOf, writtenOf};
 
 const P8: u64 = 256;
@@ -59,12 +59,30 @@ fn put_half(out: &mut [u8], w: u32)
     out[3] = (w % 256) as u8;
 }
 
+// The first eight bytes as they would stand least significant first: read so, they are one load.
+fn little(s: &[u8]) -> u64
+    requires { ⌜ 8 ≤ length (now s) ⌝ }
+    ensures { λ r. ⌜ (r ≡ pack (bytes 8) (reverse (take 8 (now (s .entry))))) × Fit (bytes 8) (reverse (take 8 (now (s .entry)))) ⌝ }
+{
+    let a = wide(s[0]) + wide(s[1]) * P8 + wide(s[2]) * P16 + wide(s[3]) * P24;
+    let b = wide(s[4]) * P32 + wide(s[5]) * P40 + wide(s[6]) * P48 + wide(s[7]) * P56;
+    a + b
+}
+
+// The number whose bytes are those of x in the other order.
+fn swapped(x: u64) -> u64
+    ensures { λ r. ⌜ r ≡ pack (bytes 8) (reverse (unpack (bytes 8) x)) ⌝ }
+{
+    let a = x % 256 * P56 + x / P8 % 256 * P48 + x / P16 % 256 * P40 + x / P24 % 256 * P32;
+    let b = x / P32 % 256 * P24 + x / P40 % 256 * P16 + x / P48 % 256 * P8 + x / P56 % 256;
+    a + b
+}
+
 fn word(s: &[u8]) -> u64
     requires { ⌜ 8 ≤ length (now s) ⌝ }
     ensures { λ r. ⌜ r ≡ pack (bytes 8) (take 8 (now (s .entry))) ⌝ }
 {
-    let a = wide(s[0]) * P56 + wide(s[1]) * P48 + wide(s[2]) * P40 + wide(s[3]) * P32;
-    a + wide(s[4]) * P24 + wide(s[5]) * P16 + wide(s[6]) * P8 + wide(s[7])
+    swapped(little(s))
 }
 
 fn put_word(out: &mut [u8], w: u64)
