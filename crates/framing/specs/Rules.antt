@@ -85,10 +85,6 @@ shearRule h kind m =
 abbrev pub memberRules : Header → ℕ → Member → List Rule
 memberRules h kind m = webRule h kind m ∷ bendingRule h kind m ∷ shearRule h kind m ∷ []
 
--- the first of them that a member fails; a plate has nothing to answer to here
-abbrev pub memberBodyVerdict : Header → ℕ → Body → Verdict
-memberBodyVerdict h kind (isPlate p) = pass
-memberBodyVerdict h kind (isMember m) = verdictOf (memberRules h kind m)
-
-abbrev pub memberVerdict : Header → Record → Verdict
-memberVerdict h r = memberBodyVerdict h (r .kind) (r .body)
+-- the first of them that fails, with what it requires
+abbrev pub memberVerdict : Header → ℕ → Member → Verdict
+memberVerdict h kind m = verdictOf (memberRules h kind m)

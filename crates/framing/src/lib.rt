@@ -7,11 +7,9 @@ use quantity::Spacing;
 use quantity::Span;
 use quantity::SteelFactor;
 use quantity::Thickness;
-use sheet::Body;
 use sheet::Header;
 use sheet::Member;
 use sheet::Outcome;
-use sheet::Record;
 use verdict::Judged;
 use verdict::Verdict;
 ghost use mathlib.Core.Path.{_≡_};
@@ -19,6 +17,7 @@ ghost use Prim.Native.Nat.{_*_, _<_, _≤_, _^_};
 ghost use Rattle.quantity.specs.Range.{thickness, modulus, shearArea};
 ghost use Rattle.gauge.specs.Ceil.{ceilOf};
 ghost use Rattle.gauge.specs.ShapeLaws.{Says};
+ghost use Rattle.sheet.specs.Record.{ofMember};
 ghost use Rattle.sheet.specs.Ranges.{HeaderRanges, MemberRanges};
 ghost use Rattle.verdict.specs.Verdict.{verdictOf};
 ghost use Rattle.verdict.specs.Judged.{toldJudged, judgedBy};
@@ -136,21 +135,13 @@ fn member_verdict(h: Header, kind: u8, m: Member) -> Verdict
     }
 }
 
-// The verdict of the rules for members, to which a plate has nothing to answer; or why the header or the record is turned away.
-pub fn judge(h: Header, r: Record) -> Judged
-    ensures { λ j. ⌜ toldJudged j ≡ judgedBy h r (memberVerdict h r) ⌝ }
+// The verdict on a member, or why the header or the member's record is turned away.
+pub fn judge(h: Header, kind: u8, id: u16, m: Member) -> Judged
+    ensures { λ j. ⌜ toldJudged j ≡ judgedBy h (ofMember kind id m) (memberVerdict h kind m) ⌝ }
 {
-    let admitted = verdict::admitted(h, r);
-    if let Outcome::Refused(x) = admitted {
-        return Judged::Refused(x);
+    let admitted = verdict::admitted_member(h, kind, id, m);
+    if let Outcome::Refused(r) = admitted {
+        return Judged::Refused(r);
     }
-    let kind = r.kind;
-    let body = r.body;
-    match body {
-        Body::Plate(_) => Judged::Verdict(Verdict {
-            rule: 0,
-            required: 0,
-        }),
-        Body::Member(m) => Judged::Verdict(member_verdict(h, kind, m)),
-    }
+    Judged::Verdict(member_verdict(h, kind, m))
 }

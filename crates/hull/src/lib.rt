@@ -11,9 +11,11 @@ ghost use Rattle.hull.specs.Hull.{verdict};
 pub fn judge(h: Header, r: Record) -> Judged
     ensures { λ j. ⌜ toldJudged j ≡ judgedBy h r (verdict h r) ⌝ }
 {
+    let kind = r.kind;
+    let id = r.id;
     let body = r.body;
     match body {
-        Body::Plate(_) => plating::judge(h, r),
-        Body::Member(_) => framing::judge(h, r),
+        Body::Plate(p) => plating::judge(h, kind, id, p),
+        Body::Member(m) => framing::judge(h, kind, id, m),
     }
 }

@@ -92,10 +92,6 @@ asked3 h kind p =
 abbrev pub plateRules : Header → ℕ → Plate → List Rule
 plateRules h kind p = asked1 h kind p ∷ asked2 h kind p ∷ asked3 h kind p ∷ []
 
--- the first of them that a plate fails; a member has nothing to answer to here
-abbrev pub plateBodyVerdict : Header → ℕ → Body → Verdict
-plateBodyVerdict h kind (isPlate p) = verdictOf (plateRules h kind p)
-plateBodyVerdict h kind (isMember m) = pass
-
-abbrev pub plateVerdict : Header → Record → Verdict
-plateVerdict h r = plateBodyVerdict h (r .kind) (r .body)
+-- the first of them that fails, with what it requires
+abbrev pub plateVerdict : Header → ℕ → Plate → Verdict
+plateVerdict h kind p = verdictOf (plateRules h kind p)

@@ -5,11 +5,9 @@ use quantity::Spacing;
 use quantity::Span;
 use quantity::SteelFactor;
 use quantity::Thickness;
-use sheet::Body;
 use sheet::Header;
 use sheet::Outcome;
 use sheet::Plate;
-use sheet::Record;
 use verdict::Judged;
 use verdict::Verdict;
 ghost use mathlib.Core.Path.{_≡_};
@@ -19,6 +17,7 @@ ghost use lib.Dec.{leb};
 ghost use Rattle.quantity.specs.Range.{thickness, pressure, steelFactor};
 ghost use Rattle.gauge.specs.ShapeLaws.{Says};
 ghost use Rattle.sheet.specs.Kinds.{isLong, isBottom};
+ghost use Rattle.sheet.specs.Record.{ofPlate};
 ghost use Rattle.sheet.specs.Ranges.{HeaderRanges, PlateRanges};
 ghost use Rattle.verdict.specs.Verdict.{verdictOf};
 ghost use Rattle.verdict.specs.Judged.{toldJudged, judgedBy};
@@ -223,21 +222,13 @@ fn plate_verdict(h: Header, kind: u8, p: Plate) -> Verdict
     }
 }
 
-// The verdict of the rules for plates, to which a member has nothing to answer; or why the header or the record is turned away.
-pub fn judge(h: Header, r: Record) -> Judged
-    ensures { λ j. ⌜ toldJudged j ≡ judgedBy h r (plateVerdict h r) ⌝ }
+// The verdict on a plate, or why the header or the plate's record is turned away.
+pub fn judge(h: Header, kind: u8, id: u16, p: Plate) -> Judged
+    ensures { λ j. ⌜ toldJudged j ≡ judgedBy h (ofPlate kind id p) (plateVerdict h kind p) ⌝ }
 {
-    let admitted = verdict::admitted(h, r);
-    if let Outcome::Refused(x) = admitted {
-        return Judged::Refused(x);
+    let admitted = verdict::admitted_plate(h, kind, id, p);
+    if let Outcome::Refused(r) = admitted {
+        return Judged::Refused(r);
     }
-    let kind = r.kind;
-    let body = r.body;
-    match body {
-        Body::Plate(p) => Judged::Verdict(plate_verdict(h, kind, p)),
-        Body::Member(_) => Judged::Verdict(Verdict {
-            rule: 0,
-            required: 0,
-        }),
-    }
+    Judged::Verdict(plate_verdict(h, kind, p))
 }

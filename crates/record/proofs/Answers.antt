@@ -31,12 +31,12 @@ refused-says i f fine z = says (Kind i) (Field (32 * i + f)) (λ k. refused 7 (3
 fine-says : {A : Type 0} (i f : ℕ) (fine : Answer A) → f ≡ 0 → fine ≡ recordRefused i f fine
 fine-says i f fine z = sym (at-none (refused 6 i) (λ k. refused 7 (32 * i + k)) f fine z)
 
-module _ (i : ℕ) (r : Record) (f : ℕ) (ef : f ≡ recordFault r 0) where
-  pub fault-fine : f ≡ 0 → toldOutcome Fine ≡ recordRefused i (recordFault r 0) (given tt)
-  fault-fine z = fine-says i f (given tt) z ∙ ap (λ (n : ℕ). recordRefused i n (given tt)) ef
+module _ (i f : ℕ) where
+  pub fault-fine : f ≡ 0 → toldOutcome Fine ≡ recordRefused i f (given tt)
+  fault-fine z = fine-says i f (given tt) z
 
-  pub fault-refused : (x : Refusal) → x ≡ refusalOf i f → (f ≡ 0 → ⊥) → toldOutcome (notFine x) ≡ recordRefused i (recordFault r 0) (given tt)
-  fault-refused x ex z = ap (λ (y : Refusal). told y) ex ∙ refused-says i f (given tt) z ∙ ap (λ (n : ℕ). recordRefused i n (given tt)) ef
+  pub fault-refused : (x : Refusal) → x ≡ refusalOf i f → (f ≡ 0 → ⊥) → toldOutcome (notFine x) ≡ recordRefused i f (given tt)
+  fault-refused x ex z = ap (λ (y : Refusal). told y) ex ∙ refused-says i f (given tt) z
 
 pub read-short : (i : ℕ) (s : List ℕ) → length s < 16 → toldRecord (noRecord SheetShort) ≡ readRecord i s
 unfolding readRecord
@@ -67,7 +67,7 @@ module _ (r : Record) (o : List ℕ) where
     unfolding writeRecord
     write-bad x ex z =
         record {
-          answer = fault-refused 0 r f ef x ex z ∙ rw (le-ltb _ _ l);
+          answer = fault-refused 0 f x ex z ∙ ap (λ (n : ℕ). recordRefused 0 n (given tt)) ef ∙ rw (le-ltb _ _ l);
           bytes = rw (le-ltb _ _ l, ne-eqb (recordFault r 0) 0 (λ e. z (ef ∙ e)));
         }
 
@@ -75,6 +75,6 @@ module _ (r : Record) (o : List ℕ) where
     unfolding writeRecord
     write-good n after z en ea =
         record {
-          answer = fault-fine 0 r f ef z ∙ rw (le-ltb _ _ l);
+          answer = fault-fine 0 f z ∙ ap (λ (n : ℕ). recordRefused 0 n (given tt)) ef ∙ rw (le-ltb _ _ l);
           bytes = ea ∙ write-all 16 n o l ∙ ap (λ (m : ℕ). unpack (bytes 16) m ++ drop 16 o) en ∙ rw (le-ltb _ _ l, eq-eqb (recordFault r 0) 0 (sym ef ∙ z));
         }

@@ -24,7 +24,7 @@ ghost use Rattle.layout.specs.Layout.{pack, unpack, Fit};
 ghost use Rattle.layout.specs.Bytes.{longOf, readOf};
 ghost use Rattle.sheet.specs.Lines.{plateWidths, memberWidths};
 ghost use Rattle.sheet.specs.Refusals.{given, toldOutcome, toldRecord, recordRefused};
-ghost use Rattle.sheet.specs.Record.{plateValues, memberValues, plateAt, memberAt, plateFault, memberFault, recordFault, readRecord, writeRecord, widthsIn, valuesIn, recordNumber};
+ghost use Rattle.sheet.specs.Record.{ofPlate, ofMember, plateValues, memberValues, plateAt, memberAt, plateFault, memberFault, recordFault, readRecord, writeRecord, widthsIn, valuesIn, recordNumber};
 ghost use Rattle.sheet.specs.RecordLaws.{recordAt, spareAt};
 ghost use Rattle.sheet.specs.Writes.{Writes};
 
@@ -322,15 +322,35 @@ fn refuse(i: u16, f: u8) -> Refusal
     }
 }
 
-// The first fault of a record that is record i of a sheet.
-pub fn record_fault(r: Record, i: u16) -> Outcome
-    ensures { λ o. ⌜ toldOutcome o ≡ recordRefused i (recordFault r 0) (given tt) ⌝ }
+// What the first fault of record i says, or nothing where there is none.
+fn outcome(i: u16, f: u8) -> Outcome
+    ensures { λ o. ⌜ toldOutcome o ≡ recordRefused i f (given tt) ⌝ }
 {
-    let f = fault(r, 0);
     if f == 0 {
         return Outcome::Fine;
     }
     Outcome::Refused(refuse(i, f))
+}
+
+// The first fault of a record that is record i of a sheet.
+pub fn record_fault(r: Record, i: u16) -> Outcome
+    ensures { λ o. ⌜ toldOutcome o ≡ recordRefused i (recordFault r 0) (given tt) ⌝ }
+{
+    outcome(i, fault(r, 0))
+}
+
+// `record_fault` of a plate that stands as record 0.
+pub fn plate_outcome(kind: u8, id: u16, p: Plate) -> Outcome
+    ensures { λ o. ⌜ toldOutcome o ≡ recordRefused 0 (recordFault (ofPlate kind id p) 0) (given tt) ⌝ }
+{
+    outcome(0, plate_fault(kind, id, p, 0))
+}
+
+// `record_fault` of a member that stands as record 0.
+pub fn member_outcome(kind: u8, id: u16, m: Member) -> Outcome
+    ensures { λ o. ⌜ toldOutcome o ≡ recordRefused 0 (recordFault (ofMember kind id m) 0) (given tt) ⌝ }
+{
+    outcome(0, member_fault(kind, id, m))
 }
 
 // The record in the first sixteen bytes, as record i of a sheet, or why there is none.

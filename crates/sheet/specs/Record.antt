@@ -56,6 +56,13 @@ memberAt vs =
       factor = record { 0 = getD vs 12 0 };
     }
 
+-- the record that carries a plate, and the one that carries a member
+abbrev pub ofPlate : ℕ → ℕ → Plate → Record
+ofPlate kind id p = record { kind = kind; id = id; body = isPlate p }
+
+abbrev pub ofMember : ℕ → ℕ → Member → Record
+ofMember kind id m = record { kind = kind; id = id; body = isMember m }
+
 -- the record that values are, by the shape
 abbrev pub plateRecord : List ℕ → Record
 plateRecord vs = record { kind = getD vs 0 0; id = getD vs 1 0; body = isPlate (plateAt vs) }

@@ -2,12 +2,14 @@
 use gauge::Least;
 use gauge::Shape;
 use sheet::Header;
+use sheet::Member;
 use sheet::Outcome;
-use sheet::Record;
+use sheet::Plate;
 use sheet::Refusal;
 ghost use mathlib.Core.Path.{_≡_};
 ghost use Rattle.gauge.specs.Least.{numberOf};
 ghost use Rattle.sheet.specs.Refusals.{toldOutcome};
+ghost use Rattle.sheet.specs.Record.{ofPlate, ofMember};
 ghost use Rattle.verdict.specs.Verdict.{failedOf};
 ghost use Rattle.verdict.specs.Judged.{judgedBy};
 
@@ -40,13 +42,24 @@ pub fn failed(rule: u8, d: Shape, top: u32) -> Verdict
     Verdict { rule, required }
 }
 
-// Whether a header and a record are within their values, so that the record can be judged: the header first, then the record as record 0.
-pub fn admitted(h: Header, r: Record) -> Outcome
-    ensures { λ o. ⌜ toldOutcome o ≡ judgedBy h r tt ⌝ }
+// Whether a header and a plate's record are within their values, so that the plate can be judged: the header first, then the record as record 0.
+pub fn admitted_plate(h: Header, kind: u8, id: u16, p: Plate) -> Outcome
+    ensures { λ o. ⌜ toldOutcome o ≡ judgedBy h (ofPlate kind id p) tt ⌝ }
 {
     let first = header::header_fault(h);
     match first {
         Outcome::Refused(x) => Outcome::Refused(x),
-        Outcome::Fine => record::record_fault(r, 0),
+        Outcome::Fine => record::plate_outcome(kind, id, p),
+    }
+}
+
+// The same for a member's record.
+pub fn admitted_member(h: Header, kind: u8, id: u16, m: Member) -> Outcome
+    ensures { λ o. ⌜ toldOutcome o ≡ judgedBy h (ofMember kind id m) tt ⌝ }
+{
+    let first = header::header_fault(h);
+    match first {
+        Outcome::Refused(x) => Outcome::Refused(x),
+        Outcome::Fine => record::member_outcome(kind, id, m),
     }
 }

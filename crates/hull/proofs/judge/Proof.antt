@@ -1,30 +1,40 @@
--- `hull::judge` meets its contract.
+-- `hull::judge` meets its contract: the answer goes by what the record carries.
 -- Assumes nothing.
 use borrow.Author.Needs.{needs}
-use Prim.Native.Nat.{ℕ}
 use mathlib.Core.Path.{_≡_, sym, ap, _∙_}
+use Rattle.sheet.specs.declared.Header.{Header}
+use Rattle.sheet.specs.declared.Record.{Record}
 use Rattle.sheet.specs.declared.Body.{Body}
+use Rattle.sheet.specs.Record.{ofPlate, ofMember}
+use Rattle.sheet.specs.Refusals.{Answer}
+use Rattle.verdict.specs.declared.Verdict.{Verdict}
 use Rattle.verdict.specs.Verdict.{verdictOf}
 use Rattle.verdict.specs.Judged.{toldJudged, judgedBy}
-use Rattle.plating.specs.Rules.{plateVerdict, plateBodyVerdict}
-use Rattle.framing.specs.Rules.{memberVerdict, memberBodyVerdict}
+use Rattle.plating.specs.Rules.{plateVerdict}
+use Rattle.framing.specs.Rules.{memberVerdict}
 use Rattle.hull.specs.Hull.{bodyRules}
 use Rattle.hull.proofs.judge.Statement.{statement}
 use Rattle.hull.proofs.judge.Tie as tie
 
+-- what judging gives, by what the record carries
+abbrev judgedAs : Header → Record → Body → Answer Verdict
+judgedAs h r b = judgedBy h (record { kind = r .kind; id = r .id; body = b }) (verdictOf (bodyRules h (r .kind) b))
+
 returns : tie.Need-returns
 returns c =
-    let a = c .before .before .before .args in
-    let e = c .before .enum-told .given .1 in
-    let judged : toldJudged (c .judge .result) ≡ judgedBy (a .h) (a .r) (plateVerdict (a .h) (a .r)) = c .judge .ensures in
-    judged ∙ ap (judgedBy (a .h) (a .r)) (ap (plateBodyVerdict (a .h) (a .r .kind)) e ∙ sym (ap (λ (b : Body). verdictOf (bodyRules (a .h) (a .r .kind) b)) e))
+    let at-body = c .before .before in
+    let a = at-body .before .before .args in
+    let p = at-body .body .given .0 .0 in
+    let judged : toldJudged (c .judge .result) ≡ judgedBy (a .h) (ofPlate (a .r .kind) (a .r .id) p) (plateVerdict (a .h) (a .r .kind) p) = c .judge .ensures in
+    judged ∙ sym (ap (judgedAs (a .h) (a .r)) (at-body .body .given .1))
 
 returns-2 : tie.Need-returns-2
 returns-2 c =
-    let a = c .before .before .before .args in
-    let e = c .before .enum-told2 .given .1 in
-    let judged : toldJudged (c .judge2 .result) ≡ judgedBy (a .h) (a .r) (memberVerdict (a .h) (a .r)) = c .judge2 .ensures in
-    judged ∙ ap (judgedBy (a .h) (a .r)) (ap (memberBodyVerdict (a .h) (a .r .kind)) e ∙ sym (ap (λ (b : Body). verdictOf (bodyRules (a .h) (a .r .kind) b)) e))
+    let at-body = c .before .before in
+    let a = at-body .before .before .args in
+    let m = at-body .body2 .given .0 .0 in
+    let judged : toldJudged (c .judge2 .result) ≡ judgedBy (a .h) (ofMember (a .r .kind) (a .r .id) m) (memberVerdict (a .h) (a .r .kind) m) = c .judge2 .ensures in
+    judged ∙ sym (ap (judgedAs (a .h) (a .r)) (at-body .body2 .given .1))
 
 pub judge-spec : {M : Type 1} → statement M
 judge-spec =
