@@ -1,7 +1,6 @@
-pub mod Replace
+pub mod Table
+pub mod Program
 pub mod Raise
-pub mod First
-pub mod Second
-pub mod Third
-pub mod Example
-pub mod Empty
+pub mod Demands
+pub mod Replace
+pub mod Rows

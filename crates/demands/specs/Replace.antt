@@ -20,15 +20,7 @@ use Rattle.sheet.specs.Header.{headerIn, readHeader}
 use Rattle.sheet.specs.Record.{readRecord, recordFault, recordNumber, recordBytes, writeRecord}
 use Rattle.sheet.specs.RecordBack.{record-read-again}
 use Rattle.checker.specs.Check.{_then_, demand, headerFor, recordPart, recordOf, partsFrom, soundAfter, recordsIn, Sheet, sheetIn}
-use Rattle.checker.specs.CheckLaws.{HeaderFits, Taken, none, next, Whole, sheet-whole}
-
--- where record i begins
-abbrev pub recordStart : ℕ → ℕ
-recordStart i = 12 + 16 * i
-
--- the sheet with these bytes in place of record i's
-unfoldable pub replaced : (i : ℕ) → List ℕ → List ℕ → List ℕ
-replaced i b s = take (recordStart i) s ++ (b ++ drop (recordStart i + 16) s)
+use Rattle.demands.specs.Raise.{recordStart, replaced}
 
 -- ---- lists
 
