@@ -78,7 +78,7 @@ pub record Third (P : Program) (s out : List ℕ) (n i : ℕ) (e : Entry) : Type
 
 -- the verdict on record i is a pass, or names a rule that no number of the gauge meets
 pub data Settled (s : List ℕ) (i : ℕ) (e : Entry) : Type 0 where
-  passed : e .rule ≡ 0 → e .required ≡ 0 → Settled s i e
+  passes : e .rule ≡ 0 → e .required ≡ 0 → Settled s i e
   none-meets : 1 ≤ e .rule → ((x : ℕ) → 1 ≤ x → x ≤ gaugeTop (e .rule) → meetsRule (withScantling i (e .rule) x s) i (e .rule) ≡ false) → Settled s i e
 
 -- at most three raisings: of record i of such a sheet, each to the number that is read at 4i

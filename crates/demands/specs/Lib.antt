@@ -4,3 +4,4 @@ pub mod Raise
 pub mod Demands
 pub mod Replace
 pub mod Rows
+pub mod Scantling
