@@ -5,3 +5,5 @@ pub mod Demands
 pub mod Replace
 pub mod Rows
 pub mod Scantling
+pub mod Exchange
+pub mod Proved

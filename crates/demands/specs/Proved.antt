@@ -1,0 +1,185 @@
+-- Every program that meets the promise of `check` meets the three demands.
+-- Assumes nothing.
+use Prim.Native.Nat.{ℕ, zero, suc, _+_, _*_, _≤_, _<_}
+use mathlib.Core.Path.{_≡_, refl, sym, ap, ap₂, subst, _∙_}
+use mathlib.Core.Bool.{Bool, true, false, cond}
+use mathlib.Core.List.{List, [], _∷_, map}
+use native.Mathlib.Omega.{arith}
+use lib.ListN.{length, drop, length-append, length-drop}
+use lib.Dec.{eqb}
+use borrow.Author.Tests.{eqb-true, eqb-false}
+use Rattle.sheet.specs.declared.Header.{Header}
+use Rattle.sheet.specs.declared.Record.{Record}
+use Rattle.sheet.specs.declared.Refusal.{Refusal}
+use Rattle.sheet.specs.Refusals.{Answer, given, refused}
+use Rattle.sheet.specs.RefusalLaws.{given-refused, given-same}
+use Rattle.sheet.specs.Exactly.{Exactly, exactly-of}
+use Rattle.sheet.specs.Header.{headerAt}
+use Rattle.sheet.specs.Record.{recordFault, recordBytes}
+use Rattle.sheet.specs.RecordBack.{record-read-fine}
+use Rattle.verdict.specs.declared.Verdict.{Verdict}
+use Rattle.verdict.specs.Raising.{Later as LaterVerdict, passed as passedVerdict, above as aboveVerdict}
+use Rattle.hull.specs.Hull.{rulesOf, verdict}
+use Rattle.hull.specs.Raising.{raised, raisedOnce, raisedTimes as raisedRecord}
+use Rattle.hull.specs.RaisingLaws.{with-number, three-raisings}
+use Rattle.checker.specs.declared.Entry.{Entry}
+use Rattle.checker.specs.declared.Checked.{Checked}
+use Rattle.checker.specs.declared.Checked.the-variants.{Done, Refused as notDone}
+use Rattle.checker.specs.Entry.{entryBytes, readEntry}
+use Rattle.checker.specs.Check.{_then_, recordPart, recordOf, Sheet, sheetIn, entryOf, verdicts, bytesOf, failures, Totals, toldChecked, answerOf, outputOf}
+use Rattle.checker.specs.CheckLaws.{then-given, Taken, none, next, sheet-whole, record-given, verdict-at, verdict-read, verdicts-count, rest-as-lent, answer-done, output-done, bytes-length, refused-as-lent}
+use Rattle.demands.specs.Table.{headerFields, countOf, numberOf, idOf, HeaderSound, Row, Accepted}
+use Rattle.demands.specs.Program.{Program, Meets, Refuses, fourAt, Leaves}
+use Rattle.demands.specs.Raise.{theHeader, theRecord, replaced, withScantling, gaugeTop, metIn, meetsRule, raisedBy, raisedTimes}
+use Rattle.demands.specs.Demands.{Covered, accepted, turned-away, First, entryOn, failedFrom, Second, Later, passed, above, Third, Settled, passes, none-meets, ThreeRaisings, Demands}
+use Rattle.demands.specs.Rows as rows
+use Rattle.demands.specs.Scantling.{putRecord, number-in-gauge, put-sound, met-exactly, later-exactly}
+use Rattle.demands.specs.Exchange as exchange
+
+-- ---- a sheet that is not refused
+
+-- an answer that is given is that of a sheet
+sheet-of : (s : List ℕ) (room : ℕ) (w : Totals) → answerOf s room ≡ given w
+    → (t : Sheet) × (sheetIn s room ≡ given t) × (w ≡ record { n = t .header .count; failed = failures (verdicts t) })
+unfolding answerOf
+sheet-of s room w e = let a = then-given (sheetIn s room) _ w e in (a .0, a .1, sym (given-same (a .2)))
+
+module _ (s out : List ℕ) (t : Sheet) (given-t : sheetIn s (length out) ≡ given t) where
+  header-is : theHeader s ≡ t .header
+  header-is = rows.given-accepted s (length out) t given-t .1
+
+  -- the verdict that the promise writes for a record is the one on its fields
+  entry-is : (i : ℕ) (r : Record) → recordOf s i ≡ given r → entryOf (t .header) r ≡ entryOn s i
+  unfolding entryOf
+  entry-is i r e =
+      ap₂ entryOf (sym header-is) (sym (rows.record-sound s i r e .1))
+      ∙ ap (λ (id : ℕ). record { id = id; rule = verdict (theHeader s) (theRecord s i) .rule; required = verdict (theHeader s) (theRecord s i) .required }) (rows.record-id-field s i)
+
+  failures-from : (i before : ℕ) (rs : List Record) → Taken s i before rs → failures (map (entryOf (t .header)) rs) ≡ failedFrom s i (length rs)
+  unfolding failures
+  failures-from i before [] none = refl
+  failures-from i before (r ∷ rs) (next e l u) =
+      ap₂ (λ (x : Entry) (n : ℕ). cond (eqb (x .rule) 0) 0 1 + n) (entry-is i r e) (failures-from (i + 1) (r .id) rs u)
+
+  all-failures : failures (verdicts t) ≡ failedFrom s 0 (t .header .count)
+  unfolding verdicts
+  all-failures = let w = sheet-whole s (length out) t given-t in failures-from 0 0 (t .records) (w .records) ∙ ap (failedFrom s 0) (w .number)
+
+  output-length : length (outputOf s out) ≡ length out
+  output-length =
+      let n = t .header .count in
+      omega (
+        arith,
+        ap length (output-done s out t given-t),
+        length-append (bytesOf (verdicts t)) (drop (4 * n) out),
+        length-drop (4 * n) out,
+        bytes-length (verdicts t),
+        verdicts-count s out t given-t,
+        sheet-whole s (length out) t given-t .header .fits,
+      )
+
+-- ---- a program that meets the promise
+
+module _ (P : Program) (meets : Meets P) where
+  -- what it answers and what it leaves
+  done-given : (s out : List ℕ) (n failed : ℕ) → P .answer s out ≡ Done n failed → answerOf s (length out) ≡ given (record { n = n; failed = failed })
+  done-given s out n failed e = sym (meets s out .answer) ∙ ap (λ (c : Checked). toldChecked c) e
+
+  given-done : (s out : List ℕ) (w : Totals) → answerOf s (length out) ≡ given w → P .answer s out ≡ Done (w .n) (w .failed)
+  given-done s out w e = go (P .answer s out) refl
+    where
+      go : (c : Checked) → P .answer s out ≡ c → P .answer s out ≡ Done (w .n) (w .failed)
+      go (Done m x) f =
+          let same = given-same (sym (done-given s out m x f) ∙ e) in
+          f ∙ ap₂ Done (ap (λ (u : Totals). u .n) same) (ap (λ (u : Totals). u .failed) same)
+      go (notDone r) f = given-refused (sym e ∙ sym (meets s out .answer) ∙ ap (λ (c : Checked). toldChecked c) f)
+
+  left : (s out : List ℕ) → P .after s out ≡ outputOf s out
+  left s out = meets s out .bytes
+
+  sheet-done : (s out : List ℕ) (t : Sheet) → sheetIn s (length out) ≡ given t → P .answer s out ≡ Done (t .header .count) (failures (verdicts t))
+  sheet-done s out t e = given-done s out (record { n = t .header .count; failed = failures (verdicts t) }) (answer-done s out t e)
+
+  -- ---- demand 2
+
+  pub second-demand : (s out : List ℕ) (n failed : ℕ) → P .answer s out ≡ Done n failed → Second P s out n failed
+  second-demand s out n failed e =
+      let q = sheet-of s (length out) (record { n = n; failed = failed }) (done-given s out n failed e) in
+      let t = q .0 in
+      let count : n ≡ t .header .count = ap (λ (w : Totals). w .n) (q .2) in
+      record {
+        number = count ∙ ap (λ (h : Header). h .count) (sym (header-is s out t (q .1)));
+        verdict-bytes = λ i l.
+            let r = record-given s out t (q .1) i (omega arith) in
+            ap (fourAt i) (left s out) ∙ verdict-at s out t (q .1) i (omega arith) (r .0) (r .1) ∙ ap entryBytes (entry-is s out t (q .1) i (r .0) (r .1));
+        verdict-of-record = λ i l.
+            let r = record-given s out t (q .1) i (omega arith) in
+            ap (λ (o : List ℕ). readEntry (fourAt i o)) (left s out) ∙ verdict-read s out t (q .1) i (omega arith) (r .0) (r .1) ∙ ap given (entry-is s out t (q .1) i (r .0) (r .1));
+        counted = ap (λ (w : Totals). w .failed) (q .2) ∙ all-failures s out t (q .1) ∙ ap (failedFrom s 0) (sym count);
+        others-as-lent = ap (drop (4 * n)) (left s out) ∙ subst (λ (m : ℕ). drop (4 * m) (outputOf s out) ≡ drop (4 * m) out) (sym count) (rest-as-lent s out t (q .1));
+        same-length = ap length (left s out) ∙ output-length s out t (q .1);
+      }
+
+  -- ---- demand 1
+
+  module _ (s out : List ℕ) where
+    room : ℕ
+    room = length out
+
+    given-fits : (w : Totals) → answerOf s (length out) ≡ given w → Accepted s (length out)
+    given-fits w e = let q = sheet-of s (length out) w e in rows.given-accepted s (length out) (q .0) (q .1) .0
+
+    fits-done : Accepted s (length out) → (n failed : ℕ) × (P .answer s out ≡ Done n failed)
+    fits-done a =
+        let q = rows.accepted-given s (length out) a in
+        (q .0 .header .count, failures (verdicts (q .0)), sheet-done s out (q .0) (q .1))
+
+    covers : Covered s (length out)
+    covers = go (answerOf s (length out)) refl
+      where
+        go : (a : Answer Totals) → answerOf s (length out) ≡ a → Covered s (length out)
+        go (given w) e = accepted (given-fits w e)
+        go (refused k p) e = turned-away k p (rows.refused-exactly s (length out) k p .0 e)
+
+    no-row : Accepted s (length out) → (k p : ℕ) → Row s (length out) k p → ⊥
+    no-row a k p r =
+        let d = fits-done a in
+        given-refused (sym (done-given s out (d .0) (d .1) (d .2)) ∙ rows.refused-exactly s (length out) k p .1 r)
+
+    otherwise : Covered s (length out) → ((k p : ℕ) → Row s (length out) k p → ⊥) → Accepted s (length out)
+    otherwise (accepted a) n = a
+    otherwise (turned-away k p r) n = absurd (n k p r)
+
+    nothing-written : (k p : ℕ) → answerOf s (length out) ≡ refused k p → outputOf s out ≡ out
+    unfolding answerOf _then_
+    nothing-written k p e = go (sheetIn s (length out)) refl e
+      where
+        totals : Sheet → Answer Totals
+        totals t = given (record { n = t .header .count; failed = failures (verdicts t) })
+
+        go : (a : Answer Sheet) → sheetIn s (length out) ≡ a → (a then totals) ≡ refused k p → outputOf s out ≡ out
+        go (given t) f g = given-refused g
+        go (refused l q) f g = refused-as-lent s out l q f
+
+    no-records : length s ≡ 12 → HeaderSound s → countOf s ≡ 0 → (P .answer s out ≡ Done 0 0) × (P .after s out ≡ out)
+    no-records l f z =
+        let a : Accepted s (length out) = record {
+          fits = record { header = f; whole = omega arith; enough = omega arith };
+          records = record { sound = λ j m. absurd (omega arith); rising = λ j m. absurd (omega arith) };
+        } in
+        let d = fits-done a in
+        let q = second-demand s out (d .0) (d .1) (d .2) in
+        let n : d .0 ≡ 0 = q .number ∙ z in
+        (d .2 ∙ ap₂ Done n (q .counted ∙ ap (failedFrom s 0) n), subst (λ (m : ℕ). drop (4 * m) (P .after s out) ≡ drop (4 * m) out) n (q .others-as-lent))
+
+    pub first-demand : First P s out
+    first-demand =
+        record {
+          covered = covers;
+          one-row = rows.one-row s (length out);
+          refused-exactly = λ k p. exactly-of (meets s out .answer) (rows.refused-exactly s (length out) k p);
+          accepted-exactly = (λ d. given-fits (record { n = d .0; failed = d .1 }) (done-given s out (d .0) (d .1) (d .2)), fits-done);
+          accepted-otherwise = (no-row, otherwise covers);
+          refusal-writes-nothing = λ k p e. left s out ∙ nothing-written k p (sym (meets s out .answer) ∙ e);
+          none-judged = no-records;
+        }
