@@ -13,12 +13,12 @@ use Rattle.sheet.specs.declared.Record.{Record}
 use Rattle.sheet.specs.declared.Refusal.{Refusal}
 use Rattle.sheet.specs.Refusals.{Answer, given, refused}
 use Rattle.sheet.specs.RefusalLaws.{given-refused, given-same}
-use Rattle.sheet.specs.Exactly.{Exactly, exactly-of}
+use Rattle.sheet.specs.Exactly.{Exactly, exactly-of, exactly-then}
 use Rattle.sheet.specs.Header.{headerAt}
 use Rattle.sheet.specs.Record.{recordFault, recordBytes}
 use Rattle.sheet.specs.RecordBack.{record-read-fine}
 use Rattle.verdict.specs.declared.Verdict.{Verdict}
-use Rattle.verdict.specs.Raising.{Later as LaterVerdict, passed as passedVerdict, above as aboveVerdict}
+use Rattle.verdict.specs.Raising.{Found, passes as meetsAll, fails as failsOne, found, Later as LaterVerdict, passed as passedVerdict, above as aboveVerdict}
 use Rattle.hull.specs.Hull.{rulesOf, verdict}
 use Rattle.hull.specs.Raising.{raised, raisedOnce, raisedTimes as raisedRecord}
 use Rattle.hull.specs.RaisingLaws.{with-number, three-raisings}
@@ -33,7 +33,7 @@ use Rattle.demands.specs.Program.{Program, Meets, Refuses, fourAt, Leave
 use Rattle.demands.specs.Raise.{theHeader, theRecord, replaced, withScantling, gaugeTop, metIn, meetsRule, raisedBy, raisedTimes}
 use Rattle.demands.specs.Demands.{Covered, accepted, turned-away, First, entryOn, failedFrom, Second, Later, passed, above, Third, Settled, passes, none-meets, ThreeRaisings, Demands}
 use Rattle.demands.specs.Rows as rows
-use Rattle.demands.specs.Scantling.{putRecord, number-in-gauge, put-sound, met-exactly, later-exactly}
+use Rattle.demands.specs.Scantling.{putRecord, rule-above, number-in-gauge, put-sound, met-exactly, later-exactly}
 use Rattle.demands.specs.Exchange as exchange
 
 -- ---- a sheet that is not refused
@@ -77,6 +77,14 @@ module _ (s out : List ℕ) (t : Sheet) (given-t : sheetIn s (length out) ≡ gi
         verdicts-count s out t given-t,
         sheet-whole s (length out) t given-t .header .fits,
       )
+
+-- a verdict with a number has a rule
+rule-of : (h : Header) (r : Record) → 1 ≤ verdict h r .required → 1 ≤ verdict h r .rule
+rule-of h r l = go (found (rulesOf h r))
+  where
+    go : Found (rulesOf h r) → 1 ≤ verdict h r .rule
+    go (meetsAll m p) = absurd (omega (arith, ap (λ (v : Verdict). v .required) p))
+    go (failsOne f) = omega (arith, rule-above h r f)
 
 -- ---- a program that meets the promise
 
@@ -123,9 +131,6 @@ module _ (P : Program) (meets : Meets P) where
   -- ---- demand 1
 
   module _ (s out : List ℕ) where
-    room : ℕ
-    room = length out
-
     given-fits : (w : Totals) → answerOf s (length out) ≡ given w → Accepted s (length out)
     given-fits w e = let q = sheet-of s (length out) w e in rows.given-accepted s (length out) (q .0) (q .1) .0
 
@@ -183,3 +188,162 @@ module _ (P : Program) (meets : Meets P) where
           refusal-writes-nothing = λ k p e. left s out ∙ nothing-written k p (sym (meets s out .answer) ∙ e);
           none-judged = no-records;
         }
+
+  -- ---- demand 3
+
+  -- a verdict and its four bytes are later than rule k alike
+  later-entry : (h : Header) (r : Record) (k : ℕ) → Exactly (Later k (entryOf h r)) (LaterVerdict k (verdict h r))
+  unfolding entryOf
+  later-entry h r k = (there, back)
+    where
+      there : Later k (entryOf h r) → LaterVerdict k (verdict h r)
+      there (passed a b) = passedVerdict (ap₂ {C = Verdict} (λ x y. record { rule = x; required = y }) a b)
+      there (above l) = aboveVerdict l
+
+      back : LaterVerdict k (verdict h r) → Later k (entryOf h r)
+      back (passedVerdict e) = passed (ap (λ (v : Verdict). v .rule) e) (ap (λ (v : Verdict). v .required) e)
+      back (aboveVerdict l) = above l
+
+  module _ (s out : List ℕ) (t : Sheet) (given-t : sheetIn s (length out) ≡ given t) (i : ℕ) (inside : i < t .header .count) where
+    abbrev Holds : List ℕ → Record → Type 0
+    Holds s' r = exchange.Holds s out t given-t i inside s' r
+
+    -- what the program does on a sheet in which only record i is another
+    module _ (s' : List ℕ) (r : Record) (holds : exchange.Holds s out t given-t i inside s' r) where
+      holds-leaves : Leaves P s' out i (entryOf (t .header) r)
+      holds-leaves = ap (λ (o : List ℕ). readEntry (fourAt i o)) (left s' out) ∙ exchange.own-verdict s out t given-t i inside s' r holds
+
+      holds-done : (failed : ℕ) × (P .answer s' out ≡ Done (t .header .count) failed)
+      holds-done = (
+        failures (verdicts (holds .sheet)),
+        sheet-done s' out (holds .sheet) (holds .taken) ∙ ap (λ (h : Header). Done (h .count) (failures (verdicts (holds .sheet)))) (holds .header),
+      )
+
+      holds-others : (j : ℕ) → j < t .header .count → (j ≡ i → ⊥) → fourAt j (P .after s' out) ≡ fourAt j (P .after s out)
+      holds-others j l n = ap (fourAt j) (left s' out) ∙ exchange.other-verdicts s out t given-t i inside s' r holds j l n ∙ ap (fourAt j) (sym (left s out))
+
+      -- with x in place of the scantling that fails
+      module _ (some : 1 ≤ verdict (t .header) r .rule) (x : ℕ) (from-one : 1 ≤ x) (to-top : x ≤ gaugeTop (verdict (t .header) r .rule)) where
+        put-holds : exchange.Holds s out t given-t i inside (withScantling i (verdict (t .header) r .rule) x s') (putRecord (verdict (t .header) r .rule) x r)
+        unfolding withScantling
+        put-holds =
+            let k = verdict (t .header) r .rule in
+            let new = putRecord k x r in
+            let z : recordFault new 0 ≡ 0 = put-sound (t .header) r some x from-one to-top (record-read-fine i (recordPart s' i) r (holds .own)) in
+            subst (λ (q : Record). exchange.Holds s out t given-t i inside (replaced i (recordBytes (putRecord k x q)) s') new) (sym (exchange.its-record s out t given-t i inside s' r holds))
+            (exchange.in-place s out t given-t i inside s' r holds new z refl)
+
+        put-meets : meetsRule (withScantling i (verdict (t .header) r .rule) x s') i (verdict (t .header) r .rule)
+            ≡ metIn (verdict (t .header) r .rule) (rulesOf (t .header) (putRecord (verdict (t .header) r .rule) x r))
+        put-meets =
+            let k = verdict (t .header) r .rule in
+            let new = withScantling i k x s' in
+            ap₂ (λ (h : Header) (q : Record). metIn k (rulesOf h q)) (exchange.its-header s out t given-t i inside new (putRecord k x r) put-holds)
+            (exchange.its-record s out t given-t i inside new (putRecord k x r) put-holds)
+
+        put-met-exactly : Exactly (meetsRule (withScantling i (verdict (t .header) r .rule) x s') i (verdict (t .header) r .rule) ≡ true)
+            ((1 ≤ verdict (t .header) r .required) × (verdict (t .header) r .required ≤ x))
+        put-met-exactly = exactly-of put-meets (met-exactly (t .header) r some x from-one to-top)
+
+      -- raised by what the program leaves for it
+      raised-holds : exchange.Holds s out t given-t i inside (raisedBy i s' (readEntry (fourAt i (P .after s' out)))) (raisedOnce (t .header) r)
+      unfolding raisedOnce entryOf
+      raised-holds = subst (λ (a : Answer Entry). Holds (raisedBy i s' a) (raisedOnce (t .header) r)) (sym holds-leaves) (go (eqb (verdict (t .header) r .required) 0) refl)
+        where
+          go : (b : Bool) → eqb (verdict (t .header) r .required) 0 ≡ b
+              → Holds (cond b s' (withScantling i (verdict (t .header) r .rule) (verdict (t .header) r .required) s')) (cond b r (raised (verdict (t .header) r) r))
+          go true e = holds
+          go false e =
+              let l : 1 ≤ verdict (t .header) r .required = omega (arith, eqb-false (verdict (t .header) r .required) 0 e) in
+              let some = rule-of (t .header) r l in
+              put-holds some (verdict (t .header) r .required) l (number-in-gauge (t .header) r some)
+
+    times-holds : (count : ℕ) (s' : List ℕ) (r : Record) → Holds s' r → Holds (raisedTimes P out count i s') (raisedRecord count (t .header) r)
+    unfolding raisedTimes raisedRecord
+    times-holds zero s' r holds = holds
+    times-holds (suc count) s' r holds = times-holds count _ (raisedOnce (t .header) r) (raised-holds s' r holds)
+
+    -- a verdict with no number is a pass, or its rule is met by no number of the gauge
+    settled : (s' : List ℕ) (r : Record) → Holds s' r → verdict (t .header) r .required ≡ 0 → Settled s' i (entryOf (t .header) r)
+    unfolding entryOf
+    settled s' r holds z = go (verdict (t .header) r .rule) refl
+      where
+        not-true : (b : Bool) → (b ≡ true → ⊥) → b ≡ false
+        not-true true n = absurd (n refl)
+        not-true false n = refl
+
+        go : (k : ℕ) → verdict (t .header) r .rule ≡ k → Settled s' i (entryOf (t .header) r)
+        go zero e = passes e z
+        go (suc k) e =
+            let some : 1 ≤ verdict (t .header) r .rule = omega arith in
+            none-meets some (λ x l m. not-true _ (λ w. omega (arith, put-met-exactly s' r holds some x l m .0 w .0)))
+
+    module _ (r : Record) (read : recordOf s i ≡ given r) where
+      at-first : exchange.Holds s out t given-t i inside s r
+      at-first = exchange.holds-at-first s out t given-t i inside r read
+
+      third-of : 1 ≤ verdict (t .header) r .rule → Third P s out (t .header .count) i (entryOf (t .header) r)
+      unfolding entryOf
+      third-of some =
+          let h = t .header in
+          let k = verdict h r .rule in
+          let verdict-with : (x : ℕ) → 1 ≤ x → x ≤ gaugeTop (verdict h r .rule) → (f : Entry) × Leaves P (withScantling i (verdict h r .rule) x s) out i f × Exactly (Later (verdict h r .rule) f) ((1 ≤ verdict h r .required) × (verdict h r .required ≤ x)) =
+          λ x l m. (
+            entryOf h (putRecord k x r),
+            holds-leaves (withScantling i k x s) (putRecord k x r) (put-holds s r at-first some x l m),
+            exactly-then (later-entry h (putRecord k x r) k) (later-exactly h r some x l m),
+          ) in
+          record {
+            in-gauge = number-in-gauge h r some;
+            least-number = λ x l m. put-met-exactly s r at-first some x l m;
+            with-accepted = λ x l m. holds-done (withScantling i k x s) (putRecord k x r) (put-holds s r at-first some x l m);
+            with-verdict = verdict-with;
+            with-others = λ x l m. holds-others (withScantling i k x s) (putRecord k x r) (put-holds s r at-first some x l m);
+            raised-verdict = λ l.
+                let w = verdict-with (verdict h r .required) l (number-in-gauge h r some) in
+                (w .0, w .1, w .2 .1 (l, omega arith));
+          }
+
+      three-of : ThreeRaisings P s out (t .header .count) i
+      three-of =
+          let after = times-holds 3 s r at-first in
+          let q = raisedRecord 3 (t .header) r in
+          record {
+            three-accepted = holds-done (raisedTimes P out 3 i s) q after;
+            three-enough = (entryOf (t .header) q, holds-leaves (raisedTimes P out 3 i s) q after, settled (raisedTimes P out 3 i s) q after (three-raisings (t .header) r));
+            three-others = holds-others (raisedTimes P out 3 i s) q after;
+          }
+
+  module _ (s out : List ℕ) (n failed i : ℕ) (e : P .answer s out ≡ Done n failed) (l : i < n) where
+    taken : (t : Sheet) × (sheetIn s (length out) ≡ given t) × (n ≡ t .header .count)
+    taken = let q = sheet-of s (length out) (record { n = n; failed = failed }) (done-given s out n failed e) in (q .0, q .1, ap (λ (w : Totals). w .n) (q .2))
+
+    inside : i < taken .0 .header .count
+    inside = omega (arith, taken .2)
+
+    its : (r : Record) × (recordOf s i ≡ given r)
+    its = record-given s out (taken .0) (taken .1) i inside
+
+    pub third-demand : (f : Entry) → Leaves P s out i f → 1 ≤ f .rule → Third P s out n i f
+    unfolding entryOf
+    third-demand f leaves some =
+        let t = taken .0 in
+        let r = its .0 in
+        let same : f ≡ entryOf (t .header) r = given-same (sym leaves ∙ holds-leaves s out t (taken .1) i inside s r (at-first s out t (taken .1) i inside r (its .1))) in
+        let rule : 1 ≤ verdict (t .header) r .rule = omega (arith, ap (λ (x : Entry). x .rule) same) in
+        subst (λ (x : Entry). Third P s out n i x) (sym same)
+        (subst (λ (m : ℕ). Third P s out m i (entryOf (t .header) r)) (sym (taken .2)) (third-of s out t (taken .1) i inside r (its .1) rule))
+
+    pub three-demand : ThreeRaisings P s out n i
+    three-demand = subst (λ (m : ℕ). ThreeRaisings P s out m i) (sym (taken .2)) (three-of s out (taken .0) (taken .1) i inside (its .0) (its .1))
+
+  -- ---- all of them
+
+  pub demands-met : Demands P
+  demands-met =
+      record {
+        first = first-demand;
+        second = second-demand;
+        third = λ s out n failed i f e l. third-demand s out n failed i e l f;
+        three = three-demand;
+      }

@@ -215,6 +215,9 @@ body-sound h kind id (isMember m) v f x l n e = member f n
 
 -- ---- a record whose verdict has a rule
 
+pub rule-above : (h : Header) (r : Record) → Failing (verdict h r) (rulesOf h r) → 1 ≤ verdict h r .rule
+rule-above h r f = omega (arith, failing-above (base (r .body)) (verdict h r) (rulesOf h r) (rules-rising h (r .kind) (r .body)) f)
+
 -- with x in place of the scantling that rule k speaks of
 abbrev pub putRecord : (k x : ℕ) → Record → Record
 putRecord k x r = raised (record { rule = k; required = x }) r
