@@ -7,3 +7,5 @@ pub mod Rows
 pub mod Scantling
 pub mod Exchange
 pub mod Proved
+pub mod Empty
+pub mod Example
