@@ -9,3 +9,4 @@ pub mod Exchange
 pub mod Proved
 pub mod Empty
 pub mod Example
+pub mod ShutOut

@@ -44,6 +44,10 @@ sheet-of : (s : List ℕ) (room : ℕ) (w : Totals) → answerOf s room ≡ give
 unfolding answerOf
 sheet-of s room w e = let a = then-given (sheetIn s room) _ w e in (a .0, a .1, sym (given-same (a .2)))
 
+-- and no row holds for it
+pub given-fits : (s : List ℕ) (room : ℕ) (w : Totals) → answerOf s room ≡ given w → Accepted s room
+given-fits s room w e = let q = sheet-of s room w e in rows.given-accepted s room (q .0) (q .1) .0
+
 module _ (s out : List ℕ) (t : Sheet) (given-t : sheetIn s (length out) ≡ given t) where
   header-is : theHeader s ≡ t .header
   header-is = rows.given-accepted s (length out) t given-t .1
@@ -131,9 +135,6 @@ module _ (P : Program) (meets : Meets P) where
   -- ---- demand 1
 
   module _ (s out : List ℕ) where
-    given-fits : (w : Totals) → answerOf s (length out) ≡ given w → Accepted s (length out)
-    given-fits w e = let q = sheet-of s (length out) w e in rows.given-accepted s (length out) (q .0) (q .1) .0
-
     fits-done : Accepted s (length out) → (n failed : ℕ) × (P .answer s out ≡ Done n failed)
     fits-done a =
         let q = rows.accepted-given s (length out) a in
@@ -143,7 +144,7 @@ module _ (P : Program) (meets : Meets P) where
     covers = go (answerOf s (length out)) refl
       where
         go : (a : Answer Totals) → answerOf s (length out) ≡ a → Covered s (length out)
-        go (given w) e = accepted (given-fits w e)
+        go (given w) e = accepted (given-fits s (length out) w e)
         go (refused k p) e = turned-away k p (rows.refused-exactly s (length out) k p .0 e)
 
     no-row : Accepted s (length out) → (k p : ℕ) → Row s (length out) k p → ⊥
@@ -183,7 +184,7 @@ module _ (P : Program) (meets : Meets P) where
           covered = covers;
           one-row = rows.one-row s (length out);
           refused-exactly = λ k p. exactly-of (meets s out .answer) (rows.refused-exactly s (length out) k p);
-          accepted-exactly = (λ d. given-fits (record { n = d .0; failed = d .1 }) (done-given s out (d .0) (d .1) (d .2)), fits-done);
+          accepted-exactly = (λ d. given-fits s (length out) (record { n = d .0; failed = d .1 }) (done-given s out (d .0) (d .1) (d .2)), fits-done);
           accepted-otherwise = (no-row, otherwise covers);
           refusal-writes-nothing = λ k p e. left s out ∙ nothing-written k p (sym (meets s out .answer) ∙ e);
           none-judged = no-records;
