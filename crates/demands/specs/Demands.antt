@@ -61,30 +61,41 @@ pub data Later (k : ℕ) (e : Entry) : Type 0 where
   passed : e .rule ≡ 0 → e .required ≡ 0 → Later k e
   above : k < e .rule → Later k e
 
+-- x is in the gauge of the scantling that the rule of a verdict speaks of
+abbrev pub InGauge : Entry → ℕ → Type 0
+InGauge e x = (1 ≤ x) × (x ≤ gaugeTop (e .rule))
+
+-- the verdict has a number, and x is not below it
+abbrev pub Reaches : Entry → ℕ → Type 0
+Reaches e x = (1 ≤ e .required) × (e .required ≤ x)
+
 -- 3. The required number is the least in the gauge that meets the rule: for record i of such a sheet, whose verdict e, as it is read at 4i, has a rule
 pub record Third (P : Program) (s out : List ℕ) (n i : ℕ) (e : Entry) : Type 0 where
   -- the number is in the gauge; 0 stands for none
-  pub in-gauge : e .required ≤ gaugeTop (e .rule)
-  -- of the sheets with x in the scantling's place, x in the gauge, those meet the rule in which x is not below the number; with no number none does
-  pub least-number : (x : ℕ) → 1 ≤ x → x ≤ gaugeTop (e .rule) → Exactly (meetsRule (withScantling i (e .rule) x s) i (e .rule) ≡ true) ((1 ≤ e .required) × (e .required ≤ x))
-  -- each of them is accepted, with n again
-  pub with-accepted : (x : ℕ) → 1 ≤ x → x ≤ gaugeTop (e .rule) → (failed : ℕ) × (P .answer (withScantling i (e .rule) x s) out ≡ Done n failed)
+  pub in-gauge : 1 ≤ e .required → InGauge e (e .required)
+  -- with x of the gauge in the scantling's place the sheet meets the rule exactly when x is not below the number; with no number, for no x
+  pub least-number : (x : ℕ) → InGauge e x → Exactly (meetsRule (withScantling i (e .rule) x s) i (e .rule) ≡ true) (Reaches e x)
+  -- that sheet is accepted, with n again
+  pub with-accepted : (x : ℕ) → InGauge e x → (failed : ℕ) × (P .answer (withScantling i (e .rule) x s) out ≡ Done n failed)
   -- what is read at 4i then is a pass or a later rule exactly when x is not below the number
-  pub with-verdict : (x : ℕ) → 1 ≤ x → x ≤ gaugeTop (e .rule) → (f : Entry) × Leaves P (withScantling i (e .rule) x s) out i f × Exactly (Later (e .rule) f) ((1 ≤ e .required) × (e .required ≤ x))
-  -- no other verdict's bytes change
-  pub with-others : (x : ℕ) → 1 ≤ x → x ≤ gaugeTop (e .rule) → (j : ℕ) → j < n → (j ≡ i → ⊥) → fourAt j (P .after (withScantling i (e .rule) x s) out) ≡ fourAt j (P .after s out)
-  -- raised to the number, the record passes or fails a later rule
+  pub with-verdict : (x : ℕ) → InGauge e x → (f : Entry) × Leaves P (withScantling i (e .rule) x s) out i f × Exactly (Later (e .rule) f) (Reaches e x)
+  -- and no other verdict's bytes change
+  pub with-others : (x : ℕ) → InGauge e x → (j : ℕ) → j < n → (j ≡ i → ⊥) → fourAt j (P .after (withScantling i (e .rule) x s) out) ≡ fourAt j (P .after s out)
+  -- so that, raised to the number, the record passes or fails a later rule
   pub raised-verdict : 1 ≤ e .required → (f : Entry) × Leaves P (withScantling i (e .rule) (e .required) s) out i f × Later (e .rule) f
 
 -- the verdict on record i is a pass, or names a rule that no number of the gauge meets
 pub data Settled (s : List ℕ) (i : ℕ) (e : Entry) : Type 0 where
   passes : e .rule ≡ 0 → e .required ≡ 0 → Settled s i e
-  none-meets : 1 ≤ e .rule → ((x : ℕ) → 1 ≤ x → x ≤ gaugeTop (e .rule) → meetsRule (withScantling i (e .rule) x s) i (e .rule) ≡ false) → Settled s i e
+  none-meets : 1 ≤ e .rule → ((x : ℕ) → InGauge e x → meetsRule (withScantling i (e .rule) x s) i (e .rule) ≡ false) → Settled s i e
 
 -- at most three raisings: of record i of such a sheet, each to the number that is read at 4i
 pub record ThreeRaisings (P : Program) (s out : List ℕ) (n i : ℕ) : Type 0 where
+  -- the sheet is accepted, with n again
   pub three-accepted : (failed : ℕ) × (P .answer (raisedTimes P out 3 i s) out ≡ Done n failed)
+  -- what is read at 4i then is a pass, or names a rule that no number of the gauge meets
   pub three-enough : (e : Entry) × Leaves P (raisedTimes P out 3 i s) out i e × Settled (raisedTimes P out 3 i s) i e
+  -- and no other verdict's bytes have changed
   pub three-others : (j : ℕ) → j < n → (j ≡ i → ⊥) → fourAt j (P .after (raisedTimes P out 3 i s) out) ≡ fourAt j (P .after s out)
 
 -- all of them

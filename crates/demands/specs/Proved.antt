@@ -31,7 +31,7 @@ use Rattle.checker.specs.CheckLaws.{then-given, Taken, none, next, sheet-whole,
 use Rattle.demands.specs.Table.{headerFields, countOf, numberOf, idOf, HeaderSound, Row, Accepted}
 use Rattle.demands.specs.Program.{Program, Meets, Refuses, fourAt, Leaves}
 use Rattle.demands.specs.Raise.{theHeader, theRecord, replaced, withScantling, gaugeTop, metIn, meetsRule, raisedBy, raisedTimes}
-use Rattle.demands.specs.Demands.{Covered, accepted, turned-away, First, entryOn, failedFrom, Second, Later, passed, above, Third, Settled, passes, none-meets, ThreeRaisings, Demands}
+use Rattle.demands.specs.Demands.{Covered, accepted, turned-away, First, entryOn, failedFrom, Second, Later, passed, above, InGauge, Reaches, Third, Settled, passes, none-meets, ThreeRaisings, Demands}
 use Rattle.demands.specs.Rows as rows
 use Rattle.demands.specs.Scantling.{putRecord, rule-above, number-in-gauge, put-sound, met-exactly, later-exactly}
 use Rattle.demands.specs.Exchange as exchange
@@ -277,7 +277,7 @@ module _ (P : Program) (meets : Meets P) where
         go zero e = passes e z
         go (suc k) e =
             let some : 1 ≤ verdict (t .header) r .rule = omega arith in
-            none-meets some (λ x l m. not-true _ (λ w. omega (arith, put-met-exactly s' r holds some x l m .0 w .0)))
+            none-meets some (λ x g. not-true _ (λ w. omega (arith, put-met-exactly s' r holds some x (g .0) (g .1) .0 w .0)))
 
     module _ (r : Record) (read : recordOf s i ≡ given r) where
       at-first : exchange.Holds s out t given-t i inside s r
@@ -288,21 +288,21 @@ module _ (P : Program) (meets : Meets P) where
       third-of some =
           let h = t .header in
           let k = verdict h r .rule in
-          let verdict-with : (x : ℕ) → 1 ≤ x → x ≤ gaugeTop (verdict h r .rule) → (f : Entry) × Leaves P (withScantling i (verdict h r .rule) x s) out i f × Exactly (Later (verdict h r .rule) f) ((1 ≤ verdict h r .required) × (verdict h r .required ≤ x)) =
-          λ x l m. (
+          let e = entryOf h r in
+          let holds : (x : ℕ) → InGauge e x → Holds (withScantling i k x s) (putRecord k x r) = λ x g. put-holds s r at-first some x (g .0) (g .1) in
+          let gauge : 1 ≤ e .required → InGauge e (e .required) = λ l. (l, number-in-gauge h r some) in
+          let after : (x : ℕ) → InGauge e x → (f : Entry) × Leaves P (withScantling i k x s) out i f × Exactly (Later k f) (Reaches e x) = λ x g. (
             entryOf h (putRecord k x r),
-            holds-leaves (withScantling i k x s) (putRecord k x r) (put-holds s r at-first some x l m),
-            exactly-then (later-entry h (putRecord k x r) k) (later-exactly h r some x l m),
+            holds-leaves (withScantling i k x s) (putRecord k x r) (holds x g),
+            exactly-then (later-entry h (putRecord k x r) k) (later-exactly h r some x (g .0) (g .1)),
           ) in
           record {
-            in-gauge = number-in-gauge h r some;
-            least-number = λ x l m. put-met-exactly s r at-first some x l m;
-            with-accepted = λ x l m. holds-done (withScantling i k x s) (putRecord k x r) (put-holds s r at-first some x l m);
-            with-verdict = verdict-with;
-            with-others = λ x l m. holds-others (withScantling i k x s) (putRecord k x r) (put-holds s r at-first some x l m);
-            raised-verdict = λ l.
-                let w = verdict-with (verdict h r .required) l (number-in-gauge h r some) in
-                (w .0, w .1, w .2 .1 (l, omega arith));
+            in-gauge = gauge;
+            least-number = λ x g. put-met-exactly s r at-first some x (g .0) (g .1);
+            with-accepted = λ x g. holds-done (withScantling i k x s) (putRecord k x r) (holds x g);
+            with-verdict = after;
+            with-others = λ x g. holds-others (withScantling i k x s) (putRecord k x r) (holds x g);
+            raised-verdict = λ l. let w = after (e .required) (gauge l) in (w .0, w .1, w .2 .1 (l, omega arith));
           }
 
       three-of : ThreeRaisings P s out (t .header .count) i
