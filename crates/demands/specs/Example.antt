@@ -19,7 +19,7 @@ use Rattle.checker.specs.Check.{_then_, demand, headerFor, partsFrom, soundAfte
 use Rattle.demands.specs.Program.{fourAt}
 use Rattle.demands.specs.Raise.{replaced, withScantling, raisedTimes}
 use Rattle.demands.specs.Demands.{entryOn, failedFrom}
-use Rattle.demands.specs.Empty.{checker}
+use Rattle.demands.specs.EmptyPrograms.{checker}
 
 -- V's header, without its last byte, which has the count
 abbrev pub vessel : List ℕ

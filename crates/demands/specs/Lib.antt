@@ -8,5 +8,7 @@ pub mod Scantling
 pub mod Exchange
 pub mod Proved
 pub mod Empty
+pub mod EmptyPrograms
 pub mod Example
 pub mod ShutOut
+pub mod Only

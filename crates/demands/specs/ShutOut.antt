@@ -33,7 +33,8 @@ use Rattle.checker.specs.CheckLaws.{Taken, none, next, sheet-whole, verdicts-co
 use Rattle.demands.specs.Table.{Row, sheet-short, version, header-field, sheet-length, output-short, kind, field, order, Accepted}
 use Rattle.demands.specs.Program.{Program, Meets, fourAt, Leaves}
 use Rattle.demands.specs.Demands.{entryOn, failedFrom, Second, Demands}
-use Rattle.demands.specs.Empty.{ShutOut, OfVerdicts, LeavesAsLent, RefusesAll, PassesAll, NamesOne, PassesRest, MakesUpCount, refusalOf, answerBy, afterBy, checker, changedFrom, changing, passInstead, numberInstead, passAfterFirst, idle, refusing, passing, naming, firstOnly, counting}
+use Rattle.demands.specs.Empty.{ShutOut, OfVerdicts, LeavesAsLent, RefusesAll, PassesAll, NamesOne, PassesRest, MakesUpCount}
+use Rattle.demands.specs.EmptyPrograms.{refusalOf, answerBy, afterBy, checker, changedFrom, changing, passInstead, numberInstead, passAfterFirst, idle, refusing, passing, naming, firstOnly, counting}
 use Rattle.demands.specs.Rows.{refused-exactly}
 use Rattle.demands.specs.Proved.{given-fits, demands-met}
 use Rattle.demands.specs.Example.{example, mended, lent, example-answer, mended-answer}
