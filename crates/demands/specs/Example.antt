@@ -47,6 +47,10 @@ mended =
 abbrev pub light : List ℕ
 light = vessel ++ (8 ∷ 80 ∷ 48 ∷ 0 ∷ 31 ∷ 68 ∷ 176 ∷ 0 ∷ 114 ∷ 100 ∷ 180 ∷ 100 ∷ 0 ∷ 1 ∷ 0 ∷ 7 ∷ 232 ∷ [])
 
+-- case 10 alone, as id 12 at T 420, W 560, A 168, with σ1 214, where no modulus will do
+abbrev pub stressed : List ℕ
+stressed = vessel ++ (8 ∷ 80 ∷ 48 ∷ 0 ∷ 31 ∷ 68 ∷ 176 ∷ 105 ∷ 50 ∷ 100 ∷ 181 ∷ 172 ∷ 2 ∷ 48 ∷ 2 ∷ 163 ∷ 232 ∷ [])
+
 -- no records
 abbrev pub bare : List ℕ
 bare = vessel ++ (0 ∷ [])
@@ -69,30 +73,27 @@ pub mended-answer : answerOf mended 9 ≡ given (record { n = 2; failed = 0 })
 unfolding answerOf sheetIn headerFor recordsIn partsFrom soundAfter _then_ demand readHeader headerIn readRecord recordIn verdicts entryOf failures firstFrom leastIn ceilOf sea bottomLoad innerLoad deepLoad lineLoad K2 rule4 rule5 rule6 memberLine
 mended-answer = refl
 
--- the example with one byte changed, or with one too few or too many, for each row of the table: the version 2; the wave height 61; the second record's
--- kind 9, its K 1001, its id 7
-abbrev pub turnedAway : List (Answer Totals)
-turnedAway =
-    answerOf (take 11 example) 9
-    ∷ answerOf (set example 0 39) 9
-    ∷ answerOf (set example 4 208) 9
-    ∷ answerOf (example ++ (0 ∷ [])) 9
-    ∷ answerOf example 7
-    ∷ answerOf (set example 28 144) 9
-    ∷ answerOf (set example 43 233) 9
-    ∷ answerOf (set example 29 28) 9
-    ∷ []
-
-pub row-by-row : turnedAway ≡ refused 1 0 ∷ refused 2 0 ∷ refused 3 4 ∷ refused 4 0 ∷ refused 5 0 ∷ refused 6 1 ∷ refused 7 45 ∷ refused 8 1 ∷ []
+-- the example with one byte too few, one byte changed, one too many, or too short an output, for each row of the table: the version is 2, the wave height 61, the
+-- second record's kind 9, its K 1001, its id 7
+pub row-by-row : (answerOf (take 11 example) 9 ≡ refused 1 0)
+    × (answerOf (set example 0 39) 9 ≡ refused 2 0)
+    × (answerOf (set example 4 208) 9 ≡ refused 3 4)
+    × (answerOf (example ++ (0 ∷ [])) 9 ≡ refused 4 0)
+    × (answerOf example 7 ≡ refused 5 0)
+    × (answerOf (set example 28 144) 9 ≡ refused 6 1)
+    × (answerOf (set example 43 233) 9 ≡ refused 7 45)
+    × (answerOf (set example 29 28) 9 ≡ refused 8 1)
 unfolding answerOf sheetIn headerFor recordsIn partsFrom soundAfter _then_ demand readHeader headerIn readRecord recordIn
-row-by-row = refl
+row-by-row = (refl, refl, refl, refl, refl, refl, refl, refl)
 
 -- what is read for the light record after so many raisings
 abbrev pub lightAfter : ℕ → Answer Entry
 lightAfter count = readEntry (fourAt 0 (checker .after (raisedTimes checker lent count 0 light) lent))
 
 -- two raisings are not enough: 4 420, then 5 567, then 6 168, and a pass only after the third
-pub two-not-enough : map lightAfter (0 ∷ 1 ∷ 2 ∷ 3 ∷ []) ≡ map given
-    (record { id = 12; rule = 4; required = 420 } ∷ record { id = 12; rule = 5; required = 567 } ∷ record { id = 12; rule = 6; required = 168 } ∷ record { id = 12; rule = 0; required = 0 } ∷ [])
+pub two-not-enough : (lightAfter 0 ≡ given (record { id = 12; rule = 4; required = 420 }))
+    × (lightAfter 1 ≡ given (record { id = 12; rule = 5; required = 567 }))
+    × (lightAfter 2 ≡ given (record { id = 12; rule = 6; required = 168 }))
+    × (lightAfter 3 ≡ given (record { id = 12; rule = 0; required = 0 }))
 unfolding raisedTimes withScantling replaced readEntry entryIn sheetIn headerFor recordsIn partsFrom soundAfter _then_ demand readHeader headerIn readRecord recordIn verdicts entryOf bytesOf firstFrom leastIn ceilOf sea bottomLoad innerLoad deepLoad lineLoad K2 rule4 rule5 rule6 memberLine
-two-not-enough = refl
+two-not-enough = (refl, refl, refl, refl)

@@ -12,3 +12,4 @@ pub mod EmptyPrograms
 pub mod Example
 pub mod ShutOut
 pub mod Only
+pub mod Cases
