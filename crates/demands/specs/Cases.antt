@@ -1,28 +1,26 @@
 -- Real sheets and programs of which the premises of the demands hold, and what the demands say of them.
 -- Assumes nothing.
-use Prim.Native.Nat.{ℕ, zero, suc, _*_, _≤_, _<_}
-use mathlib.Core.Path.{_≡_, refl, sym, ap, _∙_}
-use mathlib.Core.Bool.{true, false}
+use Prim.Native.Nat.{ℕ, zero, suc}
+use mathlib.Core.Path.{_≡_, refl, ap, _∙_}
+use mathlib.Core.Bool.{true}
 use mathlib.Core.List.{List, [], _∷_, _++_}
 use native.Mathlib.Omega.{arith}
-use lib.ListN.{length, take, drop, set}
+use lib.ListN.{take, set}
 use lib.Dec.{lit≤, lit<}
 use Rattle.gauge.specs.Ceil.{ceilOf}
 use Rattle.gauge.specs.Least.{firstFrom, leastIn}
 use Rattle.loads.specs.Loads.{sea, bottomLoad, innerLoad, deepLoad, lineLoad}
-use Rattle.sheet.specs.Refusals.{given}
 use Rattle.sheet.specs.Header.{headerIn, readHeader}
 use Rattle.sheet.specs.Record.{recordIn, readRecord}
 use Rattle.plating.specs.Rules.{K2}
 use Rattle.framing.specs.Rules.{rule4, rule5, rule6, memberLine}
-use Rattle.checker.specs.declared.Entry.{Entry}
 use Rattle.checker.specs.declared.Checked.the-variants.{Done}
 use Rattle.checker.specs.Entry.{entryBytes, entryIn, readEntry}
 use Rattle.checker.specs.Check.{_then_, demand, headerFor, partsFrom, soundAfter, recordsIn, sheetIn, entryOf, verdicts, bytesOf, failures}
 use Rattle.demands.specs.Table.{Row, HeaderSound}
 use Rattle.demands.specs.Program.{Program, fourAt, Leaves}
-use Rattle.demands.specs.Raise.{raisedBy, raisedTimes, withScantling, meetsRule}
-use Rattle.demands.specs.Demands.{Third, InGauge, Demands}
+use Rattle.demands.specs.Raise.{raisedBy, raisedTimes, withScantling, InGauge, meetsRule}
+use Rattle.demands.specs.Demands.{Third, Demands}
 use Rattle.demands.specs.EmptyPrograms.{checker, passing, naming, firstOnly, counting}
 use Rattle.demands.specs.Rows.{refused-exactly}
 use Rattle.demands.specs.ShutOut.{checker-demands}
@@ -66,7 +64,7 @@ checker-numbers = (refl, refl, refl, refl)
 pub number-example : Third checker example lent 2 0 (record { id = 7; rule = 3; required = 617 })
 number-example = checker-demands .third example lent 2 2 0 _ (checker-numbers .0) (lit< tt) (checker-numbers .1) (lit≤ tt)
 
-pub no-number-example : (x : ℕ) → InGauge (record { id = 12; rule = 5; required = 0 }) x → meetsRule (withScantling 0 5 x stressed) 0 5 ≡ true → ⊥
+pub no-number-example : (x : ℕ) → InGauge 5 x → meetsRule (withScantling 0 5 x stressed) 0 5 ≡ true → ⊥
 no-number-example x g e =
     let w = checker-demands .third stressed lent 1 1 0 (record { id = 12; rule = 5; required = 0 }) (checker-numbers .2) (lit< tt) (checker-numbers .3) (lit≤ tt) .least-number x g .0 e in
     omega (arith, w .0)

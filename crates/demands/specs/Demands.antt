@@ -7,12 +7,13 @@ use lib.ListN.{length, drop}
 use lib.Dec.{eqb}
 use Rattle.sheet.specs.Exactly.{Exactly}
 use Rattle.hull.specs.Hull.{verdict}
+use Rattle.hull.specs.Raising.{raised}
 use Rattle.checker.specs.declared.Entry.{Entry}
 use Rattle.checker.specs.declared.Checked.the-variants.{Done}
 use Rattle.checker.specs.Entry.{entryBytes}
 use Rattle.demands.specs.Table.{countOf, idOf, HeaderSound, Row, Accepted}
 use Rattle.demands.specs.Program.{Program, Refuses, fourAt, Leaves}
-use Rattle.demands.specs.Raise.{theHeader, theRecord, withScantling, gaugeTop, meetsRule, raisedTimes}
+use Rattle.demands.specs.Raise.{theHeader, theRecord, withScantling, InGauge, Reaches, meetsRule, raisedTimes}
 
 -- a sheet is accepted, or turned away by a row of the table
 pub data Covered (s : List ℕ) (room : ℕ) : Type 0 where
@@ -61,33 +62,27 @@ pub data Later (k : ℕ) (e : Entry) : Type 0 where
   passed : e .rule ≡ 0 → e .required ≡ 0 → Later k e
   above : k < e .rule → Later k e
 
--- x is in the gauge of the scantling that the rule of a verdict speaks of
-abbrev pub InGauge : Entry → ℕ → Type 0
-InGauge e x = (1 ≤ x) × (x ≤ gaugeTop (e .rule))
-
--- the verdict has a number, and x is not below it
-abbrev pub Reaches : Entry → ℕ → Type 0
-Reaches e x = (1 ≤ e .required) × (e .required ≤ x)
-
 -- 3. The required number is the least in the gauge that meets the rule: for record i of such a sheet, whose verdict e, as it is read at 4i, has a rule
 pub record Third (P : Program) (s out : List ℕ) (n i : ℕ) (e : Entry) : Type 0 where
   -- the number is in the gauge; 0 stands for none
-  pub in-gauge : 1 ≤ e .required → InGauge e (e .required)
+  pub in-gauge : 1 ≤ e .required → InGauge (e .rule) (e .required)
   -- with x of the gauge in the scantling's place the sheet meets the rule exactly when x is not below the number; with no number, for no x
-  pub least-number : (x : ℕ) → InGauge e x → Exactly (meetsRule (withScantling i (e .rule) x s) i (e .rule) ≡ true) (Reaches e x)
-  -- that sheet is accepted, with n again
-  pub with-accepted : (x : ℕ) → InGauge e x → (failed : ℕ) × (P .answer (withScantling i (e .rule) x s) out ≡ Done n failed)
+  pub least-number : (x : ℕ) → InGauge (e .rule) x → Exactly (meetsRule (withScantling i (e .rule) x s) i (e .rule) ≡ true) (Reaches (e .required) x)
+  -- record i of that sheet is the record as it was with x in that place
+  pub with-record : (x : ℕ) → InGauge (e .rule) x → theRecord (withScantling i (e .rule) x s) i ≡ raised (record { rule = e .rule; required = x }) (theRecord s i)
+  -- the sheet is accepted, with n again
+  pub with-accepted : (x : ℕ) → InGauge (e .rule) x → (failed : ℕ) × (P .answer (withScantling i (e .rule) x s) out ≡ Done n failed)
   -- what is read at 4i then is a pass or a later rule exactly when x is not below the number
-  pub with-verdict : (x : ℕ) → InGauge e x → (f : Entry) × Leaves P (withScantling i (e .rule) x s) out i f × Exactly (Later (e .rule) f) (Reaches e x)
+  pub with-verdict : (x : ℕ) → InGauge (e .rule) x → (f : Entry) × Leaves P (withScantling i (e .rule) x s) out i f × Exactly (Later (e .rule) f) (Reaches (e .required) x)
   -- and no other verdict's bytes change
-  pub with-others : (x : ℕ) → InGauge e x → (j : ℕ) → j < n → (j ≡ i → ⊥) → fourAt j (P .after (withScantling i (e .rule) x s) out) ≡ fourAt j (P .after s out)
+  pub with-others : (x : ℕ) → InGauge (e .rule) x → (j : ℕ) → j < n → (j ≡ i → ⊥) → fourAt j (P .after (withScantling i (e .rule) x s) out) ≡ fourAt j (P .after s out)
   -- so that, raised to the number, the record passes or fails a later rule
   pub raised-verdict : 1 ≤ e .required → (f : Entry) × Leaves P (withScantling i (e .rule) (e .required) s) out i f × Later (e .rule) f
 
 -- the verdict on record i is a pass, or names a rule that no number of the gauge meets
 pub data Settled (s : List ℕ) (i : ℕ) (e : Entry) : Type 0 where
   passes : e .rule ≡ 0 → e .required ≡ 0 → Settled s i e
-  none-meets : 1 ≤ e .rule → ((x : ℕ) → InGauge e x → meetsRule (withScantling i (e .rule) x s) i (e .rule) ≡ false) → Settled s i e
+  none-meets : 1 ≤ e .rule → ((x : ℕ) → InGauge (e .rule) x → meetsRule (withScantling i (e .rule) x s) i (e .rule) ≡ false) → Settled s i e
 
 -- at most three raisings: of record i of such a sheet, each to the number that is read at 4i
 pub record ThreeRaisings (P : Program) (s out : List ℕ) (n i : ℕ) : Type 0 where

@@ -3,7 +3,7 @@
 -- Assumes nothing.
 use Prim.Native.Nat.{ℕ}
 use mathlib.Core.Path.{_≡_, refl}
-use mathlib.Core.List.{List, [], _∷_, _++_, map}
+use mathlib.Core.List.{List, [], _∷_, _++_}
 use lib.ListN.{take, set}
 use Rattle.gauge.specs.Ceil.{ceilOf}
 use Rattle.gauge.specs.Least.{firstFrom, leastIn}
@@ -15,10 +15,9 @@ use Rattle.plating.specs.Rules.{K2}
 use Rattle.framing.specs.Rules.{rule4, rule5, rule6, memberLine}
 use Rattle.checker.specs.declared.Entry.{Entry}
 use Rattle.checker.specs.Entry.{entryBytes, entryIn, readEntry}
-use Rattle.checker.specs.Check.{_then_, demand, headerFor, partsFrom, soundAfter, recordsIn, sheetIn, entryOf, verdicts, bytesOf, failures, Totals, answerOf, outputOf}
+use Rattle.checker.specs.Check.{_then_, demand, headerFor, partsFrom, soundAfter, recordsIn, sheetIn, entryOf, verdicts, bytesOf, failures, answerOf, outputOf}
 use Rattle.demands.specs.Program.{fourAt}
 use Rattle.demands.specs.Raise.{replaced, withScantling, raisedTimes}
-use Rattle.demands.specs.Demands.{entryOn, failedFrom}
 use Rattle.demands.specs.EmptyPrograms.{checker}
 
 -- V's header, without its last byte, which has the count

@@ -1,15 +1,18 @@
+-- what is promised
 pub mod Table
 pub mod Program
 pub mod Raise
 pub mod Demands
-pub mod Replace
-pub mod Rows
-pub mod Scantling
-pub mod Exchange
-pub mod Proved
 pub mod Empty
 pub mod EmptyPrograms
-pub mod Example
+-- how it is proved
+pub mod Rows
+pub mod Replace
+pub mod Exchange
+pub mod Scantling
+pub mod Proved
 pub mod ShutOut
 pub mod Only
+-- sheets of bytes, computed
+pub mod Example
 pub mod Cases

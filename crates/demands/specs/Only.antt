@@ -2,10 +2,10 @@
 -- `check`.
 -- Assumes nothing.
 use Prim.Native.Nat.{ℕ, zero, suc, _+_, _*_, _<_}
-use mathlib.Core.Path.{_≡_, refl, sym, ap, ap₂, _∙_}
+use mathlib.Core.Path.{_≡_, sym, ap, ap₂, _∙_}
 use mathlib.Core.List.{List, _++_}
 use native.Mathlib.Omega.{arith}
-use lib.ListN.{length, take, drop, take-append-drop}
+use lib.ListN.{length, drop, take-append-drop}
 use lib.Seq.{drop-drop}
 use Rattle.sheet.specs.Refusals.{refused}
 use Rattle.sheet.specs.RefusalLaws.{refusal-only, given-refused, refused-number, refused-place}
@@ -13,7 +13,6 @@ use Rattle.checker.specs.declared.Checked.{Checked}
 use Rattle.checker.specs.declared.Checked.the-variants.{Done, Refused as notDone}
 use Rattle.checker.specs.Check.{toldChecked}
 use Rattle.demands.specs.Program.{Program, Meets, fourAt}
-use Rattle.demands.specs.Raise.{raisedBy, raisedTimes}
 use Rattle.demands.specs.Demands.{Covered, accepted, turned-away, failedFrom, Demands}
 use Rattle.demands.specs.EmptyPrograms.{checker}
 use Rattle.demands.specs.ShutOut.{checker-meets, checker-demands}

@@ -7,31 +7,29 @@ use mathlib.Core.List.{List, [], _∷_, map}
 use native.Mathlib.Omega.{arith}
 use lib.ListN.{length, drop, length-append, length-drop}
 use lib.Dec.{eqb}
-use borrow.Author.Tests.{eqb-true, eqb-false}
+use borrow.Author.Tests.{eqb-false}
 use Rattle.sheet.specs.declared.Header.{Header}
 use Rattle.sheet.specs.declared.Record.{Record}
-use Rattle.sheet.specs.declared.Refusal.{Refusal}
 use Rattle.sheet.specs.Refusals.{Answer, given, refused}
 use Rattle.sheet.specs.RefusalLaws.{given-refused, given-same}
 use Rattle.sheet.specs.Exactly.{Exactly, exactly-of, exactly-then}
-use Rattle.sheet.specs.Header.{headerAt}
 use Rattle.sheet.specs.Record.{recordFault, recordBytes}
 use Rattle.sheet.specs.RecordBack.{record-read-fine}
 use Rattle.verdict.specs.declared.Verdict.{Verdict}
 use Rattle.verdict.specs.Raising.{Found, passes as meetsAll, fails as failsOne, found, Later as LaterVerdict, passed as passedVerdict, above as aboveVerdict}
 use Rattle.hull.specs.Hull.{rulesOf, verdict}
 use Rattle.hull.specs.Raising.{raised, raisedOnce, raisedTimes as raisedRecord}
-use Rattle.hull.specs.RaisingLaws.{with-number, three-raisings}
+use Rattle.hull.specs.RaisingLaws.{three-raisings}
 use Rattle.checker.specs.declared.Entry.{Entry}
 use Rattle.checker.specs.declared.Checked.{Checked}
 use Rattle.checker.specs.declared.Checked.the-variants.{Done, Refused as notDone}
 use Rattle.checker.specs.Entry.{entryBytes, readEntry}
 use Rattle.checker.specs.Check.{_then_, recordPart, recordOf, Sheet, sheetIn, entryOf, verdicts, bytesOf, failures, Totals, toldChecked, answerOf, outputOf}
 use Rattle.checker.specs.CheckLaws.{then-given, Taken, none, next, sheet-whole, record-given, verdict-at, verdict-read, verdicts-count, rest-as-lent, answer-done, output-done, bytes-length, refused-as-lent}
-use Rattle.demands.specs.Table.{headerFields, countOf, numberOf, idOf, HeaderSound, Row, Accepted}
-use Rattle.demands.specs.Program.{Program, Meets, Refuses, fourAt, Leaves}
-use Rattle.demands.specs.Raise.{theHeader, theRecord, replaced, withScantling, gaugeTop, metIn, meetsRule, raisedBy, raisedTimes}
-use Rattle.demands.specs.Demands.{Covered, accepted, turned-away, First, entryOn, failedFrom, Second, Later, passed, above, InGauge, Reaches, Third, Settled, passes, none-meets, ThreeRaisings, Demands}
+use Rattle.demands.specs.Table.{countOf, HeaderSound, Row, Accepted}
+use Rattle.demands.specs.Program.{Program, Meets, fourAt, Leaves}
+use Rattle.demands.specs.Raise.{theHeader, theRecord, replaced, withScantling, InGauge, Reaches, metIn, meetsRule, raisedBy, raisedTimes}
+use Rattle.demands.specs.Demands.{Covered, accepted, turned-away, First, entryOn, failedFrom, Second, Later, passed, above, Third, Settled, passes, none-meets, ThreeRaisings, Demands}
 use Rattle.demands.specs.Rows as rows
 use Rattle.demands.specs.Scantling.{putRecord, rule-above, number-in-gauge, put-sound, met-exactly, later-exactly}
 use Rattle.demands.specs.Exchange as exchange
@@ -167,16 +165,18 @@ module _ (P : Program) (meets : Meets P) where
         go (given t) f g = given-refused g
         go (refused l q) f g = refused-as-lent s out l q f
 
-    no-records : length s ≡ 12 → HeaderSound s → countOf s ≡ 0 → (P .answer s out ≡ Done 0 0) × (P .after s out ≡ out)
+    none-judged : (n failed : ℕ) → P .answer s out ≡ Done n failed → countOf s ≡ 0 → (P .answer s out ≡ Done 0 0) × (P .after s out ≡ out)
+    none-judged n failed e z =
+        let q = second-demand s out n failed e in
+        let m : n ≡ 0 = q .number ∙ z in
+        (e ∙ ap₂ Done m (q .counted ∙ ap (failedFrom s 0) m), subst (λ (k : ℕ). drop (4 * k) (P .after s out) ≡ drop (4 * k) out) m (q .others-as-lent))
+
+    no-records : length s ≡ 12 → HeaderSound s → countOf s ≡ 0 → Accepted s (length out)
     no-records l f z =
-        let a : Accepted s (length out) = record {
+        record {
           fits = record { header = f; whole = omega arith; enough = omega arith };
           records = record { sound = λ j m. absurd (omega arith); rising = λ j m. absurd (omega arith) };
-        } in
-        let d = fits-done a in
-        let q = second-demand s out (d .0) (d .1) (d .2) in
-        let n : d .0 ≡ 0 = q .number ∙ z in
-        (d .2 ∙ ap₂ Done n (q .counted ∙ ap (failedFrom s 0) n), subst (λ (m : ℕ). drop (4 * m) (P .after s out) ≡ drop (4 * m) out) n (q .others-as-lent))
+        }
 
     pub first-demand : First P s out
     first-demand =
@@ -187,7 +187,7 @@ module _ (P : Program) (meets : Meets P) where
           accepted-exactly = (λ d. given-fits s (length out) (record { n = d .0; failed = d .1 }) (done-given s out (d .0) (d .1) (d .2)), fits-done);
           accepted-otherwise = (no-row, otherwise covers);
           refusal-writes-nothing = λ k p e. left s out ∙ nothing-written k p (sym (meets s out .answer) ∙ e);
-          none-judged = no-records;
+          none-judged = λ l f z. let d = fits-done (no-records l f z) in none-judged (d .0) (d .1) (d .2) z;
         }
 
   -- ---- demand 3
@@ -224,13 +224,13 @@ module _ (P : Program) (meets : Meets P) where
       holds-others j l n = ap (fourAt j) (left s' out) ∙ exchange.other-verdicts s out t given-t i inside s' r holds j l n ∙ ap (fourAt j) (sym (left s out))
 
       -- with x in place of the scantling that fails
-      module _ (some : 1 ≤ verdict (t .header) r .rule) (x : ℕ) (from-one : 1 ≤ x) (to-top : x ≤ gaugeTop (verdict (t .header) r .rule)) where
+      module _ (some : 1 ≤ verdict (t .header) r .rule) (x : ℕ) (gauge : InGauge (verdict (t .header) r .rule) x) where
         put-holds : exchange.Holds s out t given-t i inside (withScantling i (verdict (t .header) r .rule) x s') (putRecord (verdict (t .header) r .rule) x r)
         unfolding withScantling
         put-holds =
             let k = verdict (t .header) r .rule in
             let new = putRecord k x r in
-            let z : recordFault new 0 ≡ 0 = put-sound (t .header) r some x from-one to-top (record-read-fine i (recordPart s' i) r (holds .own)) in
+            let z : recordFault new 0 ≡ 0 = put-sound (t .header) r some x gauge (record-read-fine i (recordPart s' i) r (holds .own)) in
             subst (λ (q : Record). exchange.Holds s out t given-t i inside (replaced i (recordBytes (putRecord k x q)) s') new) (sym (exchange.its-record s out t given-t i inside s' r holds))
             (exchange.in-place s out t given-t i inside s' r holds new z refl)
 
@@ -243,8 +243,8 @@ module _ (P : Program) (meets : Meets P) where
             (exchange.its-record s out t given-t i inside new (putRecord k x r) put-holds)
 
         put-met-exactly : Exactly (meetsRule (withScantling i (verdict (t .header) r .rule) x s') i (verdict (t .header) r .rule) ≡ true)
-            ((1 ≤ verdict (t .header) r .required) × (verdict (t .header) r .required ≤ x))
-        put-met-exactly = exactly-of put-meets (met-exactly (t .header) r some x from-one to-top)
+            (Reaches (verdict (t .header) r .required) x)
+        put-met-exactly = exactly-of put-meets (met-exactly (t .header) r some x gauge)
 
       -- raised by what the program leaves for it
       raised-holds : exchange.Holds s out t given-t i inside (raisedBy i s' (readEntry (fourAt i (P .after s' out)))) (raisedOnce (t .header) r)
@@ -257,7 +257,7 @@ module _ (P : Program) (meets : Meets P) where
           go false e =
               let l : 1 ≤ verdict (t .header) r .required = omega (arith, eqb-false (verdict (t .header) r .required) 0 e) in
               let some = rule-of (t .header) r l in
-              put-holds some (verdict (t .header) r .required) l (number-in-gauge (t .header) r some)
+              put-holds some (verdict (t .header) r .required) (l, number-in-gauge (t .header) r some)
 
     times-holds : (count : ℕ) (s' : List ℕ) (r : Record) → Holds s' r → Holds (raisedTimes P out count i s') (raisedRecord count (t .header) r)
     unfolding raisedTimes raisedRecord
@@ -277,7 +277,7 @@ module _ (P : Program) (meets : Meets P) where
         go zero e = passes e z
         go (suc k) e =
             let some : 1 ≤ verdict (t .header) r .rule = omega arith in
-            none-meets some (λ x g. not-true _ (λ w. omega (arith, put-met-exactly s' r holds some x (g .0) (g .1) .0 w .0)))
+            none-meets some (λ x g. not-true _ (λ w. omega (arith, put-met-exactly s' r holds some x g .0 w .0)))
 
     module _ (r : Record) (read : recordOf s i ≡ given r) where
       at-first : exchange.Holds s out t given-t i inside s r
@@ -289,16 +289,19 @@ module _ (P : Program) (meets : Meets P) where
           let h = t .header in
           let k = verdict h r .rule in
           let e = entryOf h r in
-          let holds : (x : ℕ) → InGauge e x → Holds (withScantling i k x s) (putRecord k x r) = λ x g. put-holds s r at-first some x (g .0) (g .1) in
-          let gauge : 1 ≤ e .required → InGauge e (e .required) = λ l. (l, number-in-gauge h r some) in
-          let after : (x : ℕ) → InGauge e x → (f : Entry) × Leaves P (withScantling i k x s) out i f × Exactly (Later k f) (Reaches e x) = λ x g. (
+          let holds : (x : ℕ) → InGauge (e .rule) x → Holds (withScantling i k x s) (putRecord k x r) = λ x g. put-holds s r at-first some x g in
+          let gauge : 1 ≤ e .required → InGauge (e .rule) (e .required) = λ l. (l, number-in-gauge h r some) in
+          let after : (x : ℕ) → InGauge (e .rule) x → (f : Entry) × Leaves P (withScantling i k x s) out i f × Exactly (Later k f) (Reaches (e .required) x) = λ x g. (
             entryOf h (putRecord k x r),
             holds-leaves (withScantling i k x s) (putRecord k x r) (holds x g),
-            exactly-then (later-entry h (putRecord k x r) k) (later-exactly h r some x (g .0) (g .1)),
+            exactly-then (later-entry h (putRecord k x r) k) (later-exactly h r some x g),
           ) in
           record {
             in-gauge = gauge;
-            least-number = λ x g. put-met-exactly s r at-first some x (g .0) (g .1);
+            least-number = λ x g. put-met-exactly s r at-first some x g;
+            with-record = λ x g.
+                exchange.its-record s out t given-t i inside (withScantling i k x s) (putRecord k x r) (holds x g)
+                ∙ ap (putRecord k x) (sym (exchange.its-record s out t given-t i inside s r at-first));
             with-accepted = λ x g. holds-done (withScantling i k x s) (putRecord k x r) (holds x g);
             with-verdict = after;
             with-others = λ x g. holds-others (withScantling i k x s) (putRecord k x r) (holds x g);

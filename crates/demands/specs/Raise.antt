@@ -1,5 +1,5 @@
 -- Another number in place of a scantling, on a sheet of bytes; and raising a scantling to the number that a program names for it.
-use Prim.Native.Nat.{ℕ, zero, suc, _+_, _*_}
+use Prim.Native.Nat.{ℕ, zero, suc, _+_, _*_, _≤_}
 use mathlib.Core.Bool.{Bool, false, cond}
 use mathlib.Core.List.{List, [], _∷_, _++_}
 use lib.ListN.{take, drop}
@@ -42,6 +42,14 @@ withScantling i k x s = replaced i (recordBytes (raised (record { rule = k; requ
 -- the highest number of that scantling's gauge, which begins at 1
 abbrev pub gaugeTop : ℕ → ℕ
 gaugeTop k = cond (eqb k 5) (modulus .high) (cond (eqb k 6) (shearArea .high) (thickness .high))
+
+-- x is in the gauge of the scantling that rule k speaks of
+abbrev pub InGauge : (k x : ℕ) → Type 0
+InGauge k x = (1 ≤ x) × (x ≤ gaugeTop k)
+
+-- there is a number q, 0 being none, and x is not below it
+abbrev pub Reaches : (q x : ℕ) → Type 0
+Reaches q x = (1 ≤ q) × (q ≤ x)
 
 -- whether the rule of this number is met, among these
 abbrev pub metIn : ℕ → List Rule → Bool

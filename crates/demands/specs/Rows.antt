@@ -6,7 +6,7 @@ use mathlib.Core.Path.{_≡_, refl, sym, ap, ap₂, subst, _∙_}
 use mathlib.Core.Bool.{Bool, true, false, cond}
 use mathlib.Core.List.{List, [], _∷_}
 use native.Mathlib.Omega.{arith}
-use native.Mathlib.Decide.{ℕ-discrete, decLt}
+use native.Mathlib.Decide.{ℕ-discrete}
 use native.Mathlib.Nat.{zero-add}
 use native.Mathlib.Numerals.{add-one}
 use lib.ListN.{length, getD, take, drop, length-drop}
@@ -15,17 +15,17 @@ use lib.Dec.{ltb, leb, eqb}
 use borrow.Author.Tests.{lt-ltb, le-ltb, lt-leb, le-leb, leb-false, ltb-false, eq-eqb, ne-eqb, eqb-true, eqb-false}
 use Rattle.quantity.specs.Range.{within, from}
 use Rattle.layout.specs.Layout.{pack, unpack, bytes}
-use Rattle.layout.specs.Line.{Line, Allowed}
+use Rattle.layout.specs.Line.{Allowed}
 use Rattle.layout.specs.LineLaws.{low-high}
 use Rattle.sheet.specs.declared.Header.{Header}
 use Rattle.sheet.specs.declared.Record.{Record}
-use Rattle.sheet.specs.Lines.{headerLines, plateWidths, memberWidths}
+use Rattle.sheet.specs.Lines.{plateWidths, memberWidths}
 use Rattle.sheet.specs.Refusals.{Answer, given, refused}
-use Rattle.sheet.specs.RefusalLaws.{given-refused, given-same, refused-number, refused-place}
+use Rattle.sheet.specs.RefusalLaws.{given-refused, refused-number, refused-place}
 use Rattle.sheet.specs.Exactly.{Exactly, LaterFault}
 use Rattle.sheet.specs.Header.{headerAt, readHeader}
 use Rattle.sheet.specs.HeaderExactly.{header-read-1, header-read-2, header-read-3, header-read-given, header-read-others}
-use Rattle.sheet.specs.Record.{plateRecord, memberRecord, plateLinesOf, memberLinesOf, plateIn, readRecord}
+use Rattle.sheet.specs.Record.{plateRecord, memberRecord, plateLinesOf, memberLinesOf, readRecord}
 use Rattle.sheet.specs.RecordLaws.{recordAt}
 use Rattle.sheet.specs.RecordExactly.{numberIn, kindAt, linesAt, fieldsAt, record-read-1, record-read-6, record-read-7, record-read-given, record-read-others}
 use Rattle.checker.specs.Check.{_then_, demand, headerFor, recordPart, recordOf, partsFrom, soundAfter, recordsIn, Sheet, sheetIn, verdicts, failures, Totals, answerOf}

@@ -1,7 +1,7 @@
 -- A record with x in place of the scantling that its failing rule speaks of: it stays within its values, that rule asks of x what it asked before, and
 -- the verdict is a pass or a later rule exactly when the rule is met.
 -- Assumes nothing.
-use Prim.Native.Nat.{ℕ, zero, suc, _+_, _≤_, _<_}
+use Prim.Native.Nat.{ℕ, zero, suc, _≤_, _<_}
 use mathlib.Core.Path.{_≡_, refl, sym, ap, subst, _∙_}
 use mathlib.Core.Bool.{Bool, true, false, cond}
 use mathlib.Core.List.{List, [], _∷_}
@@ -23,14 +23,14 @@ use Rattle.sheet.specs.RecordLaws.{plate-allowed, member-allowed}
 use Rattle.sheet.specs.Exactly.{Exactly}
 use Rattle.gauge.specs.Least.{leastIn, numberOf}
 use Rattle.verdict.specs.declared.Verdict.{Verdict}
-use Rattle.verdict.specs.Verdict.{Rule, pass, failing, verdictOf}
+use Rattle.verdict.specs.Verdict.{Rule, failing, verdictOf}
 use Rattle.verdict.specs.Raising.{Failing, here, there, Found, passes, fails, found, Rising, failing-above, Later, passed, above, AllMonotone, Required, required, fails-under}
 use Rattle.plating.specs.Rules.{plateRules}
 use Rattle.framing.specs.Rules.{memberRules, memberLine}
 use Rattle.hull.specs.Hull.{bodyRules, rulesOf, verdict}
 use Rattle.hull.specs.Raising.{raisedPlate, withScantlings, raisedBody, raised}
 use Rattle.hull.specs.RaisingLaws.{rules-monotone}
-use Rattle.demands.specs.Raise.{gaugeTop, metIn}
+use Rattle.demands.specs.Raise.{gaugeTop, InGauge, Reaches, metIn}
 
 -- ---- over any list of rules
 
@@ -247,9 +247,9 @@ module _ (h : Header) (r : Record) (some : 1 ≤ verdict h r .rule) where
       go zero e = omega arith
       go (suc n) e = omega (arith, least .within (omega arith), top)
 
-  module _ (x : ℕ) (from-one : 1 ≤ x) (to-top : x ≤ gaugeTop (verdict h r .rule)) where
+  module _ (x : ℕ) (gauge : InGauge (verdict h r .rule) x) where
     pub put-sound : recordFault r 0 ≡ 0 → recordFault (putRecord (verdict h r .rule) x r) 0 ≡ 0
-    put-sound z = body-sound h (r .kind) (r .id) (r .body) (verdict h r) failing-rule x from-one (omega (arith, top)) z
+    put-sound z = body-sound h (r .kind) (r .id) (r .body) (verdict h r) failing-rule x (gauge .0) (omega (arith, gauge .1, top)) z
 
     -- what the rule says of x
     asked : ruleNamed failing-rule .asks x ≡ metIn (verdict h r .rule) (rulesOf h (putRecord (verdict h r .rule) x r))
@@ -260,28 +260,28 @@ module _ (h : Header) (r : Record) (some : 1 ≤ verdict h r .rule) where
         failing-rule)
 
     -- x meets the rule exactly when it is not below the number
-    asks-exactly : Exactly (ruleNamed failing-rule .asks x ≡ true) ((1 ≤ verdict h r .required) × (verdict h r .required ≤ x))
+    asks-exactly : Exactly (ruleNamed failing-rule .asks x ≡ true) (Reaches (verdict h r .required) x)
     asks-exactly = (λ e. go (verdict h r .required) refl e, λ b. least .larger (b .0) x (b .1))
       where
         clash : {A : Type 0} {b : Bool} → b ≡ true → b ≡ false → A
         clash e f = let z : _≡_ {A = ℕ} 0 1 = cc in absurd (omega arith)
 
-        go : (n : ℕ) → verdict h r .required ≡ n → ruleNamed failing-rule .asks x ≡ true → (1 ≤ n) × (n ≤ x)
-        go zero e t = clash t (least .none e x from-one (omega (arith, top)))
+        go : (n : ℕ) → verdict h r .required ≡ n → ruleNamed failing-rule .asks x ≡ true → Reaches n x
+        go zero e t = clash t (least .none e x (gauge .0) (omega (arith, gauge .1, top)))
         go (suc n) e t = (omega arith, inside (decLt x (suc n)))
           where
             inside : Dec (x < suc n) → suc n ≤ x
-            inside (yes l) = clash t (least .smaller x from-one (omega arith))
+            inside (yes l) = clash t (least .smaller x (gauge .0) (omega arith))
             inside (no l) = omega arith
 
-    pub met-exactly : Exactly (metIn (verdict h r .rule) (rulesOf h (putRecord (verdict h r .rule) x r)) ≡ true) ((1 ≤ verdict h r .required) × (verdict h r .required ≤ x))
+    pub met-exactly : Exactly (metIn (verdict h r .rule) (rulesOf h (putRecord (verdict h r .rule) x r)) ≡ true) (Reaches (verdict h r .required) x)
     met-exactly = (λ e. asks-exactly .0 (asked ∙ e), λ b. sym asked ∙ asks-exactly .1 b)
 
     -- and then the verdict is a pass or a later rule
-    pub later-exactly : Exactly (Later (verdict h r .rule) (verdict h (putRecord (verdict h r .rule) x r))) ((1 ≤ verdict h r .required) × (verdict h r .required ≤ x))
+    pub later-exactly : Exactly (Later (verdict h r .rule) (verdict h (putRecord (verdict h r .rule) x r))) (Reaches (verdict h r .required) x)
     later-exactly = (λ w. go (ruleNamed failing-rule .asks x) refl w, back)
       where
-        go : (b : Bool) → ruleNamed failing-rule .asks x ≡ b → Later (verdict h r .rule) (verdict h (putRecord (verdict h r .rule) x r)) → (1 ≤ verdict h r .required) × (verdict h r .required ≤ x)
+        go : (b : Bool) → ruleNamed failing-rule .asks x ≡ b → Later (verdict h r .rule) (verdict h (putRecord (verdict h r .rule) x r)) → Reaches (verdict h r .required) x
         go true e w = asks-exactly .0 e
         go false e w =
             absurd
@@ -291,7 +291,7 @@ module _ (h : Header) (r : Record) (some : 1 ≤ verdict h r .rule) where
             e
             w)
 
-        back : (1 ≤ verdict h r .required) × (verdict h r .required ≤ x) → Later (verdict h r .rule) (verdict h (putRecord (verdict h r .rule) x r))
+        back : Reaches (verdict h r .required) x → Later (verdict h r .rule) (verdict h (putRecord (verdict h r .rule) x r))
         back b =
             put-later x (ruleNamed failing-rule .has ≤ x) (verdict h r) (base (r .body)) (rulesOf h r) (rulesOf h (putRecord (verdict h r .rule) x r)) (rules-rising h (r .kind) (r .body)) monotone
             (body-put h (r .kind) (r .body) (verdict h r) failing-rule x)

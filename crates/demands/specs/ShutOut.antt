@@ -1,7 +1,7 @@
 -- The five empty programs are of their kinds, and the demands shut each kind out; the checker meets the demands.
 -- Assumes nothing.
 use Prim.Native.Nat.{ℕ, zero, suc, _+_, _*_, _≤_, _<_}
-use mathlib.Core.Path.{_≡_, refl, sym, ap, ap₂, subst, _∙_}
+use mathlib.Core.Path.{_≡_, refl, sym, ap, subst, _∙_}
 use mathlib.Core.Bool.{Bool, true, false, cond}
 use mathlib.Core.List.{List, [], _∷_, _++_, map, append-nil}
 use native.Mathlib.Omega.{arith}
@@ -13,11 +13,10 @@ use Rattle.quantity.specs.Range.{within, from, modulus}
 use Rattle.gauge.specs.Ceil.{ceilOf}
 use Rattle.gauge.specs.Least.{firstFrom, leastIn}
 use Rattle.loads.specs.Loads.{sea, bottomLoad, innerLoad, deepLoad, lineLoad}
-use Rattle.layout.specs.Line.{Allowed}
 use Rattle.layout.specs.LineLaws.{none-all}
 use Rattle.sheet.specs.declared.Header.{Header}
 use Rattle.sheet.specs.declared.Record.{Record}
-use Rattle.sheet.specs.Refusals.{Answer, given, refused, told}
+use Rattle.sheet.specs.Refusals.{Answer, given, refused}
 use Rattle.sheet.specs.RefusalLaws.{given-refused, given-same}
 use Rattle.sheet.specs.RecordBack.{record-read-fine}
 use Rattle.plating.specs.Rules.{K2}
@@ -31,7 +30,7 @@ use Rattle.checker.specs.Sound.{entry-sound}
 use Rattle.checker.specs.Check.{_then_, recordPart, Sheet, sheetIn, entryOf, verdicts, bytesOf, failures, Totals, toldChecked, answerOf, outputBy, outputOf}
 use Rattle.checker.specs.CheckLaws.{Taken, none, next, sheet-whole, verdicts-count, answer-done}
 use Rattle.demands.specs.Table.{Row, sheet-short, version, header-field, sheet-length, output-short, kind, field, order, Accepted}
-use Rattle.demands.specs.Program.{Program, Meets, fourAt, Leaves}
+use Rattle.demands.specs.Program.{Program, Meets, fourAt}
 use Rattle.demands.specs.Demands.{entryOn, failedFrom, Second, Demands}
 use Rattle.demands.specs.Empty.{ShutOut, OfVerdicts, LeavesAsLent, RefusesAll, PassesAll, NamesOne, PassesRest, MakesUpCount}
 use Rattle.demands.specs.EmptyPrograms.{refusalOf, answerBy, afterBy, checker, changedFrom, changing, passInstead, numberInstead, passAfterFirst, idle, refusing, passing, naming, firstOnly, counting}
