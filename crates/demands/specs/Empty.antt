@@ -1,12 +1,16 @@
 -- Five kinds of empty program that no promise may let through, by what a program does on the sheets that it accepts; crates/demands/specs/EmptyPrograms.antt has one of each.
-use Prim.Native.Nat.{ℕ, _<_, _≤_}
+use Prim.Native.Nat.{ℕ, zero, suc, _+_, _<_, _≤_}
 use mathlib.Core.Path.{_≡_}
+use mathlib.Core.Bool.{cond}
 use mathlib.Core.List.{List}
 use lib.ListN.{take}
+use lib.Dec.{eqb}
 use Rattle.sheet.specs.declared.Refusal.{Refusal}
+use Rattle.sheet.specs.Refusals.{Answer, given, refused}
 use Rattle.checker.specs.declared.Entry.{Entry}
 use Rattle.checker.specs.declared.Checked.the-variants.{Done, Refused as notDone}
-use Rattle.demands.specs.Program.{Program, Leaves}
+use Rattle.checker.specs.Entry.{readEntry}
+use Rattle.demands.specs.Program.{Program, fourAt, Leaves}
 use Rattle.demands.specs.Demands.{Demands}
 
 -- no program that meets the demands is of this kind
@@ -37,6 +41,20 @@ NamesOne q = OfVerdicts (λ i e. 1 ≤ e .rule → e .required ≡ q)
 abbrev pub PassesRest : Program → Type 0
 PassesRest = OfVerdicts (λ i e. 1 ≤ i → e .rule ≡ 0)
 
--- 5: it makes up the failure count, from the header's bytes or from nothing
+-- the rule of a verdict that is read, 0 where none is
+abbrev pub ruleIn : Answer Entry → ℕ
+ruleIn (given e) = e .rule
+ruleIn (refused k p) = 0
+
+-- how many of the fours at 4i, 4i + 4, .. of an output, so many of them, have a rule
+abbrev pub failedIn : List ℕ → (i count : ℕ) → ℕ
+failedIn o i zero = 0
+failedIn o i (suc count) = cond (eqb (ruleIn (readEntry (fourAt i o))) 0) 0 1 + failedIn o (i + 1) count
+
+-- 5: it makes up the failure count, which on some sheet is not the number of verdicts with a rule that it leaves
+abbrev pub Miscounts : Program → Type 0
+Miscounts P = (s out : List ℕ) × (n failed : ℕ) × (P .answer s out ≡ Done n failed) × (failed ≡ failedIn (P .after s out) 0 n → ⊥)
+
+-- or which hangs on the header's bytes alone, or on nothing
 abbrev pub MakesUpCount : (List ℕ → ℕ) → Program → Type 0
 MakesUpCount count P = (s out : List ℕ) (n failed : ℕ) → P .answer s out ≡ Done n failed → failed ≡ count (take 12 s)

@@ -1,7 +1,7 @@
 -- The five empty programs are of their kinds, and the demands shut each kind out; the checker meets the demands.
 -- Assumes nothing.
 use Prim.Native.Nat.{ℕ, zero, suc, _+_, _*_, _≤_, _<_}
-use mathlib.Core.Path.{_≡_, refl, sym, ap, subst, _∙_}
+use mathlib.Core.Path.{_≡_, refl, sym, ap, ap₂, subst, _∙_}
 use mathlib.Core.Bool.{Bool, true, false, cond}
 use mathlib.Core.List.{List, [], _∷_, _++_, map, append-nil}
 use native.Mathlib.Omega.{arith}
@@ -18,21 +18,23 @@ use Rattle.sheet.specs.declared.Header.{Header}
 use Rattle.sheet.specs.declared.Record.{Record}
 use Rattle.sheet.specs.Refusals.{Answer, given, refused}
 use Rattle.sheet.specs.RefusalLaws.{given-refused, given-same}
+use Rattle.sheet.specs.Header.{headerIn, readHeader}
+use Rattle.sheet.specs.Record.{recordIn, readRecord}
 use Rattle.sheet.specs.RecordBack.{record-read-fine}
 use Rattle.plating.specs.Rules.{K2}
 use Rattle.framing.specs.Rules.{rule4, rule5, rule6, memberLine}
 use Rattle.checker.specs.declared.Entry.{Entry}
 use Rattle.checker.specs.declared.Checked.{Checked}
 use Rattle.checker.specs.declared.Checked.the-variants.{Done, Refused as notDone}
-use Rattle.checker.specs.Entry.{verdictLines, entryValues, entryFault, entryBytes, readEntry}
+use Rattle.checker.specs.Entry.{verdictLines, entryValues, entryFault, entryBytes, entryIn, readEntry}
 use Rattle.checker.specs.EntryLaws.{allowed-entry, bytes-read}
 use Rattle.checker.specs.Sound.{entry-sound}
-use Rattle.checker.specs.Check.{_then_, recordPart, Sheet, sheetIn, entryOf, verdicts, bytesOf, failures, Totals, toldChecked, answerOf, outputBy, outputOf}
+use Rattle.checker.specs.Check.{_then_, demand, headerFor, partsFrom, soundAfter, recordsIn, recordPart, Sheet, sheetIn, entryOf, verdicts, bytesOf, failures, Totals, toldChecked, answerOf, outputBy, outputOf}
 use Rattle.checker.specs.CheckLaws.{Taken, none, next, sheet-whole, verdicts-count, answer-done}
 use Rattle.demands.specs.Table.{Row, sheet-short, version, header-field, sheet-length, output-short, kind, field, order, Accepted}
 use Rattle.demands.specs.Program.{Program, Meets, fourAt}
 use Rattle.demands.specs.Demands.{entryOn, failedFrom, Second, Demands}
-use Rattle.demands.specs.Empty.{ShutOut, OfVerdicts, LeavesAsLent, RefusesAll, PassesAll, NamesOne, PassesRest, MakesUpCount}
+use Rattle.demands.specs.Empty.{ShutOut, OfVerdicts, LeavesAsLent, RefusesAll, PassesAll, NamesOne, PassesRest, ruleIn, failedIn, Miscounts, MakesUpCount}
 use Rattle.demands.specs.EmptyPrograms.{refusalOf, answerBy, afterBy, checker, changedFrom, changing, passInstead, numberInstead, passAfterFirst, idle, refusing, passing, naming, firstOnly, counting}
 use Rattle.demands.specs.Rows.{refused-exactly}
 use Rattle.demands.specs.Proved.{given-fits, demands-met}
@@ -160,6 +162,11 @@ counting-is count s out n failed e = go (sheetIn s (length out)) e
     go (given t) f = sym (ap (λ (w : Totals). w .failed) (given-same (ap (λ (c : Checked). toldChecked c) f)))
     go (refused k p) f = given-refused (sym (ap (λ (c : Checked). toldChecked c) f))
 
+-- one that always says 1 failure says so of the example, where it leaves two
+pub counting-miscounts : Miscounts (counting (λ h. 1))
+unfolding readEntry entryIn sheetIn headerFor recordsIn partsFrom soundAfter _then_ demand readHeader headerIn readRecord recordIn verdicts entryOf bytesOf firstFrom leastIn ceilOf sea bottomLoad innerLoad deepLoad lineLoad K2 rule4 rule5 rule6 memberLine
+counting-miscounts = (example, lent, 2, 1, refl, λ e. omega (arith, e))
+
 -- ---- and is shut out
 
 -- no row holds for the two sheets
@@ -232,6 +239,21 @@ not-one-number q P d f =
 
 pub not-first-only : ShutOut PassesRest
 not-first-only P d f = omega (arith, on-second P d (λ i e. 1 ≤ i → e .rule ≡ 0) f (omega arith))
+
+-- the count of demand 2 is that of the verdicts with a rule in the output
+own-count : (P : Program) → Demands P → (s out : List ℕ) (n failed : ℕ) → P .answer s out ≡ Done n failed → failed ≡ failedIn (P .after s out) 0 n
+own-count P d s out n failed e = judged .counted ∙ sym (go n 0 (omega arith))
+  where
+    judged : Second P s out n failed
+    judged = d .second s out n failed e
+
+    go : (count i : ℕ) → i + count ≤ n → failedIn (P .after s out) i count ≡ failedFrom s i count
+    go zero i l = refl
+    go (suc count) i l =
+        ap₂ (λ (a : Answer Entry) (m : ℕ). cond (eqb (ruleIn a) 0) 0 1 + m) (judged .verdict-of-record i (omega arith)) (go count (i + 1) (omega arith))
+
+pub not-miscounting : ShutOut Miscounts
+not-miscounting P d f = f .5 (own-count P d (f .0) (f .1) (f .2) (f .3) (f .4))
 
 pub not-made-up : (count : List ℕ → ℕ) → ShutOut (MakesUpCount count)
 not-made-up count P d f =
