@@ -1,78 +1,60 @@
--- Five empty programs that no promise may let through: each is shown not to meet the promise of `check`.
--- Assumes nothing.
-use Prim.Native.Nat.{ℕ, suc, _*_}
-use mathlib.Core.Path.{_≡_, refl, sym, ap, _∙_}
-use mathlib.Core.List.{List, [], _∷_}
-use native.Mathlib.Omega.{arith}
-use lib.ListN.{length, take, drop, getD}
+-- Five kinds of empty program that no promise may let through, by what a program does on the sheets that it accepts; crates/demands/specs/EmptyPrograms.antt has one of each.
+use Prim.Native.Nat.{ℕ, zero, suc, _+_, _<_, _≤_}
+use mathlib.Core.Path.{_≡_}
+use mathlib.Core.Bool.{cond}
+use mathlib.Core.List.{List}
+use lib.ListN.{take}
+use lib.Dec.{eqb}
 use Rattle.sheet.specs.declared.Refusal.{Refusal}
-use Rattle.sheet.specs.Refusals.{given, refused, told}
-use Rattle.sheet.specs.RefusalLaws.{given-refused, given-same}
-use Rattle.sheet.specs.Header.{headerIn, readHeader}
+use Rattle.sheet.specs.Refusals.{Answer, given, refused}
 use Rattle.checker.specs.declared.Entry.{Entry}
-use Rattle.checker.specs.declared.Checked.{Checked}
 use Rattle.checker.specs.declared.Checked.the-variants.{Done, Refused as notDone}
-use Rattle.checker.specs.Entry.{entryIn, readEntry}
-use Rattle.checker.specs.Check.{_then_, demand, headerFor, partsFrom, recordsIn, sheetIn, verdicts, failures, Totals, toldChecked, answerOf, outputOf, Checks}
-use Rattle.demands.specs.Example.{example, lent, example-answer, example-output, bare, bare-answer}
+use Rattle.checker.specs.Entry.{readEntry}
+use Rattle.demands.specs.Program.{Program, fourAt, Leaves}
+use Rattle.demands.specs.Demands.{Demands}
 
--- a program: what it answers to a sheet and a lent output, and what it leaves in the output
-pub record Program : Type 0 where
-  pub answer : List ℕ → List ℕ → Checked
-  pub after : List ℕ → List ℕ → List ℕ
+-- no program that meets the demands is of this kind
+abbrev pub ShutOut : (Program → Type 0) → Type 0
+ShutOut OfKind = (P : Program) → Demands P → OfKind P → ⊥
 
--- it meets the promise on every sheet and every output
-abbrev pub Meets : Program → Type 0
-Meets P = (s out : List ℕ) → Checks s out (P .answer s out) (P .after s out)
+-- what holds of every verdict that a program leaves, on a sheet that it accepts, for a record below n
+abbrev pub OfVerdicts : (ℕ → Entry → Type 0) → Program → Type 0
+OfVerdicts Says P = (s out : List ℕ) (n failed i : ℕ) (e : Entry) → P .answer s out ≡ Done n failed → i < n → Leaves P s out i e → Says i e
 
--- the verdict that a program leaves for record i
-abbrev pub Leaves : Program → List ℕ → List ℕ → ℕ → Entry → Type 0
-Leaves P s out i e = readEntry (take 4 (drop (4 * i) (P .after s out))) ≡ given e
+-- 1: it leaves the output as lent
+abbrev pub LeavesAsLent : Program → Type 0
+LeavesAsLent P = (s out : List ℕ) (n failed : ℕ) → P .answer s out ≡ Done n failed → P .after s out ≡ out
 
--- on the example a program that meets the promise leaves 7 3 617 and 12 5 567
-module _ (P : Program) (meets : Meets P) where
-  left : P .after example lent ≡ outputOf example lent
-  left = meets example lent .bytes
+-- 2: it refuses everything
+abbrev pub RefusesAll : Program → Type 0
+RefusesAll P = (s out : List ℕ) → (r : Refusal) × (P .answer s out ≡ notDone r)
 
-  first-left : Leaves P example lent 0 (record { id = 7; rule = 3; required = 617 })
-  unfolding readEntry entryIn
-  first-left = ap (λ (o : List ℕ). readEntry (take 4 o)) (left ∙ example-output)
+-- 3: it passes every member
+abbrev pub PassesAll : Program → Type 0
+PassesAll = OfVerdicts (λ i e. e .rule ≡ 0)
 
-  second-left : Leaves P example lent 1 (record { id = 12; rule = 5; required = 567 })
-  unfolding readEntry entryIn
-  second-left = ap (λ (o : List ℕ). readEntry (take 4 (drop 4 o))) (left ∙ example-output)
+-- or names one fixed number
+abbrev pub NamesOne : ℕ → Program → Type 0
+NamesOne q = OfVerdicts (λ i e. 1 ≤ e .rule → e .required ≡ q)
 
-  -- 1: one that leaves the output as lent
-  pub not-as-lent : ((s out : List ℕ) → P .after s out ≡ out) → ⊥
-  not-as-lent f = absurd (omega (arith, ap (λ (o : List ℕ). getD o 0 0) (sym (f example lent) ∙ left ∙ example-output)))
+-- 4: it fills what follows the first record with passes
+abbrev pub PassesRest : Program → Type 0
+PassesRest = OfVerdicts (λ i e. 1 ≤ i → e .rule ≡ 0)
 
-  -- 2: one that refuses everything
-  pub not-refusing-all : ((s out : List ℕ) → (r : Refusal) × (P .answer s out ≡ notDone r)) → ⊥
-  not-refusing-all f = let r = f example lent in given-refused (sym example-answer ∙ sym (meets example lent .answer) ∙ ap (λ (c : Checked). toldChecked c) (r .1))
+-- the rule of a verdict that is read, 0 where none is
+abbrev pub ruleIn : Answer Entry → ℕ
+ruleIn (given e) = e .rule
+ruleIn (refused k p) = 0
 
-  -- 3: one that passes every member
-  pub not-passing-all : ((s out : List ℕ) (i : ℕ) (e : Entry) → Leaves P s out i e → e .rule ≡ 0) → ⊥
-  not-passing-all f = omega (arith, f example lent 0 _ first-left)
+-- how many of the fours at 4i, 4i + 4, .. of an output, so many of them, have a rule
+abbrev pub failedIn : List ℕ → (i count : ℕ) → ℕ
+failedIn o i zero = 0
+failedIn o i (suc count) = cond (eqb (ruleIn (readEntry (fourAt i o))) 0) 0 1 + failedIn o (i + 1) count
 
-  -- or names one fixed number
-  pub not-one-number : (k : ℕ) → ((s out : List ℕ) (i : ℕ) (e : Entry) → Leaves P s out i e → (e .rule ≡ 0 → ⊥) → e .required ≡ k) → ⊥
-  not-one-number k f = omega (arith, f example lent 0 _ first-left (λ z. omega arith), f example lent 1 _ second-left (λ z. omega arith))
+-- 5: it makes up the failure count, which on some sheet is not the number of verdicts with a rule that it leaves
+abbrev pub Miscounts : Program → Type 0
+Miscounts P = (s out : List ℕ) × (n failed : ℕ) × (P .answer s out ≡ Done n failed) × (failed ≡ failedIn (P .after s out) 0 n → ⊥)
 
-  -- 4: one that judges the first record and fills the rest with passes
-  pub not-first-only : ((s out : List ℕ) (i : ℕ) (e : Entry) → Leaves P s out (suc i) e → e .rule ≡ 0) → ⊥
-  not-first-only f = omega (arith, f example lent 0 _ second-left)
-
-  -- 5: one that makes up the failure count: whatever it says, the count is the number of verdicts with a rule
-  pub not-another-count : (s out : List ℕ) (n failed : ℕ) → P .answer s out ≡ Done n failed → given (record { n = n; failed = failed }) ≡ answerOf s (length out)
-  not-another-count s out n failed e = ap (λ (c : Checked). toldChecked c) (sym e) ∙ meets s out .answer
-
-  -- so that it is no fixed count either
-  pub not-one-count : (k : ℕ) → ((s out : List ℕ) (n failed : ℕ) → P .answer s out ≡ Done n failed → failed ≡ k) → ⊥
-  not-one-count k f = omega (arith, count example lent 2 2 example-answer, count bare [] 0 0 bare-answer)
-    where
-      count : (s out : List ℕ) (n failed : ℕ) → answerOf s (length out) ≡ given (record { n = n; failed = failed }) → failed ≡ k
-      count s out n failed e = go (P .answer s out) refl
-        where
-          go : (c : Checked) → P .answer s out ≡ c → failed ≡ k
-          go (Done m x) g = sym (ap (λ (w : Totals). w .failed) (given-same (not-another-count s out m x g ∙ e))) ∙ f s out m x g
-          go (notDone r) g = given-refused (sym e ∙ sym (meets s out .answer) ∙ ap (λ (c : Checked). toldChecked c) g)
+-- or which hangs on the header's bytes alone, or on nothing
+abbrev pub MakesUpCount : (List ℕ → ℕ) → Program → Type 0
+MakesUpCount count P = (s out : List ℕ) (n failed : ℕ) → P .answer s out ≡ Done n failed → failed ≡ count (take 12 s)

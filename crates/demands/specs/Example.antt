@@ -1,45 +1,98 @@
--- The document's two-record example as bytes, checked: vessel V, with case 4 as id 7 at T 600 and case 10 as id 12 at T 420, W 560, A 168.
+-- Sheets of bytes on vessel V (L 8000, D0 250, H 60, one run, M 20,000, ZB 200,000), computed: the document's example, one for each row of the table, and one
+-- for which two raisings are not enough.
 -- Assumes nothing.
 use Prim.Native.Nat.{ℕ}
 use mathlib.Core.Path.{_≡_, refl}
 use mathlib.Core.List.{List, [], _∷_, _++_}
+use lib.ListN.{take, set}
 use Rattle.gauge.specs.Ceil.{ceilOf}
 use Rattle.gauge.specs.Least.{firstFrom, leastIn}
 use Rattle.loads.specs.Loads.{sea, bottomLoad, innerLoad, deepLoad, lineLoad}
-use Rattle.sheet.specs.Refusals.{given}
-use Rattle.sheet.specs.Header.{headerFault, headerIn, readHeader}
-use Rattle.sheet.specs.Record.{plateFault, memberFault, recordIn, readRecord}
+use Rattle.sheet.specs.Refusals.{Answer, given, refused}
+use Rattle.sheet.specs.Header.{headerIn, readHeader}
+use Rattle.sheet.specs.Record.{recordIn, readRecord}
 use Rattle.plating.specs.Rules.{K2}
 use Rattle.framing.specs.Rules.{rule4, rule5, rule6, memberLine}
-use Rattle.checker.specs.Entry.{entryBytes}
+use Rattle.checker.specs.declared.Entry.{Entry}
+use Rattle.checker.specs.Entry.{entryBytes, entryIn, readEntry}
 use Rattle.checker.specs.Check.{_then_, demand, headerFor, partsFrom, soundAfter, recordsIn, sheetIn, entryOf, verdicts, bytesOf, failures, answerOf, outputOf}
+use Rattle.demands.specs.Program.{fourAt}
+use Rattle.demands.specs.Raise.{replaced, withScantling, raisedTimes}
+use Rattle.demands.specs.EmptyPrograms.{checker}
 
--- the header, the plate and the longitudinal
+-- V's header, without its last byte, which has the count
+abbrev pub vessel : List ℕ
+vessel = 23 ∷ 208 ∷ 15 ∷ 163 ∷ 192 ∷ 39 ∷ 16 ∷ 0 ∷ 48 ∷ 212 ∷ 0 ∷ []
+
+-- case 4 as id 7 at T 600, and case 10 as id 12 at T 420, W 560, A 168
 abbrev pub example : List ℕ
 example =
-    23 ∷ 208 ∷ 15 ∷ 163 ∷ 192 ∷ 39 ∷ 16 ∷ 0 ∷ 48 ∷ 212 ∷ 0 ∷ 16
+    vessel
+    ++ (16
     ∷ 32 ∷ 31 ∷ 232 ∷ 0 ∷ 7 ∷ 208 ∷ 150 ∷ 0 ∷ 0 ∷ 0 ∷ 0 ∷ 0 ∷ 0 ∷ 0 ∷ 0 ∷ 0
     ∷ 80 ∷ 48 ∷ 0 ∷ 31 ∷ 68 ∷ 176 ∷ 105 ∷ 50 ∷ 100 ∷ 180 ∷ 100 ∷ 2 ∷ 48 ∷ 2 ∷ 163 ∷ 232
-    ∷ []
+    ∷ [])
 
--- an output of nine bytes, one more than the two verdicts take
+-- the same at T 617 and W 567
+abbrev pub mended : List ℕ
+mended =
+    vessel
+    ++ (16
+    ∷ 32 ∷ 31 ∷ 232 ∷ 0 ∷ 7 ∷ 208 ∷ 154 ∷ 64 ∷ 0 ∷ 0 ∷ 0 ∷ 0 ∷ 0 ∷ 0 ∷ 0 ∷ 0
+    ∷ 80 ∷ 48 ∷ 0 ∷ 31 ∷ 68 ∷ 176 ∷ 105 ∷ 50 ∷ 100 ∷ 180 ∷ 100 ∷ 2 ∷ 55 ∷ 2 ∷ 163 ∷ 232
+    ∷ [])
+
+-- case 10 alone, as id 12, with T, W and A at 1
+abbrev pub light : List ℕ
+light = vessel ++ (8 ∷ 80 ∷ 48 ∷ 0 ∷ 31 ∷ 68 ∷ 176 ∷ 0 ∷ 114 ∷ 100 ∷ 180 ∷ 100 ∷ 0 ∷ 1 ∷ 0 ∷ 7 ∷ 232 ∷ [])
+
+-- case 10 alone, as id 12 at T 420, W 560, A 168, with σ1 214, where no modulus will do
+abbrev pub stressed : List ℕ
+stressed = vessel ++ (8 ∷ 80 ∷ 48 ∷ 0 ∷ 31 ∷ 68 ∷ 176 ∷ 105 ∷ 50 ∷ 100 ∷ 181 ∷ 172 ∷ 2 ∷ 48 ∷ 2 ∷ 163 ∷ 232 ∷ [])
+
+-- no records
+abbrev pub bare : List ℕ
+bare = vessel ++ (0 ∷ [])
+
+-- an output of nine bytes, one more than two verdicts take
 abbrev pub lent : List ℕ
 lent = 170 ∷ 170 ∷ 170 ∷ 170 ∷ 170 ∷ 170 ∷ 170 ∷ 170 ∷ 170 ∷ []
 
--- as the document prints it: 2 records, 2 failures
+-- as the document prints it: 7 3 617, 12 5 567, 2 records and 2 failures; the ninth byte is as it was lent
 pub example-answer : answerOf example 9 ≡ given (record { n = 2; failed = 2 })
 unfolding answerOf sheetIn headerFor recordsIn partsFrom soundAfter _then_ demand readHeader headerIn readRecord recordIn verdicts entryOf failures firstFrom leastIn ceilOf sea bottomLoad innerLoad deepLoad lineLoad K2 rule4 rule5 rule6 memberLine
 example-answer = refl
 
--- 7 3 617 and 12 5 567, and the ninth byte as it was lent
 pub example-output : outputOf example lent ≡ (entryBytes (record { id = 7; rule = 3; required = 617 }) ++ (entryBytes (record { id = 12; rule = 5; required = 567 }) ++ (170 ∷ [])))
 unfolding outputOf sheetIn headerFor recordsIn partsFrom soundAfter _then_ demand readHeader headerIn readRecord recordIn verdicts entryOf bytesOf firstFrom leastIn ceilOf sea bottomLoad innerLoad deepLoad lineLoad K2 rule4 rule5 rule6 memberLine
 example-output = refl
 
--- V with no records: accepted, with no failures
-abbrev pub bare : List ℕ
-bare = 23 ∷ 208 ∷ 15 ∷ 163 ∷ 192 ∷ 39 ∷ 16 ∷ 0 ∷ 48 ∷ 212 ∷ 0 ∷ 0 ∷ []
+-- mended, nothing fails
+pub mended-answer : answerOf mended 9 ≡ given (record { n = 2; failed = 0 })
+unfolding answerOf sheetIn headerFor recordsIn partsFrom soundAfter _then_ demand readHeader headerIn readRecord recordIn verdicts entryOf failures firstFrom leastIn ceilOf sea bottomLoad innerLoad deepLoad lineLoad K2 rule4 rule5 rule6 memberLine
+mended-answer = refl
 
-pub bare-answer : answerOf bare 0 ≡ given (record { n = 0; failed = 0 })
-unfolding answerOf sheetIn headerFor recordsIn partsFrom _then_ demand readHeader headerIn verdicts failures
-bare-answer = refl
+-- the example with one byte too few, one byte changed, one too many, or too short an output, for each row of the table: the version is 2, the wave height 61, the
+-- second record's kind 9, its K 1001, its id 7
+pub row-by-row : (answerOf (take 11 example) 9 ≡ refused 1 0)
+    × (answerOf (set example 0 39) 9 ≡ refused 2 0)
+    × (answerOf (set example 4 208) 9 ≡ refused 3 4)
+    × (answerOf (example ++ (0 ∷ [])) 9 ≡ refused 4 0)
+    × (answerOf example 7 ≡ refused 5 0)
+    × (answerOf (set example 28 144) 9 ≡ refused 6 1)
+    × (answerOf (set example 43 233) 9 ≡ refused 7 45)
+    × (answerOf (set example 29 28) 9 ≡ refused 8 1)
+unfolding answerOf sheetIn headerFor recordsIn partsFrom soundAfter _then_ demand readHeader headerIn readRecord recordIn
+row-by-row = (refl, refl, refl, refl, refl, refl, refl, refl)
+
+-- what is read for the light record after so many raisings
+abbrev pub lightAfter : ℕ → Answer Entry
+lightAfter count = readEntry (fourAt 0 (checker .after (raisedTimes checker lent count 0 light) lent))
+
+-- two raisings are not enough: 4 420, then 5 567, then 6 168, and a pass only after the third
+pub two-not-enough : (lightAfter 0 ≡ given (record { id = 12; rule = 4; required = 420 }))
+    × (lightAfter 1 ≡ given (record { id = 12; rule = 5; required = 567 }))
+    × (lightAfter 2 ≡ given (record { id = 12; rule = 6; required = 168 }))
+    × (lightAfter 3 ≡ given (record { id = 12; rule = 0; required = 0 }))
+unfolding raisedTimes withScantling replaced readEntry entryIn sheetIn headerFor recordsIn partsFrom soundAfter _then_ demand readHeader headerIn readRecord recordIn verdicts entryOf bytesOf firstFrom leastIn ceilOf sea bottomLoad innerLoad deepLoad lineLoad K2 rule4 rule5 rule6 memberLine
+two-not-enough = (refl, refl, refl, refl)

@@ -1,7 +1,18 @@
-pub mod Replace
+-- what is promised
+pub mod Table
+pub mod Program
 pub mod Raise
-pub mod First
-pub mod Second
-pub mod Third
-pub mod Example
+pub mod Demands
 pub mod Empty
+pub mod EmptyPrograms
+-- how it is proved
+pub mod Rows
+pub mod Replace
+pub mod Exchange
+pub mod Scantling
+pub mod Proved
+pub mod ShutOut
+pub mod Only
+-- sheets of bytes, computed
+pub mod Example
+pub mod Cases

@@ -1,29 +1,71 @@
--- Raising on a whole sheet of bytes: the record at a place is written again with the number required in place of the scantling that fails.
-use Prim.Native.Nat.{ℕ, zero, suc}
-use mathlib.Core.Bool.{cond}
-use mathlib.Core.List.{List}
+-- Another number in place of a scantling, on a sheet of bytes; and raising a scantling to the number that a program names for it.
+use Prim.Native.Nat.{ℕ, zero, suc, _+_, _*_, _≤_}
+use mathlib.Core.Bool.{Bool, false, cond}
+use mathlib.Core.List.{List, [], _∷_, _++_}
+use lib.ListN.{take, drop}
 use lib.Dec.{eqb}
+use Rattle.quantity.specs.Range.{thickness, modulus, shearArea}
 use Rattle.sheet.specs.declared.Header.{Header}
 use Rattle.sheet.specs.declared.Record.{Record}
 use Rattle.sheet.specs.Refusals.{Answer, given, refused}
-use Rattle.sheet.specs.Header.{readHeader}
+use Rattle.sheet.specs.Header.{headerAt}
 use Rattle.sheet.specs.Record.{recordBytes}
-use Rattle.hull.specs.Hull.{verdict}
+use Rattle.sheet.specs.RecordLaws.{recordAt}
+use Rattle.verdict.specs.Verdict.{Rule}
+use Rattle.hull.specs.Hull.{rulesOf}
 use Rattle.hull.specs.Raising.{raised}
-use Rattle.checker.specs.Check.{recordOf}
-use Rattle.demands.specs.Replace.{replaced}
+use Rattle.checker.specs.declared.Entry.{Entry}
+use Rattle.checker.specs.Entry.{readEntry}
+use Rattle.demands.specs.Table.{headerFields, numberOf}
+use Rattle.demands.specs.Program.{Program, fourAt}
 
--- by the header and the record that are read: where the verdict has a number, the raised record's bytes stand in place of the record's
-abbrev pub raisedBy : (i : ℕ) → List ℕ → Answer Header → Answer Record → List ℕ
-raisedBy i s (given h) (given r) = cond (eqb (verdict h r .required) 0) s (replaced i (recordBytes (raised (verdict h r) r)) s)
-raisedBy i s (given h) (refused k p) = s
-raisedBy i s (refused k p) r = s
+-- the header that the sheet's fields are
+abbrev pub theHeader : List ℕ → Header
+theHeader s = headerAt (headerFields s)
 
--- record i raised once
-unfoldable pub raisedAt : (i : ℕ) → List ℕ → List ℕ
-raisedAt i s = raisedBy i s (readHeader s) (recordOf s i)
+-- record i of the sheet, as its fields are
+abbrev pub theRecord : List ℕ → ℕ → Record
+theRecord s i = recordAt (numberOf s i)
 
--- and so many times
-unfoldable pub raisedAtTimes : (count i : ℕ) → List ℕ → List ℕ
-raisedAtTimes zero i s = s
-raisedAtTimes (suc count) i s = raisedAtTimes count i (raisedAt i s)
+-- where record i begins
+abbrev pub recordStart : ℕ → ℕ
+recordStart i = 12 + 16 * i
+
+-- the sheet with these bytes in place of record i's
+unfoldable pub replaced : (i : ℕ) → List ℕ → List ℕ → List ℕ
+replaced i b s = take (recordStart i) s ++ (b ++ drop (recordStart i + 16) s)
+
+-- the sheet with x in place of the scantling of record i that rule k speaks of: T for rules 1 to 4, W for rule 5, A for rule 6
+unfoldable pub withScantling : (i k x : ℕ) → List ℕ → List ℕ
+withScantling i k x s = replaced i (recordBytes (raised (record { rule = k; required = x }) (theRecord s i))) s
+
+-- the highest number of that scantling's gauge, which begins at 1
+abbrev pub gaugeTop : ℕ → ℕ
+gaugeTop k = cond (eqb k 5) (modulus .high) (cond (eqb k 6) (shearArea .high) (thickness .high))
+
+-- x is in the gauge of the scantling that rule k speaks of
+abbrev pub InGauge : (k x : ℕ) → Type 0
+InGauge k x = (1 ≤ x) × (x ≤ gaugeTop k)
+
+-- there is a number q, 0 being none, and x is not below it
+abbrev pub Reaches : (q x : ℕ) → Type 0
+Reaches q x = (1 ≤ q) × (q ≤ x)
+
+-- whether the rule of this number is met, among these
+abbrev pub metIn : ℕ → List Rule → Bool
+metIn k [] = false
+metIn k (r ∷ rs) = cond (eqb (r .number) k) (r .asks (r .has)) (metIn k rs)
+
+-- whether record i of the sheet meets rule k
+abbrev pub meetsRule : List ℕ → (i k : ℕ) → Bool
+meetsRule s i k = metIn k (rulesOf (theHeader s) (theRecord s i))
+
+-- by the verdict that is read for record i: the number that it names in place of the scantling that fails; as it stands where there is no number
+abbrev pub raisedBy : (i : ℕ) → List ℕ → Answer Entry → List ℕ
+raisedBy i s (given e) = cond (eqb (e .required) 0) s (withScantling i (e .rule) (e .required) s)
+raisedBy i s (refused k p) = s
+
+-- the sheet after so many raisings of record i, each by the four bytes that the program leaves for it
+unfoldable pub raisedTimes : Program → (out : List ℕ) (count i : ℕ) → List ℕ → List ℕ
+raisedTimes P out zero i s = s
+raisedTimes P out (suc count) i s = raisedTimes P out count i (raisedBy i s (readEntry (fourAt i (P .after s out))))

@@ -1,34 +1,25 @@
--- A sheet in which one record's sixteen bytes are replaced by those of a sound record with the same id: it is not refused either, and every other
--- record is read as before.
+-- A sheet in which one record's sixteen bytes are replaced by those of a sound record: that record is read, and the header and every other record are read
+-- as before.
 -- Assumes nothing.
-use Prim.Native.Nat.{ℕ, zero, suc, _+_, _-_, _*_, _≤_, _<_}
-use mathlib.Core.Path.{_≡_, refl, sym, ap, ap₂, subst, _∙_}
-use mathlib.Core.Bool.{Bool, true, false, cond}
-use mathlib.Core.List.{List, [], _∷_, _++_, append-nil}
+use Prim.Native.Nat.{ℕ, _+_, _-_, _*_, _≤_, _<_}
+use mathlib.Core.Path.{_≡_, sym, ap, ap₂, _∙_}
+use mathlib.Core.Bool.{cond}
+use mathlib.Core.List.{List, [], _++_, append-nil}
 use native.Mathlib.Omega.{arith}
 use native.Mathlib.Decide.{decLt}
 use lib.ListN.{length, take, drop, length-append, length-drop, take-append-drop, drop-of-length-le}
-use lib.Seq.{length-take-le, take-append-le, drop-append-le, drop-append-add, drop-drop, take-at, drop-at}
-use lib.Dec.{ltb, leb, eqb}
-use borrow.Author.Tests.{lt-ltb, le-ltb, le-leb, eq-eqb}
-use Rattle.layout.specs.Layout.{pack, unpack, bytes}
+use lib.Seq.{length-take-le, take-append-le, drop-append-le, drop-drop, take-at, drop-at}
+use lib.Dec.{ltb}
+use borrow.Author.Tests.{eq-eqb}
+use Rattle.layout.specs.Layout.{pack, bytes}
 use Rattle.layout.specs.Laws.{length-unpack}
-use Rattle.sheet.specs.declared.Header.{Header}
 use Rattle.sheet.specs.declared.Record.{Record}
-use Rattle.sheet.specs.Refusals.{Answer, given, refused}
+use Rattle.sheet.specs.Refusals.{given, refused}
 use Rattle.sheet.specs.Header.{headerIn, readHeader}
 use Rattle.sheet.specs.Record.{readRecord, recordFault, recordNumber, recordBytes, writeRecord}
 use Rattle.sheet.specs.RecordBack.{record-read-again}
-use Rattle.checker.specs.Check.{_then_, demand, headerFor, recordPart, recordOf, partsFrom, soundAfter, recordsIn, Sheet, sheetIn}
-use Rattle.checker.specs.CheckLaws.{HeaderFits, Taken, none, next, Whole, sheet-whole}
-
--- where record i begins
-abbrev pub recordStart : ℕ → ℕ
-recordStart i = 12 + 16 * i
-
--- the sheet with these bytes in place of record i's
-unfoldable pub replaced : (i : ℕ) → List ℕ → List ℕ → List ℕ
-replaced i b s = take (recordStart i) s ++ (b ++ drop (recordStart i + 16) s)
+use Rattle.checker.specs.Check.{recordOf}
+use Rattle.demands.specs.Raise.{recordStart, replaced}
 
 -- ---- lists
 
@@ -80,9 +71,6 @@ bytes-read i r z =
 -- ---- a sheet with one record replaced
 
 module _ (s : List ℕ) (i : ℕ) (r : Record) (z : recordFault r 0 ≡ 0) (l : recordStart i + 16 ≤ length s) where
-  m : ℕ
-  m = recordStart i
-
   abbrev new : List ℕ
   new = replaced i (recordBytes r) s
 
@@ -124,12 +112,6 @@ module _ (s : List ℕ) (i : ℕ) (r : Record) (z : recordFault r 0 ≡ 0) (l : 
   unfolding replaced
   replaced-others j n = ap (readRecord j) (just (recordStart j) new ∙ go (decLt j i) ∙ sym (just (recordStart j) s))
     where
-      p : List ℕ
-      p = take (recordStart i) s
-
-      q : List ℕ
-      q = drop (recordStart i + 16) s
-
       go : Dec (j < i) → take 16 (drop (recordStart j) (three (take (recordStart i) s) (recordBytes r) (drop (recordStart i + 16) s))) ≡ take 16 (drop (recordStart j) s)
       go (yes h) =
           before (take (recordStart i) s) (recordBytes r) (drop (recordStart i + 16) s) (recordStart i) start-length (bytes-length r) (recordStart j) (omega arith)

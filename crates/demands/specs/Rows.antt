@@ -1,0 +1,444 @@
+-- The table's rows and the promise of `check`: refusal k with place p is given exactly when row k holds with place p and no earlier row does, an answer
+-- exactly where no row holds; and two rows that hold for one sheet are the same row with the same place.
+-- Assumes nothing.
+use Prim.Native.Nat.{ℕ, zero, suc, _+_, _-_, _*_, _≤_, _<_}
+use mathlib.Core.Path.{_≡_, refl, sym, ap, ap₂, subst, _∙_}
+use mathlib.Core.Bool.{Bool, true, false, cond}
+use mathlib.Core.List.{List, [], _∷_}
+use native.Mathlib.Omega.{arith}
+use native.Mathlib.Decide.{ℕ-discrete}
+use native.Mathlib.Nat.{zero-add}
+use native.Mathlib.Numerals.{add-one}
+use lib.ListN.{length, getD, take, drop, length-drop}
+use lib.Seq.{length-take-le, take-take}
+use lib.Dec.{ltb, leb, eqb}
+use borrow.Author.Tests.{lt-ltb, le-ltb, lt-leb, le-leb, leb-false, ltb-false, eq-eqb, ne-eqb, eqb-true, eqb-false}
+use Rattle.quantity.specs.Range.{within, from}
+use Rattle.layout.specs.Layout.{pack, unpack, bytes}
+use Rattle.layout.specs.Line.{Allowed}
+use Rattle.layout.specs.LineLaws.{low-high}
+use Rattle.sheet.specs.declared.Header.{Header}
+use Rattle.sheet.specs.declared.Record.{Record}
+use Rattle.sheet.specs.Lines.{plateWidths, memberWidths}
+use Rattle.sheet.specs.Refusals.{Answer, given, refused}
+use Rattle.sheet.specs.RefusalLaws.{given-refused, refused-number, refused-place}
+use Rattle.sheet.specs.Exactly.{Exactly, LaterFault}
+use Rattle.sheet.specs.Header.{headerAt, readHeader}
+use Rattle.sheet.specs.HeaderExactly.{header-read-1, header-read-2, header-read-3, header-read-given, header-read-others}
+use Rattle.sheet.specs.Record.{plateRecord, memberRecord, plateLinesOf, memberLinesOf, readRecord}
+use Rattle.sheet.specs.RecordLaws.{recordAt}
+use Rattle.sheet.specs.RecordExactly.{numberIn, kindAt, linesAt, fieldsAt, record-read-1, record-read-6, record-read-7, record-read-given, record-read-others}
+use Rattle.checker.specs.Check.{_then_, demand, headerFor, recordPart, recordOf, partsFrom, soundAfter, recordsIn, Sheet, sheetIn, verdicts, failures, Totals, answerOf}
+use Rattle.checker.specs.CheckLaws.{HeaderFits, header-fits, sound-read, Taken, none, next, sheet-whole}
+use Rattle.demands.specs.Table.{headerFields, countOf, numberOf, kindOf, fieldsOf, linesOf, idOf, HeaderSound, RecordSound, InOrder, Fits, Reached, Row, sheet-short, version, header-field, sheet-length, output-short, kind, field, order, Accepted}
+
+-- ---- one answer after another
+
+-- where the second of two answers is a refusal, it is the first one's or that of what comes next
+data By {A B : Type 0} (x : Answer A) (rest : A → Answer B) (k p : ℕ) : Type 0 where
+  first : x ≡ refused k p → By x rest k p
+  later : (a : A) → x ≡ given a → rest a ≡ refused k p → By x rest k p
+
+same : {A B : Type 0} (k p l q : ℕ) → _≡_ {A = Answer A} (refused k p) (refused l q) → _≡_ {A = Answer B} (refused k p) (refused l q)
+same k p l q e = ap₂ refused (refused-number e) (refused-place e)
+
+by : {A B : Type 0} (x : Answer A) (rest : A → Answer B) (k p : ℕ) → (x then rest) ≡ refused k p → By x rest k p
+unfolding _then_
+by (given a) rest k p e = later a refl e
+by (refused l q) rest k p e = first (same l q k p e)
+
+stays : {A B : Type 0} (x : Answer A) (rest : A → Answer B) (k p : ℕ) → x ≡ refused k p → (x then rest) ≡ refused k p
+unfolding _then_
+stays (given a) rest k p e = given-refused e
+stays (refused l q) rest k p e = same l q k p e
+
+goes-on : {A B : Type 0} (x : Answer A) (rest : A → Answer B) (a : A) → x ≡ given a → (x then rest) ≡ rest a
+unfolding _then_
+goes-on x rest a e = rw e
+
+demanded : (t : Bool) (k l p : ℕ) → demand t k ≡ refused l p → (t ≡ false) × (k ≡ l) × (p ≡ 0)
+unfolding demand
+demanded true k l p e = given-refused e
+demanded false k l p e = (refl, refused-number e, sym (refused-place e))
+
+demand-true : (t : Bool) (k : ℕ) (u : Unit {0}) → demand t k ≡ given u → t ≡ true
+unfolding demand
+demand-true true k u e = refl
+demand-true false k u e = given-refused (sym e)
+
+-- ---- the fields, and what is read of them
+
+module _ (s : List ℕ) where
+  -- the header that its fields are is the one that is read
+  pub header-sound : (h : Header) → readHeader s ≡ given h → HeaderSound s × (headerAt (headerFields s) ≡ h)
+  header-sound h e = let r = header-read-given s h .0 e in (record { long = r .0; fields = r .1 }, r .2)
+
+  pub header-given : HeaderSound s → readHeader s ≡ given (headerAt (headerFields s))
+  header-given f = header-read-given s (headerAt (headerFields s)) .1 (f .long, f .fields, refl)
+
+  module _ (i : ℕ) where
+    -- the sixteen bytes of record i as they are read
+    pub number-read : numberIn (recordPart s i) ≡ numberOf s i
+    number-read =
+        let k : 12 + 16 * i + 16 - (12 + 16 * i) ≡ 16 = omega arith in
+        ap (λ (n : ℕ). numberIn (take n (drop (12 + 16 * i) s))) k ∙ ap (pack (bytes 16)) (take-take 16 16 (drop (12 + 16 * i) s) (omega arith))
+
+    part-length : 12 + 16 * i + 16 ≤ length s → 16 ≤ length (recordPart s i)
+    part-length l =
+        let k : 12 + 16 * i + 16 - (12 + 16 * i) ≡ 16 = omega arith in
+        omega (arith, ap (λ (n : ℕ). length (take n (drop (12 + 16 * i) s))) k ∙ length-take-le 16 (drop (12 + 16 * i) s) (omega (arith, length-drop (12 + 16 * i) s)))
+
+    -- a record that is read is within its values, and is the one that its fields are
+    pub record-sound : (r : Record) → recordOf s i ≡ given r → RecordSound s i × (recordAt (numberOf s i) ≡ r)
+    record-sound r e =
+        let q = record-read-given i (recordPart s i) r .0 e in
+        (subst (λ (n : ℕ). Allowed (linesAt n) (fieldsAt n)) number-read (q .1), ap recordAt (sym number-read) ∙ q .2)
+
+    pub record-is : 12 + 16 * i + 16 ≤ length s → RecordSound s i → recordOf s i ≡ given (recordAt (numberOf s i))
+    record-is l a =
+        record-read-given i (recordPart s i) (recordAt (numberOf s i)) .1
+        (part-length l, subst (λ (n : ℕ). Allowed (linesAt n) (fieldsAt n)) (sym number-read) a, ap recordAt number-read)
+
+    pub record-id-field : recordAt (numberOf s i) .id ≡ idOf s i
+    record-id-field = go (ltb (kindOf s i) 5)
+      where
+        vs : List ℕ
+        vs = unpack plateWidths (numberOf s i)
+
+        ws : List ℕ
+        ws = unpack memberWidths (numberOf s i)
+
+        go : (t : Bool) → cond t (plateRecord vs) (memberRecord ws) .id ≡ getD (cond t vs ws) 1 0
+        go true = refl
+        go false = refl
+
+    -- its id is at least 1
+    pub sound-id : RecordSound s i → 1 ≤ idOf s i
+    sound-id a = go (ltb (kindOf s i) 5) a
+      where
+        vs : List ℕ
+        vs = unpack plateWidths (numberOf s i)
+
+        ws : List ℕ
+        ws = unpack memberWidths (numberOf s i)
+
+        go : (t : Bool) → Allowed (cond t (plateLinesOf vs) (memberLinesOf ws)) (cond t vs ws) → 1 ≤ getD (cond t vs ws) 1 0
+        go true b = low-high (from 1 1000) (getD vs 1 0) (b .1 .0) .0
+        go false b = low-high (from 1 1000) (getD ws 1 0) (b .1 .0) .0
+
+  -- ---- the ids in their order
+
+  -- the id before that of record i, 0 where there is none
+  abbrev idBefore : ℕ → ℕ
+  idBefore zero = 0
+  idBefore (suc i) = idOf s i
+
+  before-next : (i : ℕ) → idBefore (i + 1) ≡ idOf s i
+  before-next i = ap idBefore (add-one i)
+
+  above : (i j : ℕ) → InOrder s i → j < i → idBefore j < idOf s j
+  above i zero o l = sound-id zero (o .sound zero l)
+  above i (suc j) o l = o .rising j l
+
+  one-more : (i : ℕ) → InOrder s i → RecordSound s i → idBefore i < idOf s i → InOrder s (i + 1)
+  one-more i o a l = record { sound = sound; rising = rising }
+    where
+      sound : (j : ℕ) → j < i + 1 → RecordSound s j
+      sound j m = go (ℕ-discrete j i)
+        where
+          go : Dec (j ≡ i) → RecordSound s j
+          go (yes e) = subst (λ (n : ℕ). RecordSound s n) (sym e) a
+          go (no n) = o .sound j (omega (arith, n))
+
+      rising : (j : ℕ) → suc j < i + 1 → idOf s j < idOf s (suc j)
+      rising j m = go (ℕ-discrete (suc j) i)
+        where
+          go : Dec (suc j ≡ i) → idOf s j < idOf s (suc j)
+          go (yes e) = subst (λ (n : ℕ). idBefore n < idOf s n) (sym e) l
+          go (no n) = o .rising j (omega (arith, n))
+
+  fewer : (i j : ℕ) → j ≤ i → InOrder s i → InOrder s j
+  fewer i j l o = record { sound = λ k m. o .sound k (omega arith); rising = λ k m. o .rising k (omega arith) }
+
+  -- ---- from a refusal to its row
+
+  module _ (room : ℕ) where
+    -- the header is read, the sheet has its length and the output is long enough
+    fits-read : (h : Header) → HeaderFits s room h → Fits s room × (headerAt (headerFields s) ≡ h)
+    fits-read h f =
+        let r = header-sound h (f .read) in
+        let c : countOf s ≡ h .count = ap (λ (g : Header). g .count) (r .1) in
+        (record { header = r .0; whole = omega (arith, f .whole); enough = omega (arith, f .fits) }, r .1)
+
+    within-sheet : (i : ℕ) → Fits s room → i < countOf s → 12 + 16 * i + 16 ≤ length s
+    within-sheet i f l = omega (arith, f .whole)
+
+    -- rows 1 to 3
+    header-row : (k p : ℕ) → readHeader s ≡ refused k p → Row s room k p
+    header-row k p e = go (ℕ-discrete k 1) (ℕ-discrete k 2) (ℕ-discrete k 3)
+      where
+        at : (l : ℕ) → k ≡ l → readHeader s ≡ refused l p
+        at l f = e ∙ ap (λ (n : ℕ). refused n p) f
+
+        back : (l q : ℕ) → k ≡ l → p ≡ q → Row s room l q → Row s room k p
+        back l q f g r = subst (λ (n : ℕ). Row s room n p) (sym f) (subst (λ (n : ℕ). Row s room l n) (sym g) r)
+
+        go : Dec (k ≡ 1) → Dec (k ≡ 2) → Dec (k ≡ 3) → Row s room k p
+        go (yes f) b c = let r = header-read-1 s p .0 (at 1 f) in back 1 0 f (r .1) (sheet-short (r .0))
+        go (no a) (yes f) c = let r = header-read-2 s p .0 (at 2 f) in back 2 0 f (r .2) (version (r .0) (r .1))
+        go (no a) (no b) (yes f) = let r = header-read-3 s p .0 (at 3 f) in back 3 (r .1 .index + 2) f (r .1 .at ∙ omega arith) (header-field (r .1 .index) (r .0) (r .1 .fault))
+        go (no a) (no b) (no c) = absurd (header-read-others s k p a b c e)
+
+    -- rows 4 and 5
+    length-row : (k p : ℕ) (h : Header) → readHeader s ≡ given h → demand (eqb (length s) (12 + 16 * h .count)) 4 ≡ refused k p → Row s room k p
+    length-row k p h read e =
+        let d = demanded (eqb (length s) (12 + 16 * h .count)) 4 k p e in
+        let r = header-sound h read in
+        let c : countOf s ≡ h .count = ap (λ (g : Header). g .count) (r .1) in
+        subst (λ (n : ℕ). Row s room n p) (d .1)
+        (subst (λ (n : ℕ). Row s room 4 n) (sym (d .2)) (sheet-length (r .0) (λ w. eqb-false (length s) (12 + 16 * h .count) (d .0) (w ∙ ap (λ (n : ℕ). 12 + 16 * n) c))))
+
+    room-row : (k p : ℕ) (h : Header) → readHeader s ≡ given h → length s ≡ 12 + 16 * h .count → demand (leb (4 * h .count) room) 5 ≡ refused k p → Row s room k p
+    room-row k p h read whole e =
+        let d = demanded (leb (4 * h .count) room) 5 k p e in
+        let r = header-sound h read in
+        let c : countOf s ≡ h .count = ap (λ (g : Header). g .count) (r .1) in
+        subst (λ (n : ℕ). Row s room n p) (d .1)
+        (subst (λ (n : ℕ). Row s room 5 n) (sym (d .2)) (output-short (r .0) (omega arith) (omega (arith, leb-false (4 * h .count) room (d .0)))))
+
+    -- rows 6 and 7
+    record-row : (k p i : ℕ) → Reached s room i → recordOf s i ≡ refused k p → Row s room k p
+    record-row k p i t e = go (ℕ-discrete k 1) (ℕ-discrete k 6) (ℕ-discrete k 7)
+      where
+        at : (l : ℕ) → k ≡ l → recordOf s i ≡ refused l p
+        at l f = e ∙ ap (λ (n : ℕ). refused n p) f
+
+        back : (l q : ℕ) → k ≡ l → p ≡ q → Row s room l q → Row s room k p
+        back l q f g r = subst (λ (n : ℕ). Row s room n p) (sym f) (subst (λ (n : ℕ). Row s room l n) (sym g) r)
+
+        later-row : LaterFault (λ f. 32 * i + f) (linesOf s i) (fieldsOf s i) p → k ≡ 7 → Row s room k p
+        later-row r f = back 7 (32 * i + (r .index + 2)) f (r .at ∙ omega arith) (field i (r .index) t (r .fault))
+
+        go : Dec (k ≡ 1) → Dec (k ≡ 6) → Dec (k ≡ 7) → Row s room k p
+        go (yes f) x y = absurd (omega (arith, record-read-1 i (recordPart s i) p .0 (at 1 f) .0, part-length i (within-sheet i (t .fits) (t .inside))))
+        go (no a) (yes f) y =
+            let r = record-read-6 i (recordPart s i) p .0 (at 6 f) in
+            back 6 i f (r .2) (kind i t (subst (λ (n : ℕ). within (from 1 8) (kindAt n) ≡ false) (number-read i) (r .1)))
+        go (no a) (no c) (yes f) =
+            later-row (subst (λ (n : ℕ). LaterFault (λ f. 32 * i + f) (linesAt n) (fieldsAt n) p) (number-read i) (record-read-7 i (recordPart s i) p .0 (at 7 f) .1)) f
+        go (no a) (no c) (no d) = absurd (record-read-others i (recordPart s i) k p a c d e)
+
+    -- row 8
+    order-row : (k p i : ℕ) (r : Record) → Reached s room i → recordOf s i ≡ given r → cond (ltb (idBefore i) (r .id)) (given r) (refused 8 i) ≡ refused k p → Row s room k p
+    order-row k p i r t read e = go (ltb (idBefore i) (r .id)) refl e
+      where
+        id : idOf s i ≡ r .id
+        id = sym (record-id-field i) ∙ ap (λ (q : Record). q .id) (record-sound i r read .1)
+
+        at : (j : ℕ) → i ≡ j → r .id ≤ idBefore j → Row s room 8 j
+        at zero f l = absurd (omega (arith, sound-id i (record-sound i r read .0), id))
+        at (suc j) f l =
+            order j (subst (λ (n : ℕ). Reached s room n) f t) (subst (λ (n : ℕ). RecordSound s n) f (record-sound i r read .0))
+            (omega (arith, ap (λ (n : ℕ). idOf s n) f, id))
+
+        go : (b : Bool) → ltb (idBefore i) (r .id) ≡ b → cond b (given r) (refused 8 i) ≡ refused k p → Row s room k p
+        go true f g = given-refused g
+        go false f g = subst (λ (n : ℕ). Row s room n p) (refused-number g) (subst (λ (n : ℕ). Row s room 8 n) (refused-place g) (at i refl (ltb-false (idBefore i) (r .id) f)))
+
+    -- the records in turn
+    records-row : (k p count i : ℕ) → Fits s room → i + count ≡ countOf s → InOrder s i → recordsIn i (idBefore i) (partsFrom s i count) ≡ refused k p → Row s room k p
+    unfolding recordsIn partsFrom soundAfter
+    records-row k p zero i f n o e = given-refused e
+    records-row k p (suc count) i f n o e =
+        go (by (soundAfter i (idBefore i) (recordPart s i)) _ k p e) (λ a l u. records-row k p count (i + 1) f (omega arith) (one-more i o a l) u)
+      where
+        reached : Reached s room i
+        reached = record { fits = f; inside = omega arith; before = o }
+
+        rest : Record → Answer (List Record)
+        rest r = recordsIn (i + 1) (r .id) (partsFrom s (i + 1) count)
+
+        go : By (soundAfter i (idBefore i) (recordPart s i)) (λ r. rest r then λ rs. given (r ∷ rs)) k p
+            → (RecordSound s i → idBefore i < idOf s i → recordsIn (i + 1) (idBefore (i + 1)) (partsFrom s (i + 1) count) ≡ refused k p → Row s room k p) → Row s room k p
+        go (first g) on = here (by (readRecord i (recordPart s i)) _ k p g)
+          where
+            here : By (readRecord i (recordPart s i)) (λ r. cond (ltb (idBefore i) (r .id)) (given r) (refused 8 i)) k p → Row s room k p
+            here (first u) = record-row k p i reached u
+            here (later r read u) = order-row k p i r reached read u
+        go (later r g u) on = there (by (rest r) _ k p u)
+          where
+            a : (recordOf s i ≡ given r) × (idBefore i < r .id)
+            a = sound-read i (idBefore i) (recordPart s i) r g
+
+            id : r .id ≡ idOf s i
+            id = ap (λ (q : Record). q .id) (sym (record-sound i r (a .0) .1)) ∙ record-id-field i
+
+            there : By (rest r) (λ rs. given (r ∷ rs)) k p → Row s room k p
+            there (first w) =
+                on (record-sound i r (a .0) .0) (omega (arith, a .1, id))
+                (ap (λ (n : ℕ). recordsIn (i + 1) n (partsFrom s (i + 1) count)) (before-next i ∙ sym id) ∙ w)
+            there (later rs w x) = given-refused x
+
+    -- the header with the lengths
+    front-row : (k p : ℕ) → headerFor s room ≡ refused k p → Row s room k p
+    unfolding headerFor
+    front-row k p e = go (by (readHeader s) _ k p e)
+      where
+        size : Header → Answer (Unit {0})
+        size h = demand (eqb (length s) (12 + 16 * h .count)) 4
+
+        lent : Header → Answer (Unit {0})
+        lent h = demand (leb (4 * h .count) room) 5
+
+        go : By (readHeader s) (λ h. size h then λ u. lent h then λ v. given h) k p → Row s room k p
+        go (first g) = header-row k p g
+        go (later h read g) = sized (by (size h) _ k p g)
+          where
+            sized : By (size h) (λ u. lent h then λ v. given h) k p → Row s room k p
+            sized (first w) = length-row k p h read w
+            sized (later u w x) = roomy (by (lent h) _ k p x)
+              where
+                roomy : By (lent h) (λ v. given h) k p → Row s room k p
+                roomy (first y) = room-row k p h read (eqb-true (length s) (12 + 16 * h .count) (demand-true (eqb (length s) (12 + 16 * h .count)) 4 u w)) y
+                roomy (later v y z) = given-refused z
+
+    refused-row : (k p : ℕ) → answerOf s room ≡ refused k p → Row s room k p
+    unfolding answerOf sheetIn
+    refused-row k p e = go (by (sheetIn s room) _ k p e)
+      where
+        records : Header → Answer (List Record)
+        records h = recordsIn 0 0 (partsFrom s 0 (h .count))
+
+        go : By {B = Totals} (sheetIn s room) (λ t. given (record { n = t .header .count; failed = failures (verdicts t) })) k p → Row s room k p
+        go (later t g u) = given-refused u
+        go (first g) = whole (by (headerFor s room) _ k p g)
+          where
+            whole : By {B = Sheet} (headerFor s room) (λ h. records h then λ rs. given (record { header = h; records = rs })) k p → Row s room k p
+            whole (first w) = front-row k p w
+            whole (later h w x) = inside (by (records h) _ k p x)
+              where
+                fit : Fits s room × (headerAt (headerFields s) ≡ h)
+                fit = fits-read h (header-fits s room h w)
+
+                inside : By {B = Sheet} (records h) (λ rs. given (record { header = h; records = rs })) k p → Row s room k p
+                inside (first y) =
+                    records-row k p (h .count) 0 (fit .0) (zero-add (h .count) ∙ ap (λ (g : Header). g .count) (sym (fit .1)))
+                    (record { sound = λ j l. absurd (omega arith); rising = λ j l. absurd (omega arith) }) y
+                inside (later rs y z) = given-refused z
+
+    -- ---- from a row to its refusal
+
+    front-refused : (k p : ℕ) → headerFor s room ≡ refused k p → answerOf s room ≡ refused k p
+    unfolding answerOf sheetIn
+    front-refused k p e = stays (sheetIn s room) _ k p (stays (headerFor s room) _ k p e)
+
+    header-refused : (k p : ℕ) → readHeader s ≡ refused k p → answerOf s room ≡ refused k p
+    unfolding headerFor
+    header-refused k p e = front-refused k p (stays (readHeader s) _ k p e)
+
+    front-given : Fits s room → headerFor s room ≡ given (headerAt (headerFields s))
+    unfolding headerFor demand _then_
+    front-given f = rw (header-given (f .header), eq-eqb (length s) (12 + 16 * countOf s) (f .whole), le-leb (4 * countOf s) room (f .enough))
+
+    -- the records before record i are taken
+    taken-to : (P : Answer (List Record) → Type 0) → ((r : Record) (x : Answer (List Record)) → P x → P (x then λ rs. given (r ∷ rs)))
+        → (i : ℕ) → Fits s room → i ≤ countOf s → InOrder s i → (count : ℕ) → P (recordsIn i (idBefore i) (partsFrom s i count)) → P (recordsIn 0 0 (partsFrom s 0 (i + count)))
+    unfolding recordsIn partsFrom soundAfter
+    taken-to P on zero f l o count e = subst (λ (n : ℕ). P (recordsIn 0 0 (partsFrom s 0 n))) (sym (zero-add count)) e
+    taken-to P on (suc i) f l o count e =
+        let r = recordAt (numberOf s i) in
+        let m : i + suc count ≡ suc i + count = omega arith in
+        let read : recordOf s i ≡ given r = record-is i (within-sheet i f (omega arith)) (o .sound i (omega arith)) in
+        let up : idBefore i < r .id = omega (arith, above (suc i) i o (omega arith), record-id-field i) in
+        let next : soundAfter i (idBefore i) (recordPart s i) ≡ given r = goes-on (readRecord i (recordPart s i)) _ r read ∙ rw (lt-ltb (idBefore i) (r .id) up) in
+        let here : P (recordsIn (i + 1) (r .id) (partsFrom s (i + 1) count)) = subst (λ (n : ℕ). P (recordsIn n (r .id) (partsFrom s n count))) (sym (add-one i)) (subst (λ (n : ℕ). P (recordsIn (suc i) n (partsFrom s (suc i) count))) (sym (record-id-field i)) e) in
+        subst (λ (n : ℕ). P (recordsIn 0 0 (partsFrom s 0 n))) m
+        (taken-to P on i f (omega arith) (fewer (suc i) i (omega arith) o) (suc count) (subst P (sym (goes-on (soundAfter i (idBefore i) (recordPart s i)) _ r next)) (on r _ here)))
+
+    record-refused : (k p i : ℕ) → Reached s room i → soundAfter i (idBefore i) (recordPart s i) ≡ refused k p → answerOf s room ≡ refused k p
+    unfolding answerOf sheetIn recordsIn partsFrom
+    record-refused k p i t e =
+        let h = headerAt (headerFields s) in
+        let rest = countOf s - i - 1 in
+        let n : i + suc rest ≡ countOf s = omega (arith, t .inside) in
+        let here : recordsIn i (idBefore i) (partsFrom s i (suc rest)) ≡ refused k p = stays (soundAfter i (idBefore i) (recordPart s i)) _ k p e in
+        let all : recordsIn 0 0 (partsFrom s 0 (countOf s)) ≡ refused k p =
+        subst (λ (m : ℕ). recordsIn 0 0 (partsFrom s 0 m) ≡ refused k p) n
+        (taken-to (λ x. x ≡ refused k p) (λ r x u. stays x _ k p u) i (t .fits) (omega (arith, t .inside)) (t .before) (suc rest) here) in
+        stays (sheetIn s room) _ k p (goes-on (headerFor s room) _ h (front-given (t .fits)) ∙ stays (recordsIn 0 0 (partsFrom s 0 (countOf s))) _ k p all)
+
+    length-refused : HeaderSound s → (length s ≡ 12 + 16 * countOf s → ⊥) → headerFor s room ≡ refused 4 0
+    unfolding headerFor demand _then_
+    length-refused f n = rw (header-given f, ne-eqb (length s) (12 + 16 * countOf s) n)
+
+    room-refused : HeaderSound s → length s ≡ 12 + 16 * countOf s → room < 4 * countOf s → headerFor s room ≡ refused 5 0
+    unfolding headerFor demand _then_
+    room-refused f whole n = rw (header-given f, eq-eqb (length s) (12 + 16 * countOf s) whole, lt-leb (4 * countOf s) room n)
+
+    row-refused : (k p : ℕ) → Row s room k p → answerOf s room ≡ refused k p
+    unfolding soundAfter
+    row-refused k p (sheet-short l) = header-refused 1 0 (header-read-1 s 0 .1 (l, refl))
+    row-refused k p (version l n) = header-refused 2 0 (header-read-2 s 0 .1 (l, n, refl))
+    row-refused k p (header-field f l c) = header-refused 3 (f + 2) (header-read-3 s (f + 2) .1 (l, record { index = f; fault = c; at = omega arith }))
+    row-refused k p (sheet-length f n) = front-refused 4 0 (length-refused f n)
+    row-refused k p (output-short f whole n) = front-refused 5 0 (room-refused f whole n)
+    row-refused k p (kind i t c) =
+        record-refused 6 i i t
+        (stays (readRecord i (recordPart s i)) _ 6 i
+        (record-read-6 i (recordPart s i) i .1
+        (part-length i (within-sheet i (t .fits) (t .inside)), subst (λ (n : ℕ). within (from 1 8) (kindAt n) ≡ false) (sym (number-read i)) c, refl)))
+    row-refused k p (field i f t c) =
+        let q = 32 * i + (f + 2) in
+        let l : LaterFault (λ g. 32 * i + g) (linesOf s i) (fieldsOf s i) q = record { index = f; fault = c; at = omega arith } in
+        record-refused 7 q i t
+        (stays (readRecord i (recordPart s i)) _ 7 q
+        (record-read-7 i (recordPart s i) q .1
+        (part-length i (within-sheet i (t .fits) (t .inside)), subst (λ (n : ℕ). LaterFault (λ g. 32 * i + g) (linesAt n) (fieldsAt n) q) (sym (number-read i)) l)))
+    row-refused k p (order i t a l) =
+        let r = recordAt (numberOf s (suc i)) in
+        record-refused 8 (suc i) (suc i) t
+        (goes-on (readRecord (suc i) (recordPart s (suc i))) _ r (record-is (suc i) (within-sheet (suc i) (t .fits) (t .inside)) a)
+        ∙ rw (le-ltb (idOf s i) (r .id) (omega (arith, record-id-field (suc i)))))
+
+    -- refusal k with place p is given exactly when row k holds with place p and no earlier row does
+    pub refused-exactly : (k p : ℕ) → Exactly (answerOf s room ≡ refused k p) (Row s room k p)
+    refused-exactly k p = (refused-row k p, row-refused k p)
+
+    -- two rows that hold for one sheet are the same row with the same place
+    pub one-row : (k p l q : ℕ) → Row s room k p → Row s room l q → (k ≡ l) × (p ≡ q)
+    one-row k p l q a b = let e = sym (row-refused k p a) ∙ row-refused l q b in (refused-number e, refused-place e)
+
+    -- ---- where no row holds
+
+    -- the records of a sheet that is accepted are taken
+    records-taken : Accepted s room → (rs : List Record) × (recordsIn 0 0 (partsFrom s 0 (countOf s)) ≡ given rs)
+    unfolding recordsIn partsFrom
+    records-taken a =
+        let n : countOf s + 0 ≡ countOf s = omega arith in
+        subst (λ (m : ℕ). (rs : List Record) × (recordsIn 0 0 (partsFrom s 0 m) ≡ given rs)) n
+        (taken-to (λ x. (rs : List Record) × (x ≡ given rs)) (λ r x u. (r ∷ u .0, goes-on x _ (u .0) (u .1))) (countOf s) (a .fits) (omega arith) (a .records) 0 ([], refl))
+
+    pub accepted-given : Accepted s room → (t : Sheet) × (sheetIn s room ≡ given t) × (t .header ≡ headerAt (headerFields s))
+    unfolding sheetIn
+    accepted-given a =
+        let h = headerAt (headerFields s) in
+        let rs = records-taken a in
+        (record { header = h; records = rs .0 }, goes-on (headerFor s room) _ h (front-given (a .fits)) ∙ goes-on (recordsIn 0 0 (partsFrom s 0 (countOf s))) _ (rs .0) (rs .1), refl)
+
+  -- the records of a sheet that is not turned away are within their values, and their ids rise
+  taken-order : (i : ℕ) (rs : List Record) → InOrder s i → Taken s i (idBefore i) rs → InOrder s (i + length rs)
+  taken-order i [] o none = subst (λ (n : ℕ). InOrder s n) (omega arith) o
+  taken-order i (r ∷ rs) o (next e l t) =
+      let a = record-sound i r e in
+      let id : r .id ≡ idOf s i = ap (λ (q : Record). q .id) (sym (a .1)) ∙ record-id-field i in
+      let m : i + 1 + length rs ≡ i + length (r ∷ rs) = omega arith in
+      subst (λ (n : ℕ). InOrder s n) m
+      (taken-order (i + 1) rs (one-more i o (a .0) (omega (arith, id))) (subst (λ (n : ℕ). Taken s (i + 1) n rs) (id ∙ sym (before-next i)) t))
+
+  pub given-accepted : (room : ℕ) (t : Sheet) → sheetIn s room ≡ given t → Accepted s room × (headerAt (headerFields s) ≡ t .header)
+  given-accepted room t e =
+      let w = sheet-whole s room t e in
+      let f = fits-read room (t .header) (w .header) in
+      let n : 0 + length (t .records) ≡ countOf s = zero-add (length (t .records)) ∙ w .number ∙ ap (λ (h : Header). h .count) (sym (f .1)) in
+      let o = taken-order 0 (t .records) (record { sound = λ j l. absurd (omega arith); rising = λ j l. absurd (omega arith) }) (w .records) in
+      (record { fits = f .0; records = subst (λ (m : ℕ). InOrder s m) n o }, f .1)
