@@ -1,5 +1,8 @@
-// The checker, through the static library, beside the peer: the same sheets, in one binary, in alternating runs; medians. On an emulator a time means
-// nothing by itself, so that the figure is the ratio.
+// The checker, through the static library, beside the two peers: the same sheets, in one binary, in alternating runs; medians of the processor's time, so
+// that a busy machine does not show. On an emulator a time means nothing by itself, so that the figure is the ratio.
+//
+//     bench                     the table
+//     bench WHO MIX CALLS       so many calls of one of them (0 the checker, 1 the peer, 2 the strong peer) on a full sheet, for counting instructions
 #include "peer.h"
 
 int printf(const char *format, ...);
@@ -8,11 +11,14 @@ struct timespec {
 };
 int clock_gettime(int clock, struct timespec *now);
 
-uint64_t yard_check(const uint8_t *sheet, uint64_t sheet_len, uint8_t *out, uint64_t out_len);
+Check yard_check;
 
 enum { MOST = 400, RUNS = 15, SIZE = 12 + 16 * MOST };
 
-typedef uint64_t Check(const uint8_t *, uint64_t, uint8_t *, uint64_t);
+// who is timed, in the table's order
+static Check *const checks[] = {yard_check, peer_check, strong_check};
+
+enum { WHO = 3 };
 
 // ---- sheets
 
@@ -63,13 +69,14 @@ static uint64_t sheet(uint8_t *s, unsigned n, enum Mix mix) {
 
 // ---- time
 
+// The processor's time of this process.
 static double now(void) {
     struct timespec t;
-    clock_gettime(1, &t);
+    clock_gettime(2, &t);
     return (double)t.tv_sec * 1e9 + (double)t.tv_nsec;
 }
 
-static uint8_t given[SIZE], out[2][4 * MOST];
+static uint8_t given[SIZE], out[WHO][4 * MOST];
 static volatile uint64_t kept;
 
 static double timed(Check *check, uint64_t size, uint8_t *to, unsigned calls) {
@@ -87,31 +94,47 @@ static double median(double *x) {
     return x[RUNS / 2];
 }
 
-// One row of the table; 1 where the two do not agree.
-static int row(const char *name, unsigned n, enum Mix mix) {
-    uint64_t size = sheet(given, n, mix);
-    double ours[RUNS], theirs[RUNS];
-    unsigned calls = 40000 / (n + 4);
-    uint64_t a = yard_check(given, size, out[0], 4 * MOST), b = peer_check(given, size, out[1], 4 * MOST);
-    int differ = a != b;
-    for (unsigned i = 0; i < 4 * n; i++) differ |= out[0][i] != out[1][i];
-    for (unsigned i = 0; i < RUNS; i++) {
-        ours[i] = timed(yard_check, size, out[0], calls);
-        theirs[i] = timed(peer_check, size, out[1], calls);
+// Whether one of the peers answers or writes otherwise than the checker.
+static int differ(uint64_t size, unsigned n) {
+    uint64_t answers[WHO];
+    int found = 0;
+    for (unsigned w = 0; w < WHO; w++) answers[w] = checks[w](given, size, out[w], 4 * MOST);
+    for (unsigned w = 1; w < WHO; w++) {
+        found |= answers[w] != answers[0];
+        for (unsigned i = 0; i < 4 * n; i++) found |= out[w][i] != out[0][i];
     }
-    double us = median(ours), them = median(theirs);
-    printf("%-26s %4u  %4llu failed  %10.0f ns  %10.0f ns   ratio %.2f%s\n", name, n, (unsigned long long)(a & 65535), us, them, us / them, differ ? "  THE TWO DIFFER" : "");
-    return differ;
+    return found;
 }
 
-int main(void) {
+// One row of the table; 1 where they do not agree.
+static int row(const char *name, unsigned n, enum Mix mix) {
+    uint64_t size = sheet(given, n, mix);
+    double times[WHO][RUNS], middle[WHO];
+    unsigned calls = 40000 / (n + 4);
+    int bad = differ(size, n);
+    for (unsigned i = 0; i < RUNS; i++)
+        for (unsigned w = 0; w < WHO; w++) times[w][i] = timed(checks[w], size, out[w], calls);
+    for (unsigned w = 0; w < WHO; w++) middle[w] = median(times[w]);
+    unsigned failed = (unsigned)(checks[0](given, size, out[0], 4 * MOST) & 65535);
+    printf("%-26s %4u %7u %9.0f ns %9.0f ns %9.0f ns %8.2f %8.2f%s\n", name, n, failed, middle[0], middle[1], middle[2], middle[0] / middle[1],
+           middle[0] / middle[2], bad ? "  THEY DIFFER" : "");
+    return bad;
+}
+
+static int table(void) {
     int bad = 0;
-    printf("%-26s %4s  %11s  %13s  %13s\n", "sheet", "n", "", "checker", "peer");
+    printf("%-26s %4s %7s %12s %12s %12s %8s %8s\n", "sheet", "n", "failed", "checker", "peer", "strong peer", "/ peer", "/ strong");
     bad |= row("all pass", MOST, ALL_PASS);
     bad |= row("all fail at the last rule", MOST, LAST_RULE);
     bad |= row("all sorts", MOST, ALL_SORTS);
-    printf("\nhow the cost grows, all sorts\n");
     static const unsigned sizes[] = {1, 10, 100, 400};
-    for (unsigned i = 0; i < 4; i++) bad |= row("", sizes[i], ALL_SORTS);
+    for (unsigned i = 0; i < 4; i++) bad |= row(i ? "" : "how the cost grows", sizes[i], ALL_SORTS);
     return bad;
+}
+
+int main(int count, char **words) {
+    if (count != 4) return table();
+    uint64_t size = sheet(given, MOST, (enum Mix)(words[2][0] - '0'));
+    timed(checks[words[1][0] - '0'], size, out[0], (unsigned)(words[3][0] - '0'));
+    return 0;
 }
