@@ -25,7 +25,7 @@ module _ (o : List ℕ) (at : ℕ) (x : List ℕ) where
       omega arith
 
   -- two pieces, one after the other, are one
-  laid-laid : (y : List ℕ) → at + length x + length y ≤ length o → laid (laid o at x) (at + length x) y ≡ laid o at (x ++ y)
+  pub laid-laid : (y : List ℕ) → at + length x + length y ≤ length o → laid (laid o at x) (at + length x) y ≡ laid o at (x ++ y)
   unfolding laid
   laid-laid y h =
       let f = front (omega arith) in
@@ -72,13 +72,26 @@ pub laid-front : (o x : List ℕ) → laid o 0 x ≡ x ++ drop (length x) o
 unfolding laid
 laid-front o x = let z : 0 + length x ≡ length x = omega arith in ap (λ (k : ℕ). x ++ drop k o) z
 
--- one piece after another
-pub laid-then : {o : List ℕ} {at : ℕ} {x y : List ℕ} {i j : ℕ} {a b : List ℕ} → at + length x + length y ≤ length o → Laid o at x i a → Laid a i y j b → Laid o at (x ++ y) j b
-laid-then {o} {at} {x} {y} {i} {j} {a} {b} h f g =
-    let l = length-append x y in
-    let p = f .place in
-    let q = g .place in
-    record {
-      place = omega arith;
-      bytes = g .bytes ∙ ap (λ (k : List ℕ). laid k i y) (f .bytes) ∙ ap (λ (k : ℕ). laid (laid o at x) k y) p ∙ laid-laid o at x y h;
-    }
+-- a writer with room was lent them all
+pub put-front : (o x : List ℕ) → length x ≤ length o → {count : ℕ} {after : List ℕ} → Puts x o count after → Laid o 0 x count after
+put-front o x h p = record { place = p .count ∙ count-all x o h ∙ omega arith; bytes = p .bytes ∙ bytes-all x o h ∙ sym (laid-front o x) }
+
+-- a text in two pieces, for which there is room
+module _ (o : List ℕ) (at : ℕ) {text : List ℕ} (x y : List ℕ) (split : text ≡ x ++ y) (fits : at + length text ≤ length o) where
+  sizes : at + length x + length y ≤ length o
+  sizes = omega (arith, ap length split, length-append x y)
+
+  -- there is room for the first
+  pub first-fits : at + length x ≤ length o
+  first-fits = omega (arith, sizes)
+
+  -- and behind it for the second
+  pub second-fits : {i : ℕ} {a : List ℕ} → Laid o at x i a → i + length y ≤ length a
+  second-fits f = omega (arith, sizes, f .place, ap length (f .bytes), laid-length o at x first-fits)
+
+  -- one laid behind the other they are the text
+  pub laid-both : {i : ℕ} {a : List ℕ} {j : ℕ} {b : List ℕ} → Laid o at x i a → Laid a i y j b → Laid o at text j b
+  laid-both {i} {a} {j} {b} f g = record {
+    place = omega (arith, f .place, g .place, ap length split, length-append x y);
+    bytes = g .bytes ∙ ap (λ (k : List ℕ). laid k i y) (f .bytes) ∙ ap (λ (k : ℕ). laid (laid o at x) k y) (f .place) ∙ laid-laid o at x y sizes ∙ ap (laid o at) (sym split);
+  }

@@ -41,6 +41,15 @@ pieces-last {at} (next {b = b} n (next m w)) l = rw (ne-eqb b at n) (ap (onto b)
 
 -- ---- a line of numbers
 
+-- a line of one number, and of more
+pub line-one : (separator : ℕ) (end : List ℕ) (n : ℕ) → lineOf separator end (n ∷ []) ≡ decimalOf n ++ end
+unfolding lineOf moreOf
+line-one separator end n = refl
+
+pub line-more : (separator : ℕ) (end : List ℕ) (n m : ℕ) (ns : List ℕ) → lineOf separator end (n ∷ m ∷ ns) ≡ (decimalOf n ++ (separator ∷ [])) ++ lineOf separator end (m ∷ ns)
+unfolding lineOf moreOf
+line-more separator end n m ns = sym (append-assoc (decimalOf n) (separator ∷ []) (lineOf separator end (m ∷ ns)))
+
 -- a line is the line with no end, and then its end
 more-end : (separator : ℕ) (end ns : List ℕ) → moreOf separator end ns ≡ moreOf separator [] ns ++ end
 unfolding moreOf

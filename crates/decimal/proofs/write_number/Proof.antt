@@ -11,7 +11,7 @@ use borrow.Rule.Slice.PartMut.{putMid}
 use Rattle.decimal.specs.Decimal.{decimalOf}
 use Rattle.decimal.specs.PutLaws.{put-all, put-none}
 use Rattle.decimal.specs.Laid.{Laid}
-use Rattle.decimal.specs.LaidLaws.{laid-length, laid-put, laid-then, laid-front}
+use Rattle.decimal.specs.LaidLaws.{laid-length, laid-put, laid-both, laid-front}
 use Rattle.decimal.proofs.write_number.Statement.{statement}
 use Rattle.decimal.proofs.write_number.Tie as tie
 
@@ -57,8 +57,9 @@ returns-3 c =
     let a = s .before .before .before .before .before .before .before .args in
     let text = decimalOf (a .n) ++ now (a .after) in
     let sized = length-append (decimalOf (a .n)) (now (a .after)) in
-    let l = laid-then (omega (arith, room s)) (spelled s) (after-digits w) in
-    put-all text (now (a .out)) (omega (arith, room s)) _ _ (omega (arith, l .place)) (l .bytes ∙ laid-front (now (a .out)) text)
+    let fits : length text ≤ length (now (a .out)) = omega (arith, room s) in
+    let l = laid-both (now (a .out)) 0 (decimalOf (a .n)) (now (a .after)) refl (omega arith) (spelled s) (after-digits w) in
+    put-all text (now (a .out)) fits _ _ (omega (arith, l .place)) (l .bytes ∙ laid-front (now (a .out)) text)
 
 pub write-number-spec : {M : Type 1} → statement M
 write-number-spec =
