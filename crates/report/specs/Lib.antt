@@ -1,5 +1,6 @@
 pub mod Text
 pub mod TextLaws
 pub mod Page
+pub mod PageLaws
 pub mod Pieces
 pub mod PiecesLaws

@@ -16,10 +16,14 @@ use Rattle.report.specs.Text.{textOf}
 abbrev pub longest : ℕ
 longest = 5608
 
+-- so many bytes of 0
+abbrev pub blank : ℕ → List ℕ
+blank n = replicate n 0
+
 -- the text stands in front, and every byte past it is 0
 pub record Pages (s : List ℕ) (p : Page) : Type 0 where
   pub len : p .len ≡ length (textOf s)
-  pub bytes : p .bytes ≡ textOf s ++ replicate (longest - length (textOf s)) 0
+  pub bytes : p .bytes ≡ textOf s ++ blank (longest - length (textOf s))
 
 -- what the code's answer says
 abbrev pub toldLength : Told → Answer ℕ

@@ -2,23 +2,29 @@
 -- Assumes nothing.
 use Prim.Native.Nat.{ℕ, zero, suc, _+_, _-_, _*_, _≤_, _<_}
 use mathlib.Core.Path.{_≡_, refl, sym, ap, ap₂, subst, _∙_}
+use mathlib.Core.Bool.{Bool, true, false, cond}
 use mathlib.Core.List.{List, [], _∷_, _++_, map}
 use native.Mathlib.Omega.{arith}
 use lib.ListN.{length, take, drop, length-append}
+use lib.Dec.{eqb}
 use Rattle.sheet.specs.declared.Header.{Header}
 use Rattle.sheet.specs.declared.Record.{Record}
+use Rattle.sheet.specs.declared.Refusal.{Refusal}
+use Rattle.sheet.specs.declared.Refusal.the-variants.{SheetShort, Version, HeaderField, SheetLength, OutputShort, Kind, Field, Order}
 use Rattle.sheet.specs.Refusals.{Answer, given, refused, numberOf, placeOf}
 use Rattle.sheet.specs.RefusalLaws.{given-refused, given-same, refused-number, refused-place}
+use Rattle.sheet.specs.HeaderLaws.{header-ranges}
+use Rattle.sheet.specs.HeaderBack.{header-read-fine}
 use Rattle.checker.specs.declared.Entry.{Entry}
 use Rattle.checker.specs.declared.Checked.{Checked}
 use Rattle.checker.specs.declared.Checked.the-variants.{Done, Refused as notDone}
 use Rattle.checker.specs.Entry.{readEntry}
 use Rattle.checker.specs.EntryLaws.{read-sound}
 use Rattle.checker.specs.Check.{_then_, part, recordOf, Sheet, sheetIn, entryOf, verdicts, failures, Totals, answerOf, outputOf, Checks}
-use Rattle.checker.specs.CheckLaws.{Taken, next, sheet-whole, verdict-read, answer-sheet}
+use Rattle.checker.specs.CheckLaws.{Taken, next, sheet-whole, verdict-read, verdicts-count, answer-sheet}
 use Rattle.report.specs.Text.{room, entryNumbers, linesOf, printed, line, linesText, refusedWord, textBy, textOf}
 use Rattle.report.specs.TextLaws.{entry-most, lines-last}
-use Rattle.report.specs.Pieces.{readText, verdictText, verdictsText, refusalText, checkedText}
+use Rattle.report.specs.Pieces.{readText, verdictText, verdictsText, refusalText, checkedText, Counted}
 
 -- ---- how long they are
 
@@ -45,6 +51,48 @@ verdicts-most out i zero = omega arith
 verdicts-most out i (suc count) =
     let b = part out (4 * i) (4 * i + 4) in
     omega (arith, length-append (verdictText b) (verdictsText out (i + 1) count), verdict-most b, verdicts-most out (i + 1) count)
+
+-- a refusal's number is one digit
+pub number-small : (r : Refusal) → numberOf r < 10
+number-small SheetShort = omega arith
+number-small Version = omega arith
+number-small (HeaderField p) = omega arith
+number-small SheetLength = omega arith
+number-small OutputShort = omega arith
+number-small (Kind p) = omega arith
+number-small (Field p) = omega arith
+number-small (Order p) = omega arith
+
+failures-most : (es : List Entry) → failures es ≤ length es
+unfolding failures
+failures-most [] = omega arith
+failures-most (e ∷ es) = go (eqb (e .rule) 0) (failures-most es)
+  where
+    go : (t : Bool) → failures es ≤ length es → cond t 0 1 + failures es ≤ length (e ∷ es)
+    go true l = omega arith
+    go false l = omega arith
+
+-- what is known of a sheet that is not turned away
+pub record Counts (out : List ℕ) (t : Sheet) : Type 0 where
+  pub inside : 4 * t .header .count ≤ length out
+  pub records : t .header .count ≤ 400
+  pub failed : failures (verdicts t) ≤ 400
+
+pub sheet-counts : (s out : List ℕ) (t : Sheet) → sheetIn s (length out) ≡ given t → Counts out t
+sheet-counts s out t e =
+    let h = sheet-whole s (length out) t e .header in
+    let few = header-ranges (t .header) 0 (header-read-fine s (t .header) (h .read)) .count-high in
+    record { inside = h .fits; records = few; failed = omega (arith, failures-most (verdicts t), verdicts-count s out t e) }
+
+-- so that the counts of a check are within their bounds
+pub checked-counted : (s out after : List ℕ) (r : Checked) → length after ≡ length out → Checks s out r after → Counted r after
+checked-counted s out after (Done n failed) l c =
+    let a = answer-sheet s (length out) _ (sym (c .answer)) in
+    let k = sheet-counts s out (a .0) (a .1) in
+    let same-n = ap (λ (w : Totals). w .n) (a .2) in
+    let same-failed = ap (λ (w : Totals). w .failed) (a .2) in
+    (omega (arith, k .inside), omega (arith, k .records), omega (arith, k .failed))
+checked-counted s out after (notDone r) l c = tt
 
 -- ---- the verdicts of a sheet
 

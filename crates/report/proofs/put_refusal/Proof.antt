@@ -1,54 +1,58 @@
+-- `report::put_refusal` meets its contract.
+-- Assumes nothing.
 use borrow.Author.Needs.{needs}
+use Prim.Native.Nat.{ℕ, _+_, _^_, _≤_, _<_}
+use mathlib.Core.Path.{_≡_, sym, ap, ap₂}
+use mathlib.Core.List.{List, [], _∷_, _++_}
+use native.Mathlib.Omega.{arith}
+use denote.Ref.{now}
+use lib.ListN.{length}
+use Rattle.decimal.specs.Laid.{Laid}
+use Rattle.decimal.specs.LaidLaws.{put-front, second-fits, laid-both}
+use Rattle.report.specs.Text.{line, refusedWord}
+use Rattle.report.specs.TextLaws.{pair-most}
+use Rattle.report.specs.Pieces.{refusalText}
+use Rattle.report.specs.PiecesLaws.{number-small}
 use Rattle.report.proofs.put_refusal.Statement.{statement}
 use Rattle.report.proofs.put_refusal.Tie as tie
-use Rattle.report.proofs.put_refusal.Reads as reads
-use Rattle.report.proofs.put_refusal.Lts as lts
-use Rattle.decimal.proofs.write_text.Reads as write-text-reads
-use Rattle.report.proofs.put_pair.Reads as put-pair-reads
-use Rattle.sheet.proofs.Refusal.number.Reads as number-reads
-use Rattle.sheet.proofs.Refusal.place.Reads as place-reads
 
--- src/lib.rt:84:34
-slice-aggregate-write-text : tie.Need-slice-aggregate-write-text
-slice-aggregate-write-text c = search needs
+-- the line of a number and a place, for which there is room
+module _ (c : tie.After-place) where
+  abbrev numbers : List ℕ
+  numbers = c .before .number .result ∷ c .place .result ∷ []
 
--- src/lib.rt:84:9
-write-text-requires : tie.Need-write-text-requires
-write-text-requires c κs = search needs
+  abbrev start : tie.Start
+  start = c .before .before .before .before .before .before .before .before .before
 
--- src/lib.rt:85:24
-number-requires : tie.Need-number-requires
-number-requires c κs = search needs
+  split : refusalText (start .args .r) ≡ refusedWord ++ line numbers
+  unfolding refusalText
+  split = ap₂ {C = List ℕ} (λ k p. refusedWord ++ line (k ∷ p ∷ [])) (sym (c .before .number .ensures)) (sym (c .place .ensures))
 
--- src/lib.rt:85:24
-cast-put-pair : tie.Need-cast-put-pair
-cast-put-pair c = search needs
+  fits : 0 + length (refusalText (start .args .r)) ≤ length (now (start .args .page))
+  fits =
+      let small : c .before .number .result < 10 ^ 1 = omega (arith, c .before .number .ensures, number-small (start .args .r)) in
+      let most = pair-most 0 9 (c .before .number .result) (c .place .result) small (omega arith) in
+      omega (arith, ap length split, most, start .pre)
 
--- src/lib.rt:85:43
-place-requires : tie.Need-place-requires
-place-requires c κs = search needs
+  word : Laid (now (start .args .page)) 0 refusedWord (c .before .before .before .before .before .write-text .result) (c .before .before .before .before .before .write-text .last .1 .0)
+  word = put-front (now (start .args .page)) refusedWord (omega (arith, start .pre)) (c .before .before .before .before .before .write-text .ensures)
 
--- src/lib.rt:85:5
-put-pair-requires : tie.Need-put-pair-requires
-put-pair-requires c κs = ?
-
--- src/lib.rt:80:1
-same-length : tie.Need-same-length
-same-length c = search needs
-
--- src/lib.rt:80:1
 returns : tie.Need-returns
-returns c = ?
+returns c =
+    let q = c .before .before in
+    let p = q .before in
+    let l = laid-both (now (start p .args .page)) 0 refusedWord (line (numbers p)) (split p) (fits p) (word p) (q .put-pair .ensures) in
+    record { place = l .place; bytes = l .bytes }
 
 pub put-refusal-spec : {M : Type 1} → statement M
 put-refusal-spec =
     tie.close
     (tie.spec
-    slice-aggregate-write-text
-    write-text-requires
-    number-requires
-    cast-put-pair
-    place-requires
-    put-pair-requires
-    same-length
+    (λ c. search needs)
+    (λ c κs. search needs)
+    (λ c κs. search needs)
+    (λ c. search needs)
+    (λ c κs. search needs)
+    (λ c κs. second-fits (now (start c .args .page)) 0 refusedWord (line (numbers c)) (split c) (fits c) (word c))
+    (λ c. search needs)
     returns)
