@@ -4,3 +4,5 @@ pub mod Page
 pub mod PageLaws
 pub mod Pieces
 pub mod PiecesLaws
+pub mod Rows
+pub mod Longest

@@ -5,7 +5,7 @@ use mathlib.Core.Path.{_≡_, refl, sym, ap, ap₂, subst, _∙_}
 use mathlib.Core.Bool.{Bool, true, false, cond}
 use mathlib.Core.List.{List, [], _∷_, _++_, map}
 use native.Mathlib.Omega.{arith}
-use lib.ListN.{length, take, drop, length-append}
+use lib.ListN.{length, take, drop, length-append, length-map}
 use lib.Dec.{eqb}
 use Rattle.sheet.specs.declared.Header.{Header}
 use Rattle.sheet.specs.declared.Record.{Record}
@@ -21,7 +21,7 @@ use Rattle.checker.specs.declared.Checked.the-variants.{Done, Refused as notDon
 use Rattle.checker.specs.Entry.{readEntry}
 use Rattle.checker.specs.EntryLaws.{read-sound}
 use Rattle.checker.specs.Check.{_then_, part, recordOf, Sheet, sheetIn, entryOf, verdicts, failures, Totals, answerOf, outputOf, Checks}
-use Rattle.checker.specs.CheckLaws.{Taken, next, sheet-whole, verdict-read, verdicts-count, answer-sheet}
+use Rattle.checker.specs.CheckLaws.{Taken, next, sheet-whole, verdict-read, answer-sheet}
 use Rattle.report.specs.Text.{room, entryNumbers, linesOf, printed, line, linesText, refusedWord, textBy, textOf}
 use Rattle.report.specs.TextLaws.{entry-most, lines-last}
 use Rattle.report.specs.Pieces.{readText, verdictText, verdictsText, refusalText, checkedText, Counted}
@@ -72,23 +72,25 @@ failures-most (e ∷ es) = go (eqb (e .rule) 0) (failures-most es)
     go true l = omega arith
     go false l = omega arith
 
--- what is known of a sheet that is not turned away
-pub record Counts (out : List ℕ) (t : Sheet) : Type 0 where
-  pub inside : 4 * t .header .count ≤ length out
+-- the counts of a sheet that is not turned away, in an output of so many bytes
+pub record Counts (space : ℕ) (t : Sheet) : Type 0 where
+  pub inside : 4 * t .header .count ≤ space
   pub records : t .header .count ≤ 400
   pub failed : failures (verdicts t) ≤ 400
 
-pub sheet-counts : (s out : List ℕ) (t : Sheet) → sheetIn s (length out) ≡ given t → Counts out t
-sheet-counts s out t e =
-    let h = sheet-whole s (length out) t e .header in
-    let few = header-ranges (t .header) 0 (header-read-fine s (t .header) (h .read)) .count-high in
-    record { inside = h .fits; records = few; failed = omega (arith, failures-most (verdicts t), verdicts-count s out t e) }
+pub sheet-counts : (s : List ℕ) (space : ℕ) (t : Sheet) → sheetIn s space ≡ given t → Counts space t
+unfolding verdicts
+sheet-counts s space t e =
+    let w = sheet-whole s space t e in
+    let few = header-ranges (t .header) 0 (header-read-fine s (t .header) (w .header .read)) .count-high in
+    let one-each = length-map (t .records) (entryOf (t .header)) in
+    record { inside = w .header .fits; records = few; failed = omega (arith, failures-most (verdicts t), one-each, w .number) }
 
 -- so that the counts of a check are within their bounds
 pub checked-counted : (s out after : List ℕ) (r : Checked) → length after ≡ length out → Checks s out r after → Counted r after
 checked-counted s out after (Done n failed) l c =
     let a = answer-sheet s (length out) _ (sym (c .answer)) in
-    let k = sheet-counts s out (a .0) (a .1) in
+    let k = sheet-counts s (length out) (a .0) (a .1) in
     let same-n = ap (λ (w : Totals). w .n) (a .2) in
     let same-failed = ap (λ (w : Totals). w .failed) (a .2) in
     (omega (arith, k .inside), omega (arith, k .records), omega (arith, k .failed))
