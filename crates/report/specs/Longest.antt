@@ -5,7 +5,7 @@ use mathlib.Core.Path.{_≡_, refl, sym, ap, ap₂, subst, _∙_}
 use mathlib.Core.List.{List, [], _∷_, _++_, map}
 use native.Mathlib.Omega.{arith}
 use native.Mathlib.Decide.{decLt}
-use lib.ListN.{length, take, length-append, length-map}
+use lib.ListN.{length, take, drop, length-append}
 use lib.Seq.{take-all, take-take}
 use lib.Dec.{leb, eqb}
 use borrow.Author.Tests.{le-leb}
@@ -23,9 +23,11 @@ use Rattle.checker.specs.Sound.{entry-sound}
 use Rattle.checker.specs.Longer.{enough, answer-cut}
 use Rattle.report.specs.Text.{room, entryNumbers, linesOf, printed, line, linesText, refusedWord, textBy, textOf}
 use Rattle.report.specs.TextLaws.{pair-most, entry-most, lines-last}
-use Rattle.report.specs.Page.{longest}
+use Rattle.decimal.specs.Put.{putOn}
+use Rattle.report.specs.declared.Told.{Told}
+use Rattle.report.specs.Page.{longest, toldLength, lengthIn, Tells}
 use Rattle.report.specs.PiecesLaws.{Counts, sheet-counts, answer-refused}
-use Rattle.report.specs.Rows.{Row, Told, sheet-told}
+use Rattle.report.specs.Rows.{Row, Refusable, sheet-told}
 
 -- ---- the longest
 
@@ -44,19 +46,33 @@ sheet-most s t e =
     let k = sheet-counts s room t e in
     let vs = linesText (map entryNumbers (verdicts t)) in
     let totals = t .header .count ∷ failures (verdicts t) ∷ [] in
-    omega (arith, ap length (lines-last (map entryNumbers (verdicts t)) totals), length-append vs (line totals), lines-most (t .header) s 0 0 (t .records) (w .records), w .number, k .records,
-    pair-most 2 2 (t .header .count) (failures (verdicts t)) (omega (arith, k .records)) (omega (arith, k .failed)))
+    omega (
+      arith,
+      ap length (lines-last (map entryNumbers (verdicts t)) totals),
+      length-append vs (line totals),
+      lines-most (t .header) s 0 0 (t .records) (w .records),
+      w .number,
+      k .records,
+      pair-most 2 2 (t .header .count) (failures (verdicts t)) (omega (arith, k .records)) (omega (arith, k .failed)),
+    )
 
 -- every text has room on a page
 pub text-most : (s : List ℕ) → length (textOf s) ≤ longest
 unfolding textOf printed textBy _then_
 text-most s = go (sheetIn s room) refl (sheet-told s room)
   where
-    go : (x : Answer Sheet) → sheetIn s room ≡ x → Told x → length (textBy (x then λ t. given (linesOf t))) ≤ longest
+    go : (x : Answer Sheet) → sheetIn s room ≡ x → Refusable x → length (textBy (x then λ t. given (linesOf t))) ≤ longest
     go (given t) e r = sheet-most s t e
     go (refused k p) e r =
         let most = pair-most 0 4 k p (omega (arith, r .last)) (omega (arith, r .inside)) in
         omega (arith, length-append refusedWord (line (k ∷ p ∷ [])), most)
+
+-- so that a slice as long as a page is never too short
+pub told-all : (s o : List ℕ) (r : Told) (after : List ℕ) → longest ≤ length o → Tells s o r after → (toldLength r ≡ given (length (textOf s))) × (after ≡ textOf s ++ drop (length (textOf s)) o)
+unfolding lengthIn putOn
+told-all s o r after l t =
+    let fits = le-leb (length (textOf s)) (length o) (omega (arith, text-most s)) in
+    (t .answer ∙ rw fits, t .bytes ∙ rw fits)
 
 -- ---- the output's room
 

@@ -42,6 +42,10 @@ module _ (s : List ℕ) (p : Page) (page : Pages s p) where
   pub page-text : take (p .len) (p .bytes) ≡ textOf s
   page-text = ap (take (p .len)) (page .bytes) ∙ take-at (textOf s) (blank (longest - length (textOf s))) (p .len) (sym (page .len))
 
+-- a page is that of every sheet with the same text
+pub page-same : (s t : List ℕ) (p : Page) → textOf s ≡ textOf t → Pages s p → Pages t p
+page-same s t p e f = record { len = f .len ∙ ap length e; bytes = f .bytes ∙ ap (λ (x : List ℕ). x ++ blank (longest - length x)) e }
+
 pub page-only : (s : List ℕ) (p q : Page) → Pages s p → Pages s q → p ≡ q
 page-only s p q f g = ap₂ {C = Page} (λ b l. record { bytes = b; len = l }) (f .bytes ∙ sym (g .bytes)) (f .len ∙ sym (g .len))
 
