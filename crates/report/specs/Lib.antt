@@ -6,3 +6,5 @@ pub mod Pieces
 pub mod PiecesLaws
 pub mod Rows
 pub mod Longest
+pub mod Reading
+pub mod Back
