@@ -32,13 +32,13 @@ fn spell(n: u32, count: usize, out: &mut [u8])
     ensures { λ _. ⌜ now (out .exit) ≡ decimalOf n ++ drop count (now (out .entry)) ⌝ }
 {
     let mut at = count;
-    let mut rest = n;
-    while 10 <= rest {
+    let mut left = n;
+    while 10 <= left {
         at -= 1;
-        out[at] = digit(rest);
-        rest /= 10;
+        out[at] = digit(left);
+        left /= 10;
     }
-    out[0] = digit(rest);
+    out[0] = digit(left);
 }
 
 // The text at the front of `out`, and how many bytes it has; 0 where there is no room for it.

@@ -13,9 +13,14 @@ ghost use Rattle.report.specs.Text.{entryNumbers, line};
 ghost use Rattle.report.specs.Page.{Tells, Pages};
 ghost use Rattle.report.specs.Pieces.{verdictText, verdictsText, refusalText, checkedText, Roomy};
 
-// The text of an answer, and how many bytes of the page it takes; the others are 0. The longest text, of 400 records, takes them all.
+// Room for the verdicts of the longest sheet, and for its text: 400 lines of 14 bytes, and one of 8.
+const VERDICTS: usize = 1600;
+
+const LONGEST: usize = 5608;
+
+// The text of an answer, and how many bytes of the page it takes; the others are 0.
 pub struct Page {
-    pub bytes: [u8; 5608],
+    pub bytes: [u8; LONGEST],
     pub len: usize,
 }
 
@@ -103,9 +108,9 @@ fn put_checked(checked: Checked, out: &[u8], page: &mut [u8]) -> usize
 pub fn page_of(sheet: &[u8]) -> Page
     ensures { λ r. ⌜ Pages (now (sheet .entry)) r ⌝ }
 {
-    let mut out = [0u8; 1600];
+    let mut out = [0u8; VERDICTS];
     let checked = checker::check(sheet, &mut out);
-    let mut bytes = [0u8; 5608];
+    let mut bytes = [0u8; LONGEST];
     let len = put_checked(checked, &out, &mut bytes);
     Page { bytes, len }
 }
