@@ -141,9 +141,9 @@ answer-refused s room k p e = go (sheetIn s room) e
     go (refused l q) f = ap₂ refused (refused-number f) (refused-place f)
 
 -- the pieces are the text
-pub text-checked : (s out after : List ℕ) (r : Checked) → length out ≡ room → Checks s out r after → checkedText r after ≡ textOf s
+pub text-checked : (s out after : List ℕ) (r : Checked) → Checks s out r after → length out ≡ room → checkedText r after ≡ textOf s
 unfolding checkedText refusalText
-text-checked s out after (Done n failed) l c =
+text-checked s out after (Done n failed) c l =
     let a = answer-sheet s (length out) _ (sym (c .answer)) in
     let t = a .0 in
     let totals : _≡_ {A = List ℕ} (n ∷ failed ∷ []) (t .header .count ∷ failures (verdicts t) ∷ []) = ap (λ (w : Totals). w .n ∷ w .failed ∷ []) (a .2) in
@@ -151,4 +151,4 @@ text-checked s out after (Done n failed) l c =
     ∙ ap₂ {C = List ℕ} (λ x w. x ++ line w) (lines-verdicts s out t (a .1)) totals
     ∙ sym (lines-last (map entryNumbers (verdicts t)) (t .header .count ∷ failures (verdicts t) ∷ []))
     ∙ sym (printed-given s t (ap (sheetIn s) (sym l) ∙ a .1))
-text-checked s out after (notDone r) l c = sym (printed-refused s (numberOf r) (placeOf r) (ap (sheetIn s) (sym l) ∙ answer-refused s (length out) (numberOf r) (placeOf r) (sym (c .answer))))
+text-checked s out after (notDone r) c l = sym (printed-refused s (numberOf r) (placeOf r) (ap (sheetIn s) (sym l) ∙ answer-refused s (length out) (numberOf r) (placeOf r) (sym (c .answer))))

@@ -86,8 +86,10 @@ fn put_refusal(page: &mut [u8], r: Refusal) -> usize
     requires { ⌜ 21 ≤ length (now page) ⌝ }
     ensures { λ len. ⌜ Laid (now (page .entry)) 0 (refusalText r) len (now (page .exit)) ⌝ }
 {
+    let number = r.number() as u32;
+    let place = r.place();
     let at = decimal::write_text(b"refused ", page);
-    put_pair(page, at, r.number() as u32, r.place())
+    put_pair(page, at, number, place)
 }
 
 // The text of what a check answered, with the output that it left.

@@ -25,5 +25,5 @@ width-spec =
     (λ c. (omega arith, omega arith))
     (λ c. omega arith)
     (λ c. omega arith)
-    (λ c. (omega (arith, one-longer (c .before .loop .rest) (c .loop-test .taken)), omega arith))
-    (λ c. omega (arith, ap length (decimal-one (c .before .loop .rest) (c .loop-test .left)))))
+    (λ c. (omega (arith, one-longer (c .before .loop .rest) (omega arith)), omega arith))
+    (λ c. omega (arith, ap length (decimal-one (c .before .loop .rest) (omega arith)))))

@@ -1,14 +1,7 @@
 -- `report::page_of` meets its contract.
 -- Assumes nothing.
 use borrow.Author.Needs.{needs}
-use Prim.Native.Nat.{ℕ, _-_, _≤_}
-use mathlib.Core.Path.{_≡_, refl, sym, ap, subst, _∙_}
-use mathlib.Core.List.{List, _++_}
 use native.Mathlib.Omega.{arith}
-use denote.Ref.{now}
-use lib.ListN.{length, replicate, length-replicate}
-use Rattle.report.specs.Text.{room, textOf}
-use Rattle.report.specs.Page.{longest, Pages}
 use Rattle.report.specs.PageLaws.{page-laid}
 use Rattle.report.specs.PiecesLaws.{checked-counted, text-checked}
 use Rattle.report.proofs.page_of.Statement.{statement}
@@ -23,7 +16,7 @@ returns : tie.Need-returns
 returns c =
     let p = c .before in
     let k = p .before .before .before .before in
-    page-laid _ _ _ (p .put-checked .ensures) (text-checked _ _ _ (k .check .result) refl (k .check .ensures))
+    page-laid _ _ _ (p .put-checked .ensures) (text-checked _ _ _ (k .check .result) (k .check .ensures) (omega arith))
 
 pub page-of-spec : {M : Type 1} → statement M
 page-of-spec =

@@ -52,6 +52,14 @@ module _ (c : tie.After-checked2) where
       let most = pair-most 2 2 n (c .checked2 .given .0 .1 .0) (omega (arith, k .1)) (omega (arith, k .2)) in
       omega (arith, ap length split, length-append first totals, verdicts-most (now (start .args .out)) 0 n, most, start .pre .room, k .1)
 
+returns-2 : tie.Need-returns-2
+returns-2 c =
+    let q = c .before .before in
+    let p = q .before .before .before .before in
+    let m = p .before .before .before in
+    let l = laid-both (now (start m .args .page)) 0 (first m) (totals m) (split m) (fits m) (p .put-verdicts .ensures) (q .put-pair .ensures) in
+    record { place = l .place; bytes = l .bytes }
+
 put-verdicts-requires : tie.Need-put-verdicts-requires
 put-verdicts-requires c κs =
     let m = c .before .before in
@@ -63,14 +71,6 @@ put-pair-requires c κs =
     let p = c .before .before .before in
     let m = p .before .before .before in
     second-fits (now (start m .args .page)) 0 (first m) (totals m) (split m) (fits m) (p .put-verdicts .ensures)
-
-returns-2 : tie.Need-returns-2
-returns-2 c =
-    let q = c .before .before in
-    let p = q .before .before .before .before in
-    let m = p .before .before .before in
-    let l = laid-both (now (start m .args .page)) 0 (first m) (totals m) (split m) (fits m) (p .put-verdicts .ensures) (q .put-pair .ensures) in
-    record { place = l .place; bytes = l .bytes }
 
 pub put-checked-spec : {M : Type 1} → statement M
 put-checked-spec =

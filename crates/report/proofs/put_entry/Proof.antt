@@ -23,6 +23,14 @@ second e = line (e .rule ∷ e .required ∷ [])
 split : (e : Entry) → line (entryNumbers e) ≡ first e ++ second e
 split e = line-more 32 (10 ∷ []) (e .id) (e .rule) (e .required ∷ [])
 
+returns : tie.Need-returns
+returns c =
+    let q = c .before .before in
+    let p = q .before .before .before .before .before in
+    let s = p .before .before .before .before .before in
+    let l = laid-both (now (s .args .page)) (s .args .at) (first (s .args .e)) (second (s .args .e)) (split (s .args .e)) (s .pre) (p .put-number .ensures) (q .put-pair .ensures) in
+    record { place = l .place; bytes = l .bytes }
+
 put-number-requires : tie.Need-put-number-requires
 put-number-requires c κs =
     let s = c .before .before .before .before in
@@ -33,14 +41,6 @@ put-pair-requires c κs =
     let p = c .before .before .before .before in
     let s = p .before .before .before .before .before in
     second-fits (now (s .args .page)) (s .args .at) (first (s .args .e)) (second (s .args .e)) (split (s .args .e)) (s .pre) (p .put-number .ensures)
-
-returns : tie.Need-returns
-returns c =
-    let q = c .before .before in
-    let p = q .before .before .before .before .before in
-    let s = p .before .before .before .before .before in
-    let l = laid-both (now (s .args .page)) (s .args .at) (first (s .args .e)) (second (s .args .e)) (split (s .args .e)) (s .pre) (p .put-number .ensures) (q .put-pair .ensures) in
-    record { place = l .place; bytes = l .bytes }
 
 pub put-entry-spec : {M : Type 1} → statement M
 put-entry-spec =

@@ -22,6 +22,14 @@ second n = decimalOf n ++ (10 ∷ [])
 split : (m n : ℕ) → line (m ∷ n ∷ []) ≡ first m ++ second n
 split m n = line-more 32 (10 ∷ []) m n [] ∙ ap (λ (t : List ℕ). first m ++ t) (line-one 32 (10 ∷ []) n)
 
+returns : tie.Need-returns
+returns c =
+    let q = c .before .before in
+    let p = q .before .before .before .before .before in
+    let s = p .before .before .before .before in
+    let l = laid-both (now (s .args .page)) (s .args .at) (first (s .args .m)) (second (s .args .n)) (split (s .args .m) (s .args .n)) (s .pre) (p .put-number .ensures) (q .put-number2 .ensures) in
+    record { place = l .place; bytes = l .bytes }
+
 put-number-requires : tie.Need-put-number-requires
 put-number-requires c κs =
     let s = c .before .before .before in
@@ -32,14 +40,6 @@ put-number-requires-2 c κs =
     let p = c .before .before .before .before in
     let s = p .before .before .before .before in
     second-fits (now (s .args .page)) (s .args .at) (first (s .args .m)) (second (s .args .n)) (split (s .args .m) (s .args .n)) (s .pre) (p .put-number .ensures)
-
-returns : tie.Need-returns
-returns c =
-    let q = c .before .before in
-    let p = q .before .before .before .before .before in
-    let s = p .before .before .before .before in
-    let l = laid-both (now (s .args .page)) (s .args .at) (first (s .args .m)) (second (s .args .n)) (split (s .args .m) (s .args .n)) (s .pre) (p .put-number .ensures) (q .put-number2 .ensures) in
-    record { place = l .place; bytes = l .bytes }
 
 pub put-pair-spec : {M : Type 1} → statement M
 put-pair-spec =

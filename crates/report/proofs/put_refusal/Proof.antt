@@ -16,13 +16,13 @@ use Rattle.report.specs.PiecesLaws.{number-small}
 use Rattle.report.proofs.put_refusal.Statement.{statement}
 use Rattle.report.proofs.put_refusal.Tie as tie
 
--- the line of a number and a place, for which there is room
+-- the line of the number and the place, for which there is room
 module _ (c : tie.After-place) where
+  abbrev start : tie.Start
+  start = c .before .before .before
+
   abbrev numbers : List ℕ
   numbers = c .before .number .result ∷ c .place .result ∷ []
-
-  abbrev start : tie.Start
-  start = c .before .before .before .before .before .before .before .before .before
 
   split : refusalText (start .args .r) ≡ refusedWord ++ line numbers
   unfolding refusalText
@@ -34,25 +34,35 @@ module _ (c : tie.After-place) where
       let most = pair-most 0 9 (c .before .number .result) (c .place .result) small (omega arith) in
       omega (arith, ap length split, most, start .pre)
 
-  word : Laid (now (start .args .page)) 0 refusedWord (c .before .before .before .before .before .write-text .result) (c .before .before .before .before .before .write-text .last .1 .0)
-  word = put-front (now (start .args .page)) refusedWord (omega (arith, start .pre)) (c .before .before .before .before .before .write-text .ensures)
+-- the word stands in front
+word : (c : tie.After-write-text) → Laid (now (start (c .before .before .before) .args .page)) 0 refusedWord (c .write-text .result) (c .write-text .last .1 .0)
+word c =
+    let s = start (c .before .before .before) in
+    put-front (now (s .args .page)) refusedWord (omega (arith, s .pre)) (c .write-text .ensures)
 
 returns : tie.Need-returns
 returns c =
     let q = c .before .before in
-    let p = q .before in
-    let l = laid-both (now (start p .args .page)) 0 refusedWord (line (numbers p)) (split p) (fits p) (word p) (q .put-pair .ensures) in
+    let w = q .before .before .before .before in
+    let p = w .before .before .before in
+    let l = laid-both (now (start p .args .page)) 0 refusedWord (line (numbers p)) (split p) (fits p) (word w) (q .put-pair .ensures) in
     record { place = l .place; bytes = l .bytes }
+
+put-pair-requires : tie.Need-put-pair-requires
+put-pair-requires c κs =
+    let w = c .before .before .before in
+    let p = w .before .before .before in
+    second-fits (now (start p .args .page)) 0 refusedWord (line (numbers p)) (split p) (fits p) (word w)
 
 pub put-refusal-spec : {M : Type 1} → statement M
 put-refusal-spec =
     tie.close
     (tie.spec
-    (λ c. search needs)
-    (λ c κs. search needs)
     (λ c κs. search needs)
     (λ c. search needs)
     (λ c κs. search needs)
-    (λ c κs. second-fits (now (start c .args .page)) 0 refusedWord (line (numbers c)) (split c) (fits c) (word c))
+    (λ c. search needs)
+    (λ c κs. search needs)
+    put-pair-requires
     (λ c. search needs)
     returns)
