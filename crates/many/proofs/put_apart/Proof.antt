@@ -48,7 +48,7 @@ returns c =
     let len = t .told .given .0 .0 in
     let o = w .write-answer .last .1 .0 in
     record {
-      inside = omega (arith, behind t, length-set o len 10);
+      inside = simp length-set (omega (arith, behind t));
       text = ap (λ (k : ℕ). take k (set o len 10)) (add-one len)
           ∙ take-suc-set o len 10 (behind t)
           ∙ ap (λ (x : List ℕ). x ++ (10 ∷ [])) (ap (take len) (told w .1) ∙ take-at (text w) (drop (length (text w)) (now (start w .args .text))) len (sym (len-is t)));
@@ -68,7 +68,7 @@ put-apart-spec =
     (λ c. behind (c .before))
     (λ c. omega (arith, behind (c .before), same (c .before .before .before .before .before)))
     (λ c. search needs)
-    (λ c. let w = c .before .before .before .before .before in length-set (w .write-answer .last .1 .0) (c .before .told .given .0 .0) 10 ∙ same w)
+    (λ c. let w = c .before .before .before .before .before in length-set (w .write-answer .last .1 .0) (c .before .told .given .0 .0) _ ∙ same w)
     returns
     (λ c. search needs)
     returns-2)
