@@ -3,7 +3,7 @@
 use libc::STDIN_FILENO;
 use libc::STDOUT_FILENO;
 use report::Told;
-ghost use Prim.Native.Nat.{_<_};
+ghost use Prim.Native.Nat.{_<_, _≤_};
 ghost use lib.ListN.{length};
 ghost use Rattle.report.specs.Page.{longest};
 ghost use Rattle.many.specs.Apart.{Apart};
@@ -34,10 +34,9 @@ fn print_apart(sheet: &[u8]) {
 }
 
 // The sheet of so many bytes that comes next, or false where it does not come whole.
-fn one_sheet(space: &mut [u8], n: usize) -> bool {
-    if space.len() < n {
-        return false;
-    }
+fn one_sheet(space: &mut [u8], n: usize) -> bool
+    requires { ⌜ n ≤ length (now space) ⌝ }
+{
     let got = io::read_full(STDIN_FILENO, &mut space[0..n]);
     if got < n {
         return false;
@@ -47,14 +46,20 @@ fn one_sheet(space: &mut [u8], n: usize) -> bool {
 }
 
 // One sheet of the stream, or false at its end.
-fn turn(space: &mut [u8]) -> bool {
+fn turn(space: &mut [u8]) -> bool
+    requires { ⌜ 65536 ≤ length (now space) ⌝ }
+{
     let mut head = [0u8; 4];
     let got = io::read_full(STDIN_FILENO, &mut head);
     if got == 0 {
         return false;
     }
     let n = layout::read_half(&head) as usize;
-    if got < 4 || 65536 < n {
+    if got < 4 {
+        broken();
+        return false;
+    }
+    if 65536 < n {
         broken();
         return false;
     }

@@ -1,13 +1,13 @@
 -- A printed text reads back as the numbers that it was made of, so that two answers with the same text are equal.
 -- Assumes nothing.
-use Prim.Native.Nat.{ℕ, _≤_, _<_}
+use Prim.Native.Nat.{ℕ, _≤_}
 use mathlib.Core.Path.{_≡_, refl, sym, ap, ap₂, _∙_}
 use mathlib.Core.List.{List, [], _∷_, _++_, map, append-assoc, append-nil}
 use native.Mathlib.Omega.{arith}
 use lib.ListN.{length, getD}
 use borrow.Author.Tests.{ne-eqb}
 use Rattle.decimal.specs.Decimal.{decimalOf}
-use Rattle.decimal.specs.DecimalLaws.{Digits, none, next, decimal-digits, decimal-some}
+use Rattle.decimal.specs.DecimalLaws.{Digits, next, decimal-digits, decimal-some}
 use Rattle.decimal.specs.Line.{lineOf, moreOf, pieces, numbersIn}
 use Rattle.decimal.specs.LineLaws.{pieces-first, line-end, line-without, line-back}
 use Rattle.sheet.specs.Refusals.{Answer, given, refused}

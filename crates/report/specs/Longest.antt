@@ -1,23 +1,20 @@
 -- No text is longer than a page, and none rests on more of the sheet or of the output than is there.
 -- Assumes nothing.
 use Prim.Native.Nat.{ℕ, _+_, _*_, _≤_}
-use mathlib.Core.Path.{_≡_, refl, sym, ap, ap₂, subst, _∙_}
+use mathlib.Core.Path.{_≡_, refl, sym, ap, _∙_}
 use mathlib.Core.List.{List, [], _∷_, _++_, map}
 use native.Mathlib.Omega.{arith}
-use native.Mathlib.Decide.{decLt}
 use lib.ListN.{length, take, drop, length-append}
 use lib.Seq.{take-all, take-take}
-use lib.Dec.{leb, eqb}
 use borrow.Author.Tests.{le-leb}
 use Rattle.sheet.specs.declared.Header.{Header}
 use Rattle.sheet.specs.declared.Record.{Record}
 use Rattle.sheet.specs.Refusals.{Answer, given, refused}
-use Rattle.sheet.specs.RefusalLaws.{given-refused}
 use Rattle.sheet.specs.Header.{readHeader}
 use Rattle.sheet.specs.HeaderLaws.{header-ranges}
 use Rattle.sheet.specs.HeaderBack.{header-read-fine}
 use Rattle.sheet.specs.RecordBack.{record-read-fine}
-use Rattle.checker.specs.Check.{_then_, demand, headerFor, recordPart, partsFrom, recordsIn, Sheet, sheetIn, entryOf, verdicts, failures, answerOf}
+use Rattle.checker.specs.Check.{_then_, demand, headerFor, recordPart, Sheet, sheetIn, entryOf, verdicts, failures, answerOf}
 use Rattle.checker.specs.CheckLaws.{Taken, next, sheet-whole}
 use Rattle.checker.specs.Sound.{entry-sound}
 use Rattle.checker.specs.Longer.{enough, answer-cut}
@@ -26,8 +23,8 @@ use Rattle.report.specs.TextLaws.{pair-most, entry-most, lines-last}
 use Rattle.decimal.specs.Put.{putOn}
 use Rattle.report.specs.declared.Told.{Told}
 use Rattle.report.specs.Page.{longest, toldLength, lengthIn, Tells}
-use Rattle.report.specs.PiecesLaws.{Counts, sheet-counts, answer-refused}
-use Rattle.report.specs.Rows.{Row, Refusable, sheet-told}
+use Rattle.report.specs.PiecesLaws.{sheet-counts, answer-refused}
+use Rattle.report.specs.Rows.{Refusable, sheet-told}
 
 -- ---- the longest
 

@@ -1,13 +1,13 @@
 -- A page, and a slice, with a text in front: when the promises are met, and that two results which meet one are equal.
 -- Assumes nothing.
 use Prim.Native.Nat.{ℕ, zero, suc, _-_, _≤_, _<_}
-use mathlib.Core.Path.{_≡_, refl, sym, ap, ap₂, _∙_}
-use mathlib.Core.List.{List, [], _∷_, _++_}
+use mathlib.Core.Path.{_≡_, sym, ap, ap₂, _∙_}
+use mathlib.Core.List.{List, _++_}
 use native.Mathlib.Omega.{arith}
 use lib.ListN.{length, take, drop, length-append}
 use lib.Seq.{take-at}
 use borrow.Author.Tests.{le-leb, lt-leb}
-use Rattle.decimal.specs.Put.{putOn, Puts}
+use Rattle.decimal.specs.Put.{putOn}
 use Rattle.decimal.specs.PutLaws.{put-none}
 use Rattle.decimal.specs.Laid.{Laid}
 use Rattle.decimal.specs.LaidLaws.{laid-front}

@@ -1,7 +1,7 @@
 -- `many::put_apart` meets its contract: the text is told, and there is room behind it.
 -- Assumes nothing.
 use borrow.Author.Needs.{needs}
-use Prim.Native.Nat.{ℕ, suc, _+_, _<_, _≤_}
+use Prim.Native.Nat.{ℕ, _+_, _<_}
 use mathlib.Core.Path.{_≡_, sym, ap, _∙_}
 use mathlib.Core.List.{List, [], _∷_, _++_}
 use native.Mathlib.Omega.{arith}
@@ -12,7 +12,7 @@ use lib.Seq.{take-at, take-suc-set}
 use Rattle.sheet.specs.Refusals.{given}
 use Rattle.sheet.specs.RefusalLaws.{given-same, given-refused}
 use Rattle.report.specs.Text.{textOf}
-use Rattle.report.specs.Page.{longest, toldLength}
+use Rattle.report.specs.Page.{toldLength}
 use Rattle.report.specs.Longest.{text-most, told-all}
 use Rattle.many.proofs.put_apart.Statement.{statement}
 use Rattle.many.proofs.put_apart.Tie as tie

@@ -1,13 +1,7 @@
 -- `report::put_verdicts` meets its contract. The loop's invariant: what is left of the text, laid from `at` on, gives the whole.
 -- Assumes nothing.
 use borrow.Author.Needs.{needs}
-use Prim.Native.Nat.{ℕ, _+_, _-_, _*_, _≤_}
-use mathlib.Core.Path.{_≡_, refl, sym, ap, _∙_}
-use native.Mathlib.Omega.{arith}
-use denote.Ref.{now}
-use lib.ListN.{length}
-use Rattle.decimal.specs.Laid.{laid}
-use Rattle.report.specs.Pieces.{verdictsText}
+use Prim.Native.Nat.{_-_}
 use Rattle.report.proofs.Lines.{Putting, begin, turn, done}
 use Rattle.report.proofs.put_verdicts.Statement.{statement}
 use Rattle.report.proofs.put_verdicts.Tie as tie
