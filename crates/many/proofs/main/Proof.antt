@@ -1,13 +1,14 @@
 -- `many::main` is safe and ends: it counts the sheets, and the space has room for the longest sheet of the stream.
 -- Assumes nothing.
 use Prim.Native.Nat.{_≤_, _-_}
+use mathlib.Core.Path.{_≡_}
 use borrow.Author.Needs.{needs}
 use lib.ListN.{length}
 use Rattle.many.proofs.main.Statement.{statement}
 use Rattle.many.proofs.main.Tie as tie
 
 abbrev Inv-loop : tie.InvT-loop
-Inv-loop space₀ counter₀ space counter = (counter ≤ 4294967296) × (65536 ≤ length space)
+Inv-loop space₀ counter₀ space counter = (counter ≤ 4294967296) × (length space ≡ 65536)
 
 abbrev μ-loop : tie.MeasureT-loop
 μ-loop space₀ counter₀ space counter = 4294967296 - counter
