@@ -1,5 +1,6 @@
 pub mod Decimal
 pub mod DecimalLaws
+pub mod Spelled
 pub mod Put
 pub mod PutLaws
 pub mod Laid

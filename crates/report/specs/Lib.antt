@@ -8,3 +8,4 @@ pub mod Rows
 pub mod Longest
 pub mod Reading
 pub mod Back
+pub mod Cases

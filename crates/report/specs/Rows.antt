@@ -53,6 +53,7 @@ fault-told {A} c f a p q = go (which (c .first) (c .at) (c .later) (c .place) f 
     go (first z w) = subst (λ (t : Answer A). Refusable t) (sym w) p
     go (later z w) = subst (λ (t : Answer A). Refusable t) (sym w) q
 
+-- a row from its three parts
 row : (k p : ℕ) → 1 ≤ k → k ≤ 8 → p < 12800 → Row k p
 row k p a b c = record { some = a; last = b; inside = c }
 
