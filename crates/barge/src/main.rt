@@ -1,9 +1,27 @@
 // The program: a sheet on standard input, checked and reported.
 use libc::STDIN_FILENO;
+use libc::STDOUT_FILENO;
+use report::Page;
+ghost use mathlib.Core.Path.{_≡_};
+ghost use mathlib.Core.List.{List};
+ghost use Prim.Native.Nat.{ℕ, _≤_};
+ghost use lib.ListN.{length, take};
+ghost use Rattle.checker.specs.Longer.{enough};
+ghost use Rattle.report.specs.Page.{Pages};
+
+// What is printed of an input, from the bytes that were read of it: all, or as many as the buffer holds, which is one more than the longest sheet has.
+fn answer(buffer: &[u8], got: usize) -> Page
+    requires { ⌜ (enough ≤ length (now buffer)) × (got ≤ length (now buffer)) ⌝ }
+    ensures { λ r. ⌜ ((input : List ℕ) → take got (now (buffer .entry)) ≡ take (length (now (buffer .entry))) input → Pages input r) ⌝ }
+{
+    report::page_of(&buffer[..got])
+}
 
 fn main() {
-    // One byte more than the longest sheet, so that a longer one is seen to be longer: no more of it has to be read.
     let mut sheet = [0u8; 6413];
     let got = io::read_full(STDIN_FILENO, &mut sheet);
-    report::print_answer(&sheet[..got]);
+    let page = answer(&sheet, got);
+    let len = page.len;
+    let text = page.bytes;
+    io::write_all(STDOUT_FILENO, &text[..len]);
 }

@@ -1,63 +1,132 @@
-// Checks a sheet and prints what was found, as the programs do: a line with id, rule and required for each record, then one with n and the failures; of a
-// sheet that is turned away the refusal's number and place.
+// What the programs print of a sheet, as text: a line with id, rule and required for each record, then one with n and the failures; of a sheet that is
+// turned away the refusal's number and place.
 use checker::Checked;
 use checker::Entry;
 use checker::EntryRead;
-use libc::STDOUT_FILENO;
 use sheet::Refusal;
-ghost use mathlib.Core.Path.{_≡_};
-ghost use Prim.Native.Nat.{_*_, _≤_};
+ghost use mathlib.Core.List.{[], _∷_, _++_};
+ghost use Prim.Native.Nat.{_+_, _*_, _≤_};
 ghost use lib.ListN.{length};
+ghost use Rattle.decimal.specs.Decimal.{decimalOf};
+ghost use Rattle.decimal.specs.Laid.{Laid};
+ghost use Rattle.report.specs.Text.{entryNumbers, line};
+ghost use Rattle.report.specs.Page.{Tells, Pages};
+ghost use Rattle.report.specs.Pieces.{verdictText, verdictsText, refusalText, checkedText, Roomy};
 
-fn print_number(x: u64, end: &[u8]) {
-    io::print_decimal(STDOUT_FILENO, x);
-    io::write_all(STDOUT_FILENO, end);
+// Room for the verdicts of the longest sheet, and for its text: 400 lines of 14 bytes, and one of 8.
+const VERDICTS: usize = 1600;
+
+const LONGEST: usize = 5608;
+
+// The text of an answer, and how many bytes of the page it takes; the others are 0.
+pub struct Page {
+    pub bytes: [u8; LONGEST],
+    pub len: usize,
 }
 
-fn print_refusal(r: Refusal) {
-    io::write_all(STDOUT_FILENO, b"refused ");
-    print_number(r.number() as u64, b" ");
-    print_number(r.place() as u64, b"\n");
+// How long the text is that was written, or why it was not.
+pub enum Told {
+    Length(usize),
+    Refused(Refusal),
 }
 
-fn print_entry(e: Entry) {
-    print_number(e.id as u64, b" ");
-    print_number(e.rule as u64, b" ");
-    print_number(e.required as u64, b"\n");
+fn put_number(page: &mut [u8], at: usize, n: u32, after: &[u8]) -> usize
+    requires { ⌜ at + length (decimalOf n ++ now after) ≤ length (now page) ⌝ }
+    ensures { λ r. ⌜ Laid (now (page .entry)) at (decimalOf n ++ now (after .entry)) r (now (page .exit)) ⌝ }
+{
+    at + decimal::write_number(n, after, &mut page[at..])
 }
 
-fn print_verdict(bytes: &[u8]) {
-    let read = checker::read_verdict(bytes);
+// A line of two numbers.
+fn put_pair(page: &mut [u8], at: usize, m: u32, n: u32) -> usize
+    requires { ⌜ at + length (line (m ∷ n ∷ [])) ≤ length (now page) ⌝ }
+    ensures { λ r. ⌜ Laid (now (page .entry)) at (line (m ∷ n ∷ [])) r (now (page .exit)) ⌝ }
+{
+    let next = put_number(page, at, m, b" ");
+    put_number(page, next, n, b"\n")
+}
+
+// A verdict's line.
+fn put_entry(page: &mut [u8], at: usize, e: Entry) -> usize
+    requires { ⌜ at + length (line (entryNumbers e)) ≤ length (now page) ⌝ }
+    ensures { λ r. ⌜ Laid (now (page .entry)) at (line (entryNumbers e)) r (now (page .exit)) ⌝ }
+{
+    let next = put_number(page, at, e.id as u32, b" ");
+    put_pair(page, next, e.rule as u32, e.required)
+}
+
+// The line of the verdict in four bytes of the output. In the output of a check there always is one.
+fn put_verdict(verdict: &[u8], page: &mut [u8], at: usize) -> usize
+    requires { ⌜ at + 14 ≤ length (now page) ⌝ }
+    ensures { λ r. ⌜ Laid (now (page .entry)) at (verdictText (now (verdict .entry))) r (now (page .exit)) ⌝ }
+{
+    let read = checker::read_verdict(verdict);
     match read {
-        EntryRead::Good(e) => print_entry(e),
-        EntryRead::Refused(r) => print_refusal(r),
+        EntryRead::Good(e) => put_entry(page, at, e),
+        EntryRead::Refused(_) => at,
     }
 }
 
-fn print_verdicts(out: &[u8], n: u16)
-    requires { ⌜ 4 * n ≤ length (now out) ⌝ }
+fn put_verdicts(out: &[u8], n: u16, page: &mut [u8]) -> usize
+    requires { ⌜ (4 * n ≤ length (now out)) × (14 * n ≤ length (now page)) ⌝ }
+    ensures { λ r. ⌜ Laid (now (page .entry)) 0 (verdictsText (now (out .entry)) 0 n) r (now (page .exit)) ⌝ }
 {
+    let mut at: usize = 0;
     let mut i: u16 = 0;
     while i < n {
-        let at = 4 * (i as usize);
-        let end = at + 4;
-        print_verdict(&out[at..end]);
+        let from = 4 * (i as usize);
+        let to = from + 4;
+        at = put_verdict(&out[from..to], page, at);
         i += 1;
+    }
+    at
+}
+
+fn put_refusal(page: &mut [u8], r: Refusal) -> usize
+    requires { ⌜ 21 ≤ length (now page) ⌝ }
+    ensures { λ len. ⌜ Laid (now (page .entry)) 0 (refusalText r) len (now (page .exit)) ⌝ }
+{
+    let number = r.number() as u32;
+    let place = r.place();
+    let at = decimal::write_text(b"refused ", page);
+    put_pair(page, at, number, place)
+}
+
+// The text of what a check answered, with the output that it left.
+fn put_checked(checked: Checked, out: &[u8], page: &mut [u8]) -> usize
+    requires { ⌜ Roomy checked (now out) (now page) ⌝ }
+    ensures { λ len. ⌜ Laid (now (page .entry)) 0 (checkedText checked (now (out .entry))) len (now (page .exit)) ⌝ }
+{
+    match checked {
+        Checked::Refused(r) => put_refusal(page, r),
+        Checked::Done { n, failed } => {
+            let at = put_verdicts(out, n, page);
+            put_pair(page, at, n as u32, failed as u32)
+        }
     }
 }
 
-// Room for the verdicts of the longest sheet.
-pub fn print_answer(sheet: &[u8])
-    ensures { λ r. ⌜ r ≡ tt ⌝ }
+// The text of the answer to a sheet, for whoever has no buffer at hand.
+pub fn page_of(sheet: &[u8]) -> Page
+    ensures { λ r. ⌜ Pages (now (sheet .entry)) r ⌝ }
 {
-    let mut out = [0u8; 1600];
+    let mut out = [0u8; VERDICTS];
     let checked = checker::check(sheet, &mut out);
-    match checked {
-        Checked::Refused(r) => print_refusal(r),
-        Checked::Done { n, failed } => {
-            print_verdicts(&out, n);
-            print_number(n as u64, b" ");
-            print_number(failed as u64, b"\n");
-        }
+    let mut bytes = [0u8; LONGEST];
+    let len = put_checked(checked, &out, &mut bytes);
+    Page { bytes, len }
+}
+
+// The text of the answer to a sheet into the front of a lent slice; too short a slice is refused and stays as it is.
+pub fn write_answer(sheet: &[u8], text: &mut [u8]) -> Told
+    ensures { λ r. ⌜ Tells (now (sheet .entry)) (now (text .entry)) r (now (text .exit)) ⌝ }
+{
+    let page = page_of(sheet);
+    let len = page.len;
+    let bytes = page.bytes;
+    if text.len() < len {
+        return Told::Refused(Refusal::OutputShort);
     }
+    decimal::write_text(&bytes[..len], text);
+    Told::Length(len)
 }

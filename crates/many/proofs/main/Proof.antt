@@ -1,9 +1,8 @@
--- `many::main` is safe and ends: it counts the sheets, and the space keeps its length.
+-- `many::main` is safe and ends: it counts the sheets, and the space has room for the longest sheet of the stream.
 -- Assumes nothing.
 use Prim.Native.Nat.{_≤_, _-_}
 use mathlib.Core.Path.{_≡_}
 use borrow.Author.Needs.{needs}
-use native.Mathlib.Omega.{arith}
 use lib.ListN.{length}
 use Rattle.many.proofs.main.Statement.{statement}
 use Rattle.many.proofs.main.Tie as tie

@@ -1,0 +1,9 @@
+pub mod Decimal
+pub mod DecimalLaws
+pub mod Spelled
+pub mod Put
+pub mod PutLaws
+pub mod Laid
+pub mod LaidLaws
+pub mod Line
+pub mod LineLaws

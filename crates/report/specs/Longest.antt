@@ -1,0 +1,106 @@
+-- No text is longer than a page, and none rests on more of the sheet or of the output than is there.
+-- Assumes nothing.
+use Prim.Native.Nat.{ℕ, _+_, _*_, _≤_}
+use mathlib.Core.Path.{_≡_, refl, sym, ap, _∙_}
+use mathlib.Core.List.{List, [], _∷_, _++_, map}
+use native.Mathlib.Omega.{arith}
+use lib.ListN.{length, take, drop, length-append}
+use lib.Seq.{take-all, take-take}
+use borrow.Author.Tests.{le-leb}
+use Rattle.sheet.specs.declared.Header.{Header}
+use Rattle.sheet.specs.declared.Record.{Record}
+use Rattle.sheet.specs.Refusals.{Answer, given, refused}
+use Rattle.sheet.specs.Header.{readHeader}
+use Rattle.sheet.specs.HeaderLaws.{header-ranges}
+use Rattle.sheet.specs.HeaderBack.{header-read-fine}
+use Rattle.sheet.specs.RecordBack.{record-read-fine}
+use Rattle.checker.specs.Check.{_then_, demand, headerFor, recordPart, Sheet, sheetIn, entryOf, verdicts, failures, answerOf}
+use Rattle.checker.specs.CheckLaws.{Taken, next, sheet-whole}
+use Rattle.checker.specs.Sound.{entry-sound}
+use Rattle.checker.specs.Longer.{enough, answer-cut}
+use Rattle.report.specs.Text.{room, entryNumbers, linesOf, printed, line, linesText, refusedWord, textBy, textOf}
+use Rattle.report.specs.TextLaws.{pair-most, entry-most, lines-last}
+use Rattle.decimal.specs.Put.{putOn}
+use Rattle.report.specs.declared.Told.{Told}
+use Rattle.report.specs.Page.{longest, toldLength, lengthIn, Tells}
+use Rattle.report.specs.PiecesLaws.{sheet-counts, answer-refused}
+use Rattle.report.specs.Rows.{Refusable, sheet-told}
+
+-- ---- the longest
+
+lines-most : (h : Header) (s : List ℕ) (i before : ℕ) (rs : List Record) → Taken s i before rs → length (linesText (map entryNumbers (map (entryOf h) rs))) ≤ 14 * length rs
+unfolding linesText
+lines-most h s i before [] t = omega arith
+lines-most h s i before (r ∷ rs) (next e o t) =
+    let x = line (entryNumbers (entryOf h r)) in
+    let rest = linesText (map entryNumbers (map (entryOf h) rs)) in
+    omega (arith, length-append x rest, entry-most (entryOf h r) (entry-sound h r (record-read-fine i (recordPart s i) r e)), lines-most h s (i + 1) (r .id) rs t)
+
+sheet-most : (s : List ℕ) (t : Sheet) → sheetIn s room ≡ given t → length (linesText (linesOf t)) ≤ longest
+unfolding verdicts
+sheet-most s t e =
+    let w = sheet-whole s room t e in
+    let k = sheet-counts s room t e in
+    let vs = linesText (map entryNumbers (verdicts t)) in
+    let totals = t .header .count ∷ failures (verdicts t) ∷ [] in
+    omega (
+      arith,
+      ap length (lines-last (map entryNumbers (verdicts t)) totals),
+      length-append vs (line totals),
+      lines-most (t .header) s 0 0 (t .records) (w .records),
+      w .number,
+      k .records,
+      pair-most 2 2 (t .header .count) (failures (verdicts t)) (omega (arith, k .records)) (omega (arith, k .failed)),
+    )
+
+-- every text has room on a page
+pub text-most : (s : List ℕ) → length (textOf s) ≤ longest
+unfolding textOf printed textBy _then_
+text-most s = go (sheetIn s room) refl (sheet-told s room)
+  where
+    go : (x : Answer Sheet) → sheetIn s room ≡ x → Refusable x → length (textBy (x then λ t. given (linesOf t))) ≤ longest
+    go (given t) e r = sheet-most s t e
+    go (refused k p) e r =
+        let most = pair-most 0 4 k p (omega (arith, r .last)) (omega (arith, r .inside)) in
+        omega (arith, length-append refusedWord (line (k ∷ p ∷ [])), most)
+
+-- so that a slice as long as a page is never too short
+pub told-all : (s o : List ℕ) (r : Told) (after : List ℕ) → longest ≤ length o → Tells s o r after → (toldLength r ≡ given (length (textOf s))) × (after ≡ textOf s ++ drop (length (textOf s)) o)
+unfolding lengthIn putOn
+told-all s o r after l t =
+    let fits = le-leb (length (textOf s)) (length o) (omega (arith, text-most s)) in
+    (t .answer ∙ rw fits, t .bytes ∙ rw fits)
+
+-- ---- the output's room
+
+-- an output that has room for the verdicts of every sheet gives what any longer one gives: refusal 5 does not arise
+pub room-enough : (s : List ℕ) (space : ℕ) → room ≤ space → sheetIn s space ≡ sheetIn s room
+unfolding sheetIn headerFor _then_ demand
+room-enough s space l = go (readHeader s) refl
+  where
+    go : (x : Answer Header) → readHeader s ≡ x → sheetIn s space ≡ sheetIn s room
+    go (refused k p) e = rw e
+    go (given h) e =
+        let few = header-ranges h 0 (header-read-fine s h e) .count-high in
+        rw (e, le-leb (4 * h .count) space (omega arith), le-leb (4 * h .count) room (omega arith))
+
+-- ---- the sheet's length
+
+-- a sheet that is not turned away is not cut, and one that is turned away is turned away alike
+sheet-cut : (s : List ℕ) → sheetIn (take enough s) room ≡ sheetIn s room
+unfolding answerOf _then_
+sheet-cut s = go (sheetIn s room) refl
+  where
+    go : (x : Answer Sheet) → sheetIn s room ≡ x → sheetIn (take enough s) room ≡ sheetIn s room
+    go (given t) e =
+        let few = sheet-counts s room t e .records in
+        let whole = sheet-whole s room t e .header .whole in
+        ap (λ (b : List ℕ). sheetIn b room) (take-all enough s (omega arith))
+    go (refused k p) e = answer-refused (take enough s) room k p (answer-cut s room ∙ ap (λ (x : Answer Sheet). x then λ t. given (record { n = t .header .count; failed = failures (verdicts t) })) e) ∙ sym e
+
+-- what is read of a sheet up to there, or further, says what is printed of the whole
+pub text-cut : (n : ℕ) (s : List ℕ) → enough ≤ n → textOf (take n s) ≡ textOf s
+unfolding textOf printed
+text-cut n s l =
+    let cut : sheetIn (take n s) room ≡ sheetIn s room = sym (sheet-cut (take n s)) ∙ ap (λ (b : List ℕ). sheetIn b room) (take-take enough n s l) ∙ sheet-cut s in
+    rw cut

@@ -1,0 +1,47 @@
+-- The lines of a text: how long each is, and how they stand one after another.
+-- Assumes nothing.
+use Prim.Native.Nat.{ℕ, suc, _+_, _^_, _≤_, _<_}
+use mathlib.Core.Path.{_≡_, refl, sym, ap, _∙_}
+use mathlib.Core.List.{List, [], _∷_, _++_, append-assoc, append-nil}
+use native.Mathlib.Omega.{arith}
+use lib.ListN.{length, length-append}
+use Rattle.decimal.specs.Decimal.{decimalOf}
+use Rattle.decimal.specs.DecimalLaws.{decimal-most}
+use Rattle.decimal.specs.LineLaws.{line-one, line-more}
+use Rattle.checker.specs.declared.Entry.{Entry}
+use Rattle.checker.specs.Entry.{entryFault}
+use Rattle.checker.specs.EntryLaws.{entry-fit}
+use Rattle.report.specs.Text.{entryNumbers, line, linesText}
+
+-- ---- how long a line is
+
+one-length : (n : ℕ) → length (line (n ∷ [])) ≡ length (decimalOf n) + 1
+one-length n = ap length (line-one 32 (10 ∷ []) n) ∙ length-append (decimalOf n) (10 ∷ [])
+
+more-length : (n m : ℕ) (ns : List ℕ) → length (line (n ∷ m ∷ ns)) ≡ length (decimalOf n) + 1 + length (line (m ∷ ns))
+more-length n m ns =
+    ap length (line-more 32 (10 ∷ []) n m ns)
+    ∙ length-append (decimalOf n ++ (32 ∷ [])) (line (m ∷ ns))
+    ∙ ap (λ (k : ℕ). k + length (line (m ∷ ns))) (length-append (decimalOf n) (32 ∷ []))
+
+-- two numbers of so many digits at most
+pub pair-most : (j k m n : ℕ) → m < 10 ^ suc j → n < 10 ^ suc k → length (line (m ∷ n ∷ [])) ≤ suc j + suc k + 2
+pair-most j k m n a b = omega (arith, more-length m n [], one-length n, decimal-most j m a, decimal-most k n b)
+
+-- a verdict: at most four digits, one and six
+pub entry-most : (e : Entry) → entryFault e 0 ≡ 0 → length (line (entryNumbers e)) ≤ 14
+entry-most e z =
+    let fit = entry-fit e z in
+    omega (arith, more-length (e .id) (e .rule) (e .required ∷ []), decimal-most 3 (e .id) (omega (arith, fit .0)), pair-most 0 5 (e .rule) (e .required) (omega (arith, fit .1 .0)) (omega (arith, fit .1 .1 .0)))
+
+-- ---- one after another
+
+pub lines-append : (a b : List (List ℕ)) → linesText (a ++ b) ≡ linesText a ++ linesText b
+unfolding linesText
+lines-append [] b = refl
+lines-append (numbers ∷ a) b = ap (λ (t : List ℕ). line numbers ++ t) (lines-append a b) ∙ sym (append-assoc (line numbers) (linesText a) (linesText b))
+
+-- one line more
+pub lines-last : (a : List (List ℕ)) (numbers : List ℕ) → linesText (a ++ (numbers ∷ [])) ≡ linesText a ++ line numbers
+unfolding linesText
+lines-last a numbers = lines-append a (numbers ∷ []) ∙ ap (λ (t : List ℕ). linesText a ++ t) (append-nil (line numbers))
