@@ -15,6 +15,9 @@ use Rattle.plating.specs.Rules.{K2}
 use Rattle.framing.specs.Rules.{rule4, rule5, rule6, memberLine}
 use Rattle.checker.specs.declared.Entry.{Entry}
 use Rattle.checker.specs.Entry.{entryBytes, entryIn, readEntry}
+use Rattle.decimal.specs.Decimal.{digitsIn, decimalOf}
+use Rattle.decimal.specs.Line.{moreOf, lineOf}
+use Rattle.report.specs.Text.{printed, linesText, textBy, textOf}
 use Rattle.checker.specs.Check.{_then_, demand, headerFor, partsFrom, soundAfter, recordsIn, sheetIn, entryOf, verdicts, bytesOf, failures, answerOf, outputOf}
 use Rattle.demands.specs.Program.{fourAt}
 use Rattle.demands.specs.Raise.{replaced, withScantling, raisedTimes}
@@ -66,6 +69,16 @@ example-answer = refl
 pub example-output : outputOf example lent ≡ (entryBytes (record { id = 7; rule = 3; required = 617 }) ++ (entryBytes (record { id = 12; rule = 5; required = 567 }) ++ (170 ∷ [])))
 unfolding outputOf sheetIn headerFor recordsIn partsFrom soundAfter _then_ demand readHeader headerIn readRecord recordIn verdicts entryOf bytesOf firstFrom leastIn ceilOf sea bottomLoad innerLoad deepLoad lineLoad K2 rule4 rule5 rule6 memberLine
 example-output = refl
+
+-- and as text, byte for byte what the document shows
+pub example-text :
+    textOf example
+    ≡ (55 ∷ 32 ∷ 51 ∷ 32 ∷ 54 ∷ 49 ∷ 55 ∷ 10
+    ∷ 49 ∷ 50 ∷ 32 ∷ 53 ∷ 32 ∷ 53 ∷ 54 ∷ 55 ∷ 10
+    ∷ 50 ∷ 32 ∷ 50 ∷ 10
+    ∷ [])
+unfolding textOf printed textBy linesText lineOf moreOf decimalOf digitsIn sheetIn headerFor recordsIn partsFrom soundAfter _then_ demand readHeader headerIn readRecord recordIn verdicts entryOf failures firstFrom leastIn ceilOf sea bottomLoad innerLoad deepLoad lineLoad K2 rule4 rule5 rule6 memberLine
+example-text = refl
 
 -- mended, nothing fails
 pub mended-answer : answerOf mended 9 ≡ given (record { n = 2; failed = 0 })
