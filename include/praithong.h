@@ -1,7 +1,8 @@
 /* Praithong: a checker for the plates and bars of a dumb barge. The functions of the static library yard, for C and C++ on x86-64.
 
-   Every function is proved to do what is said here on every input: no caller has to look first, and none of them reads or writes outside what it
-   is lent. What is lent must be there: no pointer is null, also where a length is 0, and what is written overlaps nothing else.
+   Every function of the library is proved to do what is said here on every input: no caller has to look first, and none of them reads or writes
+   outside what it is lent. (The five inline helpers at the end are C: they take an answer apart, and are tried at their ends and not proved.)
+   What is lent must be there: no pointer is null, also where a length is 0, and what is written overlaps nothing else.
 
    An answer is one number of 64 bits. A refusal is number * 2^40 + place, with the number and the place of the sheet's table of refusals; the
    number is at least 1. Any other answer is below 2^40. A refusal leaves every byte and every field as it was. */

@@ -250,6 +250,24 @@ static void as_barge(void) {
   printf("%u %u\n", yard_n(answer), yard_failed(answer));
 }
 
+/* What the header's own helpers take out of an answer. */
+static void taken_apart(const char *name, uint64_t answer) {
+  if (yard_is_refused(answer)) printf("%s: refused %u %u\n", name, yard_number(answer), yard_place(answer));
+  else printf("%s: n %u failed %u\n", name, yard_n(answer), yard_failed(answer));
+}
+
+/* They are C and not proved, so that they are tried at the ends of what they are for. */
+static void helpers(void) {
+  const uint64_t one = 1;
+  taken_apart("the least answer", 0);
+  taken_apart("one record, passed", 65536);
+  taken_apart("a full sheet, all failed", 400 * 65536 + 400);
+  taken_apart("the greatest that is no refusal", (one << 40) - 1);
+  taken_apart("the least refusal", one << 40);
+  taken_apart("the last record's last field", (7 * one << 40) + 32 * 399 + 13);
+  taken_apart("the greatest place", (8 * one << 40) + 4294967295u);
+}
+
 int main(int count, char **words) {
   clear_sheet();
   if (count == 2 && strcmp(words[1], "check") == 0) {
@@ -262,6 +280,7 @@ int main(int count, char **words) {
     records();
     sheets();
     verdicts();
+    helpers();
   }
   return 0;
 }
