@@ -21,15 +21,14 @@ use Rattle.sheet.specs.Lines.{plateLines, memberLines}
 use Rattle.sheet.specs.Record.{plateValues, memberValues, plateFault, memberFault, bodyFault, recordFault}
 use Rattle.sheet.specs.RecordLaws.{plate-allowed, member-allowed}
 use Rattle.sheet.specs.Exactly.{Exactly}
-use Rattle.gauge.specs.Least.{leastIn, numberOf}
 use Rattle.verdict.specs.declared.Verdict.{Verdict}
 use Rattle.verdict.specs.Verdict.{Rule, failing, verdictOf}
-use Rattle.verdict.specs.Raising.{Failing, here, there, Found, passes, fails, found, Rising, failing-above, Later, passed, above, AllMonotone, Required, required, fails-under}
+use Rattle.verdict.specs.Raising.{Failing, here, there, Found, passes, fails, found, Rising, failing-above, Later, passed, above, AllMonotone, Required, later-of, the-rule, names, has-under}
 use Rattle.plating.specs.Rules.{plateRules}
 use Rattle.framing.specs.Rules.{memberRules, memberLine}
 use Rattle.hull.specs.Hull.{bodyRules, rulesOf, verdict}
 use Rattle.hull.specs.Raising.{raisedPlate, withScantlings, raisedBody, raised}
-use Rattle.hull.specs.RaisingLaws.{rules-monotone}
+use Rattle.hull.specs.RaisingLaws.{rules-monotone, base, rules-rising, in-range}
 use Rattle.demands.specs.Raise.{gaugeTop, InGauge, Reaches, metIn}
 
 -- ---- over any list of rules
@@ -47,28 +46,10 @@ AllPut k x low [] (r ∷ rs) = ⊥
 AllPut k x low (r ∷ rs) [] = ⊥
 AllPut k x low (r ∷ rs) (s ∷ ss) = Put k x low r s × AllPut k x low rs ss
 
--- the rule that a verdict names, its number the least of the gauge that meets it, and the scantling that fails it
-abbrev ruleNamed : {v : Verdict} {rs : List Rule} → Failing v rs → Rule
-ruleNamed (here {r} f e) = r
-ruleNamed (there t f) = ruleNamed f
-
-named-least : {v : Verdict} {rs : List Rule} (f : Failing v rs) → AllMonotone rs → Required (ruleNamed f .asks) (ruleNamed f .top) (v .required)
-named-least (here {r} f e) m = subst (λ (q : ℕ). Required (r .asks) (r .top) q) (sym (ap (λ (w : Verdict). w .required) e)) (required (r .asks) (r .top) (m .0))
-named-least (there t f) m = named-least f (m .1)
-
-named-under : {v : Verdict} {rs : List Rule} (f : Failing v rs) → AllMonotone rs → 1 ≤ v .required → ruleNamed f .has < v .required
-named-under {v} (here {r} f e) m q =
-    let s : v .required ≡ numberOf (leastIn (r .asks) (r .top)) = ap (λ (w : Verdict). w .required) e in
-    omega (arith, fails-under (r .asks) (r .top) (r .has) (m .0) f (omega arith))
+-- the scantling that fails is below the number, where there is one
+named-under : {v : Verdict} {rs : List Rule} (f : Failing v rs) → AllMonotone rs → 1 ≤ v .required → the-rule f .has < v .required
+named-under (here f e) m q = has-under (m .0) f e q .0
 named-under (there t f) m q = named-under f (m .1) q
-
--- a verdict whose rules are numbered above n is a pass or a rule above n
-later-of : (n : ℕ) (rs : List Rule) → Rising n rs → Later n (verdictOf rs)
-later-of n rs o = go (found rs)
-  where
-    go : Found rs → Later n (verdictOf rs)
-    go (passes m p) = passed p
-    go (fails f) = above (failing-above n (verdictOf rs) rs o f)
 
 rising-put : (n k x : ℕ) (low : Type 0) (rs ss : List Rule) → AllPut k x low rs ss → Rising n rs → Rising n ss
 rising-put n k x low [] [] a o = tt
@@ -82,7 +63,7 @@ not-later n k s l m (above a) = omega arith
 
 module _ (x : ℕ) (low : Type 0) (v : Verdict) where
   -- the rule named asks of x what it asked before
-  put-met : (n : ℕ) (rs ss : List Rule) → Rising n rs → AllPut (v .rule) x low rs ss → (f : Failing v rs) → metIn (v .rule) ss ≡ ruleNamed f .asks x
+  put-met : (n : ℕ) (rs ss : List Rule) → Rising n rs → AllPut (v .rule) x low rs ss → (f : Failing v rs) → metIn (v .rule) ss ≡ the-rule f .asks x
   put-met n (r ∷ rs) (s ∷ ss) o a (here f e) =
       let number : r .number ≡ v .rule = sym (ap (λ (w : Verdict). w .rule) e) in
       let same : s .asks (s .has) ≡ r .asks x = ap (λ (g : ℕ → Bool). g (s .has)) (a .0 .asks) ∙ ap (r .asks) (a .0 .named number) in
@@ -92,7 +73,7 @@ module _ (x : ℕ) (low : Type 0) (v : Verdict) where
       rw (ne-eqb (s .number) (v .rule) (λ e. omega (arith, a .0 .number))) (put-met (r .number) rs ss (o .1) (a .1) f)
 
   -- where it is met, the verdict is a pass or a later rule
-  put-later : (n : ℕ) (rs ss : List Rule) → Rising n rs → AllMonotone rs → AllPut (v .rule) x low rs ss → low → (f : Failing v rs) → ruleNamed f .asks x ≡ true → Later (v .rule) (verdictOf ss)
+  put-later : (n : ℕ) (rs ss : List Rule) → Rising n rs → AllMonotone rs → AllPut (v .rule) x low rs ss → low → (f : Failing v rs) → the-rule f .asks x ≡ true → Later (v .rule) (verdictOf ss)
   put-later n (r ∷ rs) (s ∷ ss) o m a l (here f e) t =
       let number : v .rule ≡ r .number = ap (λ (w : Verdict). w .rule) e in
       let met : s .asks (s .has) ≡ true = ap (λ (g : ℕ → Bool). g (s .has)) (a .0 .asks) ∙ ap (r .asks) (a .0 .named (sym number)) ∙ t in
@@ -102,7 +83,7 @@ module _ (x : ℕ) (low : Type 0) (v : Verdict) where
       rw met (put-later (r .number) rs ss (o .1) (m .1) (a .1) l f t)
 
   -- and where it is not, it is neither
-  put-fails : (n : ℕ) (rs ss : List Rule) → Rising n rs → AllPut (v .rule) x low rs ss → (f : Failing v rs) → ruleNamed f .asks x ≡ false → Later (v .rule) (verdictOf ss) → ⊥
+  put-fails : (n : ℕ) (rs ss : List Rule) → Rising n rs → AllPut (v .rule) x low rs ss → (f : Failing v rs) → the-rule f .asks x ≡ false → Later (v .rule) (verdictOf ss) → ⊥
   put-fails n (r ∷ rs) (s ∷ ss) o a (here f e) t w =
       let number : v .rule ≡ r .number = ap (λ (w : Verdict). w .rule) e in
       let not : s .asks (s .has) ≡ false = ap (λ (g : ℕ → Bool). g (s .has)) (a .0 .asks) ∙ ap (r .asks) (a .0 .named (sym number)) ∙ t in
@@ -114,15 +95,6 @@ module _ (x : ℕ) (low : Type 0) (v : Verdict) where
       go false on z = not-later n (v .rule) s (omega (arith, a .0 .number, o .0)) (omega (arith, a .0 .number, failing-above (r .number) v rs (o .1) f)) z
 
 -- ---- the rules of the hull
-
--- those of a plate are numbered from 1, those of a member from 4
-abbrev base : Body → ℕ
-base (isPlate p) = 0
-base (isMember m) = 3
-
-rules-rising : (h : Header) (kind : ℕ) (b : Body) → Rising (base b) (bodyRules h kind b)
-rules-rising h kind (isPlate p) = (lit< tt, (lit< tt, (lit< tt, tt)))
-rules-rising h kind (isMember m) = (lit< tt, (lit< tt, (lit< tt, tt)))
 
 -- the record with x in place of the scantling that rule k speaks of
 abbrev putBody : ℕ → ℕ → Body → Body
@@ -138,7 +110,7 @@ kept : (k x number top has : ℕ) (low : Type 0) (asks : ℕ → Bool) → eqb n
 kept k x number top has low asks n = record { number = refl; asks = refl; named = λ e. absurd (eqb-false number k n e); no-lower = λ l. omega arith }
 
 body-put : (h : Header) (kind : ℕ) (b : Body) (v : Verdict) (f : Failing v (bodyRules h kind b)) (x : ℕ)
-    → AllPut (v .rule) x (ruleNamed f .has ≤ x) (bodyRules h kind b) (bodyRules h kind (putBody (v .rule) x b))
+    → AllPut (v .rule) x (the-rule f .has ≤ x) (bodyRules h kind b) (bodyRules h kind (putBody (v .rule) x b))
 unfolding memberLine
 body-put h kind (isPlate p) v (here f e) x = (exchanged _ x _ _ _ _, (exchanged _ x _ _ _ _, (exchanged _ x _ _ _ _, tt)))
 body-put h kind (isPlate p) v (there t (here f e)) x = (exchanged _ x _ _ _ _, (exchanged _ x _ _ _ _, (exchanged _ x _ _ _ _, tt)))
@@ -154,7 +126,7 @@ body-put h kind (isMember m) v (there t (there u (here f e))) x =
     (kept 6 x _ _ _ _ _ refl, (kept 6 x _ _ _ _ _ refl, (exchanged 6 x _ _ _ _, tt)))
 
 -- the gauge of the rule named is that of its number
-rule-top : (h : Header) (kind : ℕ) (b : Body) (v : Verdict) (f : Failing v (bodyRules h kind b)) → ruleNamed f .top ≡ gaugeTop (v .rule)
+rule-top : (h : Header) (kind : ℕ) (b : Body) (v : Verdict) (f : Failing v (bodyRules h kind b)) → the-rule f .top ≡ gaugeTop (v .rule)
 rule-top h kind (isPlate p) v (here f e) = ap gaugeTop (sym (ap (λ (w : Verdict). w .rule) e))
 rule-top h kind (isPlate p) v (there t (here f e)) = ap gaugeTop (sym (ap (λ (w : Verdict). w .rule) e))
 rule-top h kind (isPlate p) v (there t (there u (here f e))) = ap gaugeTop (sym (ap (λ (w : Verdict). w .rule) e))
@@ -163,10 +135,6 @@ rule-top h kind (isMember m) v (there t (here f e)) = ap gaugeTop (sym (ap (λ (
 rule-top h kind (isMember m) v (there t (there u (here f e))) = ap gaugeTop (sym (ap (λ (w : Verdict). w .rule) e))
 
 -- ---- within its values
-
--- a number from the lowest to the highest is within a range
-in-range : (r : Range) (x : ℕ) → r .low ≤ x → x ≤ r .high → within r x ≡ true
-in-range r x l h = rw (le-leb _ _ l, le-leb _ _ h)
 
 -- a member with other scantlings within their values
 member-sound : (kind id : ℕ) (m : Member) (T W A : ℕ) → memberFault kind id m ≡ 0 → within thickness T ≡ true → within modulus W ≡ true → within shearArea A ≡ true
@@ -186,11 +154,11 @@ plate-sound kind id p T e t =
     all-none 1 (plateLines kind (p .ballast) (p .z .0)) (plateValues kind id (raisedPlate T p) 0)
     (a .0, (a .1 .0, (a .1 .1 .0, (a .1 .1 .1 .0, (a .1 .1 .1 .1 .0, (t, a .1 .1 .1 .1 .1 .1))))))
 
-body-sound : (h : Header) (kind id : ℕ) (b : Body) (v : Verdict) (f : Failing v (bodyRules h kind b)) (x : ℕ) → 1 ≤ x → x ≤ ruleNamed f .top
+body-sound : (h : Header) (kind id : ℕ) (b : Body) (v : Verdict) (f : Failing v (bodyRules h kind b)) (x : ℕ) → 1 ≤ x → x ≤ the-rule f .top
     → bodyFault kind id b 0 ≡ 0 → bodyFault kind id (putBody (v .rule) x b) 0 ≡ 0
 body-sound h kind id (isPlate p) v f x l m e = plate f m
   where
-    plate : (f : Failing v (plateRules h kind p)) → x ≤ ruleNamed f .top → plateFault kind id (raisedPlate x p) 0 ≡ 0
+    plate : (f : Failing v (plateRules h kind p)) → x ≤ the-rule f .top → plateFault kind id (raisedPlate x p) 0 ≡ 0
     plate (here g q) n = plate-sound kind id p x e (in-range thickness x l n)
     plate (there t (here g q)) n = plate-sound kind id p x e (in-range thickness x l n)
     plate (there t (there u (here g q))) n = plate-sound kind id p x e (in-range thickness x l n)
@@ -208,7 +176,7 @@ body-sound h kind id (isMember m) v f x l n e = member f n
     at : (k : ℕ) → v .rule ≡ k → bodyFault kind id (putBody k x (isMember m)) 0 ≡ 0 → bodyFault kind id (putBody (v .rule) x (isMember m)) 0 ≡ 0
     at k q z = subst (λ (j : ℕ). bodyFault kind id (putBody j x (isMember m)) 0 ≡ 0) (sym q) z
 
-    member : (f : Failing v (memberRules h kind m)) → x ≤ ruleNamed f .top → bodyFault kind id (putBody (v .rule) x (isMember m)) 0 ≡ 0
+    member : (f : Failing v (memberRules h kind m)) → x ≤ the-rule f .top → bodyFault kind id (putBody (v .rule) x (isMember m)) 0 ≡ 0
     member (here g q) n = at 4 (ap (λ (w : Verdict). w .rule) q) (member-sound kind id m x (m .modulus .0) (m .area .0) e (in-range thickness x l n) W A)
     member (there t (here g q)) n = at 5 (ap (λ (w : Verdict). w .rule) q) (member-sound kind id m (m .thickness .0) x (m .area .0) e T (in-range modulus x l n) A)
     member (there t (there u (here g q))) n = at 6 (ap (λ (w : Verdict). w .rule) q) (member-sound kind id m (m .thickness .0) (m .modulus .0) x e T W (in-range shearArea x l n))
@@ -233,10 +201,10 @@ module _ (h : Header) (r : Record) (some : 1 ≤ verdict h r .rule) where
   monotone : AllMonotone (rulesOf h r)
   monotone = rules-monotone h (r .kind) (r .body)
 
-  least : Required (ruleNamed failing-rule .asks) (ruleNamed failing-rule .top) (verdict h r .required)
-  least = named-least failing-rule monotone
+  least : Required (the-rule failing-rule .asks) (the-rule failing-rule .top) (verdict h r .required)
+  least = names failing-rule monotone .least
 
-  top : ruleNamed failing-rule .top ≡ gaugeTop (verdict h r .rule)
+  top : the-rule failing-rule .top ≡ gaugeTop (verdict h r .rule)
   top = rule-top h (r .kind) (r .body) (verdict h r) failing-rule
 
   -- the number is in the gauge
@@ -252,21 +220,21 @@ module _ (h : Header) (r : Record) (some : 1 ≤ verdict h r .rule) where
     put-sound z = body-sound h (r .kind) (r .id) (r .body) (verdict h r) failing-rule x (gauge .0) (omega (arith, gauge .1, top)) z
 
     -- what the rule says of x
-    asked : ruleNamed failing-rule .asks x ≡ metIn (verdict h r .rule) (rulesOf h (putRecord (verdict h r .rule) x r))
+    asked : the-rule failing-rule .asks x ≡ metIn (verdict h r .rule) (rulesOf h (putRecord (verdict h r .rule) x r))
     asked =
         sym
-        (put-met x (ruleNamed failing-rule .has ≤ x) (verdict h r) (base (r .body)) (rulesOf h r) (rulesOf h (putRecord (verdict h r .rule) x r)) (rules-rising h (r .kind) (r .body))
+        (put-met x (the-rule failing-rule .has ≤ x) (verdict h r) (base (r .body)) (rulesOf h r) (rulesOf h (putRecord (verdict h r .rule) x r)) (rules-rising h (r .kind) (r .body))
         (body-put h (r .kind) (r .body) (verdict h r) failing-rule x)
         failing-rule)
 
     -- x meets the rule exactly when it is not below the number
-    asks-exactly : Exactly (ruleNamed failing-rule .asks x ≡ true) (Reaches (verdict h r .required) x)
+    asks-exactly : Exactly (the-rule failing-rule .asks x ≡ true) (Reaches (verdict h r .required) x)
     asks-exactly = (λ e. go (verdict h r .required) refl e, λ b. least .larger (b .0) x (b .1))
       where
         clash : {A : Type 0} {b : Bool} → b ≡ true → b ≡ false → A
         clash e f = let z : _≡_ {A = ℕ} 0 1 = cc in absurd (omega arith)
 
-        go : (n : ℕ) → verdict h r .required ≡ n → ruleNamed failing-rule .asks x ≡ true → Reaches n x
+        go : (n : ℕ) → verdict h r .required ≡ n → the-rule failing-rule .asks x ≡ true → Reaches n x
         go zero e t = clash t (least .none e x (gauge .0) (omega (arith, gauge .1, top)))
         go (suc n) e t = (omega arith, inside (decLt x (suc n)))
           where
@@ -279,13 +247,13 @@ module _ (h : Header) (r : Record) (some : 1 ≤ verdict h r .rule) where
 
     -- and then the verdict is a pass or a later rule
     pub later-exactly : Exactly (Later (verdict h r .rule) (verdict h (putRecord (verdict h r .rule) x r))) (Reaches (verdict h r .required) x)
-    later-exactly = (λ w. go (ruleNamed failing-rule .asks x) refl w, back)
+    later-exactly = (λ w. go (the-rule failing-rule .asks x) refl w, back)
       where
-        go : (b : Bool) → ruleNamed failing-rule .asks x ≡ b → Later (verdict h r .rule) (verdict h (putRecord (verdict h r .rule) x r)) → Reaches (verdict h r .required) x
+        go : (b : Bool) → the-rule failing-rule .asks x ≡ b → Later (verdict h r .rule) (verdict h (putRecord (verdict h r .rule) x r)) → Reaches (verdict h r .required) x
         go true e w = asks-exactly .0 e
         go false e w =
             absurd
-            (put-fails x (ruleNamed failing-rule .has ≤ x) (verdict h r) (base (r .body)) (rulesOf h r) (rulesOf h (putRecord (verdict h r .rule) x r)) (rules-rising h (r .kind) (r .body))
+            (put-fails x (the-rule failing-rule .has ≤ x) (verdict h r) (base (r .body)) (rulesOf h r) (rulesOf h (putRecord (verdict h r .rule) x r)) (rules-rising h (r .kind) (r .body))
             (body-put h (r .kind) (r .body) (verdict h r) failing-rule x)
             failing-rule
             e
@@ -293,7 +261,7 @@ module _ (h : Header) (r : Record) (some : 1 ≤ verdict h r .rule) where
 
         back : Reaches (verdict h r .required) x → Later (verdict h r .rule) (verdict h (putRecord (verdict h r .rule) x r))
         back b =
-            put-later x (ruleNamed failing-rule .has ≤ x) (verdict h r) (base (r .body)) (rulesOf h r) (rulesOf h (putRecord (verdict h r .rule) x r)) (rules-rising h (r .kind) (r .body)) monotone
+            put-later x (the-rule failing-rule .has ≤ x) (verdict h r) (base (r .body)) (rulesOf h r) (rulesOf h (putRecord (verdict h r .rule) x r)) (rules-rising h (r .kind) (r .body)) monotone
             (body-put h (r .kind) (r .body) (verdict h r) failing-rule x)
             (omega (arith, named-under failing-rule monotone (b .0)))
             failing-rule

@@ -39,11 +39,11 @@ rules-monotone h kind (isMember m) = (
 )
 
 -- the rules of a plate are numbered from 1, those of a member from 4
-abbrev base : Body → ℕ
+abbrev pub base : Body → ℕ
 base (isPlate p) = 0
 base (isMember m) = 3
 
-rules-rising : (h : Header) (kind : ℕ) (b : Body) → Rising (base b) (bodyRules h kind b)
+pub rules-rising : (h : Header) (kind : ℕ) (b : Body) → Rising (base b) (bodyRules h kind b)
 rules-rising h kind (isPlate p) = (lit< tt, (lit< tt, (lit< tt, tt)))
 rules-rising h kind (isMember m) = (lit< tt, (lit< tt, (lit< tt, tt)))
 
@@ -128,7 +128,7 @@ raising-later h r q f =
 -- ---- within its values
 
 -- a number from the lowest to the highest is within a range
-in-range : (r : Range) (x : ℕ) → r .low ≤ x → x ≤ r .high → within r x ≡ true
+pub in-range : (r : Range) (x : ℕ) → r .low ≤ x → x ≤ r .high → within r x ≡ true
 in-range r x l h = rw (le-leb _ _ l, le-leb _ _ h)
 
 instead-within : (v : Verdict) (rule has : ℕ) (r : Range) → r .low ≤ 1 → 1 ≤ v .required → Number v rule has (r .high) → within r has ≡ true → within r (instead v rule has) ≡ true

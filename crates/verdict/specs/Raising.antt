@@ -100,7 +100,7 @@ pub data Later (n : ℕ) (v : Verdict) : Type 0 where
   passed : v ≡ pass → Later n v
   above : n < v .rule → Later n v
 
-later-of : (n : ℕ) (rs : List Rule) → Rising n rs → Later n (verdictOf rs)
+pub later-of : (n : ℕ) (rs : List Rule) → Rising n rs → Later n (verdictOf rs)
 later-of n rs o = go (found rs)
   where
     go : Found rs → Later n (verdictOf rs)
@@ -146,7 +146,7 @@ raised-later n v (r ∷ rs) (s ∷ ss) o m a q (there t f) =
     rw met (raised-later (r .number) v rs ss (o .1) (m .1) (a .1) q f)
 
 -- the rule that a verdict names, and what is said of the number
-pub the-rule : {v : Verdict} {rs : List Rule} → Failing v rs → Rule
+abbrev pub the-rule : {v : Verdict} {rs : List Rule} → Failing v rs → Rule
 the-rule (here {r} f e) = r
 the-rule (there t f) = the-rule f
 
@@ -156,7 +156,6 @@ pub record Names (v : Verdict) (r : Rule) : Type 0 where
   pub least : Required (r .asks) (r .top) (v .required)
 
 pub names : {v : Verdict} {rs : List Rule} (f : Failing v rs) → AllMonotone rs → Names v (the-rule f)
-unfolding the-rule
 names (here {r} f e) m =
     record {
       number = ap (λ (w : Verdict). w .rule) e;
