@@ -1,6 +1,6 @@
 -- The whole check: which answer it gives in each case, and what it leaves in the output.
 -- Assumes nothing.
-use Prim.Native.Nat.{ℕ, _*_}
+use Prim.Native.Nat.{ℕ, _*_, _≤_}
 use native.Mathlib.Omega.{arith}
 use mathlib.Core.Path.{_≡_, refl, sym, ap, ap₂, _∙_}
 use mathlib.Core.List.{List, _++_, map}
@@ -26,12 +26,15 @@ module _ (s : List ℕ) (room : ℕ) where
   at-header k p e = rw (sym e)
 
   module _ (h : Header) (read : given h ≡ headerFor s room) where
-    -- the draft has room for every sheet
-    pub ready : Ready h s 1600
-    ready =
+    -- there are 400 verdicts at most
+    pub few : 4 * h .count ≤ 1600
+    few = omega (arith, header-ranges h 0 (header-read-fine s h (header-fits s room h (sym read) .read)) .count-high)
+
+    -- the pass can start on a draft that has room for them
+    pub ready : (size : ℕ) → 4 * h .count ≤ size → Ready h s size
+    ready size l =
         let f = header-fits s room h (sym read) in
-        let z = header-read-fine s h (f .read) in
-        record { header = z; whole = f .whole; fits = omega (arith, header-ranges h 0 z .count-high) }
+        record { header = header-read-fine s h (f .read); whole = f .whole; fits = l }
 
     pub at-records : (draft : List ℕ) (k p : ℕ) → refused k p ≡ passOver h s draft → sheetIn s room ≡ refused k p
     unfolding sheetIn passOver _then_

@@ -13,7 +13,7 @@ ghost use lib.Dec.{eqb};
 ghost use lib.ListN.{length};
 ghost use Rattle.quantity.specs.Range.{modulus};
 ghost use Rattle.layout.specs.Layout.{pack, unpack, Fit};
-ghost use Rattle.sheet.specs.Refusals.{told, toldOutcome, toldHeader, toldRecord};
+ghost use Rattle.sheet.specs.Refusals.{given, told, toldOutcome, toldHeader, toldRecord};
 ghost use Rattle.sheet.specs.Header.{headerFault};
 ghost use Rattle.sheet.specs.Writes.{Writes};
 ghost use Rattle.checker.specs.Entry.{verdictWidths, entryValues, entryAt, entryFault, toldEntry, readEntry, writeEntry};
@@ -242,25 +242,32 @@ fn judge_all(h: Header, sheet: &[u8], draft: &mut [u8]) -> Passed
     Passed::Fine(failed)
 }
 
-// The whole sheet. A refusal leaves the output as it was lent; else each record's verdict stands in its own four bytes, and no other byte is touched.
-pub fn check(sheet: &[u8], out: &mut [u8]) -> Checked
+// The records of a sheet whose header is sound. What the draft holds goes into the output once none of them is turned away.
+fn judge_sheet(h: Header, sheet: &[u8], draft: &mut [u8], out: &mut [u8]) -> Checked
+    requires { ⌜ (given h ≡ headerFor (now sheet) (length (now out))) × (4 * h .count ≤ length (now draft)) ⌝ }
     ensures { λ r. ⌜ Checks (now (sheet .entry)) (now (out .entry)) r (now (out .exit)) ⌝ }
 {
-    let read = header_for(sheet, out.len());
-    let h = match read {
-        HeaderRead::Refused(x) => {
-            return Checked::Refused(x);
-        }
-        HeaderRead::Good(h) => h,
-    };
-    let mut draft = [0u8; DRAFT];
-    let passed = judge_all(h, sheet, &mut draft);
+    let passed = judge_all(h, sheet, draft);
     match passed {
         Passed::Refused(x) => Checked::Refused(x),
         Passed::Fine(failed) => {
             let size = VERDICT * (h.count as usize);
             bytes::copy(&draft[..size], out);
             Checked::Done { n: h.count, failed }
+        }
+    }
+}
+
+// The whole sheet. A refusal leaves the output as it was lent; else each record's verdict stands in its own four bytes, and no other byte is touched.
+pub fn check(sheet: &[u8], out: &mut [u8]) -> Checked
+    ensures { λ r. ⌜ Checks (now (sheet .entry)) (now (out .entry)) r (now (out .exit)) ⌝ }
+{
+    let read = header_for(sheet, out.len());
+    match read {
+        HeaderRead::Refused(x) => Checked::Refused(x),
+        HeaderRead::Good(h) => {
+            let mut draft = [0u8; DRAFT];
+            judge_sheet(h, sheet, &mut draft, out)
         }
     }
 }
