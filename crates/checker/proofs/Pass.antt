@@ -158,11 +158,20 @@ pub pass-start : (h : Header) (s draft : List ℕ) → passFrom (h .count) h s 0
 unfolding passFrom passOver rest
 pass-start h s draft = rw sub-zero (then-same (recordsIn 0 0 (partsFrom s 0 (h .count))) _ _ (λ rs. rw zero-add))
 
-module _ (n : ℕ) (h : Header) (s : List ℕ) (i before failed : ℕ) (draft : List ℕ) where
+-- the verdict on a sound record stands in front of those that are left
+pass-step : (n : ℕ) (h : Header) (s : List ℕ) (i before failed : ℕ) (draft : List ℕ) → i < n → (r : Record) → soundAfter i before (recordPart s i) ≡ given r
+    → passFrom n h s i before failed draft ≡ (recordsIn (i + 1) (r .id) (rest n s (i + 1)) then λ rs. given (passWith n i failed draft (entryOf h r ∷ map (entryOf h) rs)))
+unfolding passFrom recordsIn _then_
+pass-step n h s i before failed draft more r e =
+    rw (rest-step n s i more, e)
+    (then-then (recordsIn (i + 1) (r .id) (rest n s (i + 1))) (λ rs. r ∷ rs) (λ rs. given (passWith n i failed draft (map (entryOf h) rs))))
+
+-- what it comes to in all is what it comes to from record i on
+module _ (n : ℕ) (h : Header) (s : List ℕ) (i before failed : ℕ) (draft : List ℕ) {all : Answer Pass} (left : passFrom n h s i before failed draft ≡ all) where
   -- a record that is turned away ends it
-  pub pass-refused : (k p : ℕ) → i < n → refused k p ≡ judgedAfter h i before (recordPart s i) → refused k p ≡ passFrom n h s i before failed draft
+  pub pass-refused : (k p : ℕ) → i < n → refused k p ≡ judgedAfter h i before (recordPart s i) → refused k p ≡ all
   unfolding passFrom judgedAfter recordsIn _then_
-  pass-refused k p more e = rw (rest-step n s i more) (go (soundAfter i before (recordPart s i)) e)
+  pass-refused k p more e = rw (rest-step n s i more) (go (soundAfter i before (recordPart s i)) e) ∙ left
     where
       go : (x : Answer Record) → refused k p ≡ (x then λ r. given (entryOf h r))
           → refused k p ≡ ((x then λ r. recordsIn (i + 1) (r .id) (rest n s (i + 1)) then λ rs. given (r ∷ rs)) then λ rs. given (passWith n i failed draft (map (entryOf h) rs)))
@@ -170,19 +179,12 @@ module _ (n : ℕ) (h : Header) (s : List ℕ) (i before failed : ℕ) (draft : 
       go (refused l q) g = ap₂ refused (refused-number g) (refused-place g)
 
   -- after the last there is nothing to add
-  pub pass-end : i ≡ n → given (record { failed = failed; draft = draft }) ≡ passFrom n h s i before failed draft
+  pub pass-end : i ≡ n → given (record { failed = failed; draft = draft }) ≡ all
   unfolding passFrom recordsIn _then_ bytesOf failures
   pass-end e =
       let l : n ≤ i = omega arith in
-      rw (rest-none n s i l, e, append-nil, take-append-drop, add-zero)
-
-  -- the verdict on a sound record stands in front of those that are left
-  pass-step : i < n → (r : Record) → soundAfter i before (recordPart s i) ≡ given r
-      → passFrom n h s i before failed draft ≡ (recordsIn (i + 1) (r .id) (rest n s (i + 1)) then λ rs. given (passWith n i failed draft (entryOf h r ∷ map (entryOf h) rs)))
-  unfolding passFrom recordsIn _then_
-  pass-step more r e =
-      rw (rest-step n s i more, e)
-      (then-then (recordsIn (i + 1) (r .id) (rest n s (i + 1))) (λ rs. r ∷ rs) (λ rs. given (passWith n i failed draft (map (entryOf h) rs))))
+      let nothing : given (record { failed = failed; draft = draft }) ≡ passFrom n h s i before failed draft = rw (rest-none n s i l, e, append-nil, take-append-drop, add-zero) in
+      nothing ∙ left
 
   -- a verdict goes into its four bytes
   module _ (more : i < n) (e : Entry) (judged : given e ≡ judgedAfter h i before (recordPart s i)) where
@@ -198,7 +200,7 @@ module _ (n : ℕ) (h : Header) (s : List ℕ) (i before failed : ℕ) (draft : 
     step : passFrom n h s i before failed draft ≡ (recordsIn (i + 1) (e .id) (rest n s (i + 1)) then λ rs. given (passWith n i failed draft (e ∷ map (entryOf h) rs)))
     unfolding entryOf
     step =
-        pass-step more (sound .0) (sound .1)
+        pass-step n h s i before failed draft more (sound .0) (sound .1)
         ∙ ap (λ (x : Entry). recordsIn (i + 1) (x .id) (rest n s (i + 1)) then λ rs. given (passWith n i failed draft (x ∷ map (entryOf h) rs))) (sym (sound .2))
 
     module _ (o after : List ℕ) (lent : o ≡ take (4 * i + 4 - 4 * i) (drop (4 * i) draft)) (wrote : after ≡ writeEntry e o .bytes) (room : 4 * n ≤ length draft)
@@ -217,9 +219,10 @@ module _ (n : ℕ) (h : Header) (s : List ℕ) (i before failed : ℕ) (draft : 
       unfolding failures
       failures-turn es = omega arith
 
-      pub pass-turn : passFrom n h s (i + 1) (e .id) (failed + more-failed) next ≡ passFrom n h s i before failed draft
+      pub pass-turn : passFrom n h s (i + 1) (e .id) (failed + more-failed) next ≡ all
       unfolding passFrom
       pass-turn =
           then-same (recordsIn (i + 1) (e .id) (rest n s (i + 1))) _ _
           (λ rs. ap₂ (λ (k : ℕ) (d : List ℕ). given (record { failed = k; draft = d })) (failures-turn (map (entryOf h) rs)) (bytes-turn (map (entryOf h) rs)))
           ∙ sym step
+          ∙ left

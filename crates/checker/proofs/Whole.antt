@@ -61,18 +61,23 @@ module _ (s out : List ℕ) where
   refused-checks x e = record { answer = rw e; bytes = sym (refused-as-lent s out _ _ e) }
 
   -- the draft's verdicts go into the output
-  pub done-checks : (h : Header) (read : given h ≡ headerFor s (length out)) (draft : List ℕ) (failed : ℕ) (drawn after : List ℕ)
-      → given (record { failed = failed; draft = drawn }) ≡ passOver h s draft → after ≡ take (4 * h .count) drawn ++ drop (4 * h .count) out
-      → Checks s out (Done (h .count) failed) after
-  unfolding verdicts passOver
-  done-checks h read draft failed drawn after e w =
-      let a = then-given (recordsIn 0 0 (partsFrom s 0 (h .count))) _ _ (sym e) in
-      let es = map (entryOf h) (a .0) in
-      let pass : passOf (h .count) es draft ≡ record { failed = failed; draft = drawn } = given-same (a .2) in
-      let sized : length (bytesOf es) ≡ 4 * h .count = bytes-length es ∙ ap (λ (k : ℕ). 4 * k) (length-map (a .0) (entryOf h) ∙ taken s (h .count) 0 0 (a .0) (a .1) .1) in
-      let front : take (4 * h .count) drawn ≡ bytesOf es = ap (λ (p : Pass). take (4 * h .count) (p .draft)) (sym pass) ∙ take-at (bytesOf es) (drop (4 * h .count) draft) (4 * h .count) sized in
-      let whole = sheet-given s (length out) h read (a .0) (a .1) in
-      record {
-        answer = ap (λ (p : Pass). given (record { n = h .count; failed = p .failed })) (sym pass) ∙ sym (answer-done s out _ whole);
-        bytes = w ∙ ap (λ (l : List ℕ). l ++ drop (4 * h .count) out) front ∙ sym (output-done s out _ whole);
-      }
+  module _ (h : Header) (read : given h ≡ headerFor s (length out)) (draft : List ℕ) (failed : ℕ) (drawn after : List ℕ) (copy : after ≡ take (4 * h .count) drawn ++ drop (4 * h .count) out) where
+    given-checks : (rs : List Record) → recordsIn 0 0 (partsFrom s 0 (h .count)) ≡ given rs → passOf (h .count) (map (entryOf h) rs) draft ≡ record { failed = failed; draft = drawn }
+        → Checks s out (Done (h .count) failed) after
+    unfolding verdicts
+    given-checks rs found pass =
+        let es = map (entryOf h) rs in
+        let size = 4 * h .count in
+        let whole = sheet-given s (length out) h read rs found in
+        let sized : length (bytesOf es) ≡ size = bytes-length es ∙ ap (λ (k : ℕ). 4 * k) (length-map rs (entryOf h) ∙ taken s (h .count) 0 0 rs found .1) in
+        let front : take size drawn ≡ bytesOf es = ap (λ (p : Pass). take size (p .draft)) (sym pass) ∙ take-at (bytesOf es) (drop size draft) size sized in
+        record {
+          answer = ap (λ (p : Pass). given (record { n = h .count; failed = p .failed })) (sym pass) ∙ sym (answer-done s out _ whole);
+          bytes = copy ∙ ap (λ (l : List ℕ). l ++ drop size out) front ∙ sym (output-done s out _ whole);
+        }
+
+    pub done-checks : given (record { failed = failed; draft = drawn }) ≡ passOver h s draft → Checks s out (Done (h .count) failed) after
+    unfolding passOver
+    done-checks e =
+        let a = then-given (recordsIn 0 0 (partsFrom s 0 (h .count))) _ _ (sym e) in
+        given-checks (a .0) (a .1) (given-same (a .2))

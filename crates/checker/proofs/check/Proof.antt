@@ -35,4 +35,4 @@ check-spec =
     judge-sheet-requires
     returns
     (λ c. search needs)
-    (λ c. search needs))
+    (λ c. c .before .before .before .judge-sheet .ensures))

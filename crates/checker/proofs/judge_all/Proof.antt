@@ -32,9 +32,8 @@ returns c =
     let turn = at-judged .before in
     let l = turn .before .loop in
     let a = turn .before .before .before .before .args in
-    pass-refused (a .h .count) (a .h) (now (a .sheet)) (l .i) (l .before) (l .failed) (l .draft) _ _ (turn .loop-test .taken)
+    pass-refused (a .h .count) (a .h) (now (a .sheet)) (l .i) (l .before) (l .failed) (l .draft) (l .inv .3) _ _ (turn .loop-test .taken)
     (sym (ap toldEntry (c .before .judged .given .1)) ∙ at-judged .judged-at .ensures)
-    ∙ l .inv .3
 
 loop-again : tie.Need-loop-again Inv-loop μ-loop
 loop-again c =
@@ -50,16 +49,15 @@ loop-again c =
       search needs,
       search needs,
       omega (arith, c .before .before .draft .given .1, l .inv .2),
-      pass-turn (a .h .count) (a .h) (now (a .sheet)) (l .i) (l .before) (l .failed) (l .draft) (turn .loop-test .taken) e judged _ (at-write .write-verdict .last .1 .0) refl
-          (at-write .write-verdict .ensures .bytes) (omega (arith, l .inv .2, start .pre .fits)) (c .failing .result) (c .failing .ensures .0)
-          ∙ l .inv .3,
+      pass-turn (a .h .count) (a .h) (now (a .sheet)) (l .i) (l .before) (l .failed) (l .draft) (l .inv .3) (turn .loop-test .taken) e judged _ (at-write .write-verdict .last .1 .0) refl
+          (at-write .write-verdict .ensures .bytes) (omega (arith, l .inv .2, start .pre .fits)) (c .failing .result) (c .failing .ensures .0),
     )
 
 returns-2 : tie.Need-returns-2 Inv-loop μ-loop
 returns-2 c =
     let l = c .before .loop in
     let a = c .before .before .before .before .args in
-    pass-end (a .h .count) (a .h) (now (a .sheet)) (l .i) (l .before) (l .failed) (l .draft) (omega arith) ∙ l .inv .3
+    pass-end (a .h .count) (a .h) (now (a .sheet)) (l .i) (l .before) (l .failed) (l .draft) (l .inv .3) (omega arith)
 
 pub judge-all-spec : {M : Type 1} → statement M
 judge-all-spec =

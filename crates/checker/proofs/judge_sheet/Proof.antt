@@ -40,8 +40,8 @@ returns-2 c =
     let drawn = at-judge .judge-all .last .1 .1 .0 in
     let size = 4 * a .h .count in
     done-checks (now (a .sheet)) (now (a .out)) (a .h) (start .pre .0) (now (a .draft)) _ drawn _
-    (sym (ap (λ p. toldPassed p drawn) (at-passed .passed2 .given .1)) ∙ at-judge .judge-all .ensures)
     (copied size (take size drawn) (now (a .out)) _ (as-many at-part) (at-copy .copy .ensures .1))
+    (sym (ap (λ p. toldPassed p drawn) (at-passed .passed2 .given .1)) ∙ at-judge .judge-all .ensures)
 
 pub judge-sheet-spec : {M : Type 1} → statement M
 judge-sheet-spec =
