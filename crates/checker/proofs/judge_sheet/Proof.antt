@@ -19,7 +19,7 @@ returns c =
     let a = start .args in
     let drawn = at-judge .judge-all .last .1 .1 .0 in
     refused-checks (now (a .sheet)) (now (a .out)) _
-    (at-records (now (a .sheet)) (length (now (a .out))) (a .h) (start .pre .0) (now (a .draft)) _ _
+    (at-records (now (a .sheet)) (length (now (a .out))) (a .h) (start .pre .0) _ _ _
     (sym (ap (λ p. toldPassed p drawn) (c .before .passed .given .1)) ∙ at-judge .judge-all .ensures))
 
 -- the part of the draft that is copied has all the verdicts
