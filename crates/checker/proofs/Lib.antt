@@ -1,4 +1,4 @@
 mod Answers
-mod First
-mod Second
+mod Faults
+mod Pass
 mod Whole

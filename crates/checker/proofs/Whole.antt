@@ -1,26 +1,24 @@
 -- The whole check: which answer it gives in each case, and what it leaves in the output.
 -- Assumes nothing.
-use Prim.Native.Nat.{ℕ, _*_}
+use Prim.Native.Nat.{ℕ, _*_, _≤_}
+use native.Mathlib.Omega.{arith}
 use mathlib.Core.Path.{_≡_, refl, sym, ap, ap₂, _∙_}
 use mathlib.Core.List.{List, _++_, map}
-use lib.ListN.{length, drop}
+use lib.ListN.{length, take, drop, length-map}
+use lib.Seq.{take-at, take-all}
 use Rattle.sheet.specs.declared.Header.{Header}
 use Rattle.sheet.specs.declared.Record.{Record}
 use Rattle.sheet.specs.declared.Refusal.{Refusal}
 use Rattle.sheet.specs.Refusals.{Answer, given, refused, told}
-use Rattle.sheet.specs.RefusalLaws.{given-refused, refused-number, refused-place}
-use Rattle.checker.specs.declared.Entry.{Entry}
+use Rattle.sheet.specs.RefusalLaws.{given-refused, refused-number, refused-place, given-same}
+use Rattle.sheet.specs.HeaderLaws.{header-ranges}
+use Rattle.sheet.specs.HeaderBack.{header-read-fine}
 use Rattle.checker.specs.declared.Checked.the-variants.{Done, Refused as notDone}
 use Rattle.checker.specs.Check.{_then_, headerFor, partsFrom, recordsIn, Sheet, sheetIn, entryOf, verdicts, bytesOf, failures, Totals, answerOf, outputOf, Checks}
-use Rattle.checker.specs.CheckLaws.{header-fits, answer-done, output-done, refused-as-lent}
-use Rattle.checker.specs.Passes.{plain, entriesFrom, Accepted, Judges}
-use Rattle.checker.proofs.Second.{found, entries-verdicts}
+use Rattle.checker.specs.CheckLaws.{header-fits, then-given, taken, bytes-length, answer-done, output-done, refused-as-lent}
+use Rattle.checker.specs.Passes.{Ready, Pass, passOf, passOver}
 
 -- ---- what the table says
-
-plain-refused : {A : Type 0} (x : Answer A) (k p : ℕ) → refused k p ≡ plain x → x ≡ refused k p
-plain-refused (given a) k p e = given-refused (sym e)
-plain-refused (refused l q) k p e = ap₂ refused (sym (refused-number e)) (sym (refused-place e))
 
 module _ (s : List ℕ) (room : ℕ) where
   pub at-header : (k p : ℕ) → refused k p ≡ headerFor s room → sheetIn s room ≡ refused k p
@@ -28,34 +26,58 @@ module _ (s : List ℕ) (room : ℕ) where
   at-header k p e = rw (sym e)
 
   module _ (h : Header) (read : given h ≡ headerFor s room) where
-    pub at-records : (k p : ℕ) → refused k p ≡ plain (recordsIn 0 0 (partsFrom s 0 (h .count))) → sheetIn s room ≡ refused k p
-    unfolding sheetIn _then_
-    at-records k p e = rw (sym read, plain-refused (recordsIn 0 0 (partsFrom s 0 (h .count))) k p e)
+    -- there are 400 verdicts at most
+    pub few : 4 * h .count ≤ 1600
+    few = omega (arith, header-ranges h 0 (header-read-fine s h (header-fits s room h (sym read) .read)) .count-high)
+
+    -- the pass can start on a draft that has room for them
+    pub ready : (size : ℕ) → 4 * h .count ≤ size → Ready h s size
+    ready size l =
+        let f = header-fits s room h (sym read) in
+        record { header = header-read-fine s h (f .read); whole = f .whole; fits = l }
+
+    pub at-records : (draft : List ℕ) (k p : ℕ) → refused k p ≡ passOver h s draft → sheetIn s room ≡ refused k p
+    unfolding sheetIn passOver _then_
+    at-records draft k p e = rw (sym read) (go (recordsIn 0 0 (partsFrom s 0 (h .count))) e)
+      where
+        go : (x : Answer (List Record)) → refused k p ≡ (x then λ rs. given (passOf (h .count) (map (entryOf h) rs) draft))
+            → _then_ {B = Sheet} x (λ rs. given (record { header = h; records = rs })) ≡ refused k p
+        go (given rs) g = given-refused (sym g)
+        go (refused l q) g = ap₂ refused (sym (refused-number g)) (sym (refused-place g))
 
     sheet-given : (rs : List Record) → recordsIn 0 0 (partsFrom s 0 (h .count)) ≡ given rs → sheetIn s room ≡ given (record { header = h; records = rs })
     unfolding sheetIn _then_
     sheet-given rs e = rw (sym read, e)
 
-    -- nothing was found
-    pub accepted : given tt ≡ plain (recordsIn 0 0 (partsFrom s 0 (h .count))) → Accepted s h room
-    accepted e =
-        let f = header-fits s room h (sym read) in
-        record { header = f .read; whole = f .whole; fits = f .fits; sound = sym e }
-
 -- ---- what the code does
+
+-- a part that is copied whole
+pub copied : (k : ℕ) (from to after : List ℕ) → k ≡ length from → after ≡ take (length from) from ++ drop (length from) to → after ≡ from ++ drop k to
+copied k from to after e w = w ∙ ap₂ (λ (a b : List ℕ). a ++ b) (take-all (length from) from (omega arith)) (ap (λ (n : ℕ). drop n to) (sym e))
 
 module _ (s out : List ℕ) where
   pub refused-checks : (x : Refusal) → sheetIn s (length out) ≡ told x → Checks s out (notDone x) out
   unfolding answerOf _then_
   refused-checks x e = record { answer = rw e; bytes = sym (refused-as-lent s out _ _ e) }
 
-  pub done-checks : (h : Header) (read : given h ≡ headerFor s (length out)) (ok : Accepted s h (length out)) (failed : ℕ) (after : List ℕ) → Judges h s out failed after → Checks s out (Done (h .count) failed) after
-  unfolding verdicts
-  done-checks h read ok failed after j =
-      let f = found s h (length out) ok in
-      let e = sheet-given s (length out) h read (f .0) (f .1) in
-      let v = entries-verdicts s h (length out) ok in
-      record {
-        answer = ap (λ (k : ℕ). given (record { n = h .count; failed = k })) (j .count ∙ ap failures v) ∙ sym (answer-done s out _ e);
-        bytes = j .bytes ∙ ap (λ (es : List Entry). bytesOf es ++ drop (4 * h .count) out) v ∙ sym (output-done s out _ e);
-      }
+  -- the draft's verdicts go into the output
+  module _ (h : Header) (read : given h ≡ headerFor s (length out)) (draft : List ℕ) (failed : ℕ) (drawn after : List ℕ) (copy : after ≡ take (4 * h .count) drawn ++ drop (4 * h .count) out) where
+    given-checks : (rs : List Record) → recordsIn 0 0 (partsFrom s 0 (h .count)) ≡ given rs → passOf (h .count) (map (entryOf h) rs) draft ≡ record { failed = failed; draft = drawn }
+        → Checks s out (Done (h .count) failed) after
+    unfolding verdicts
+    given-checks rs found pass =
+        let es = map (entryOf h) rs in
+        let size = 4 * h .count in
+        let whole = sheet-given s (length out) h read rs found in
+        let sized : length (bytesOf es) ≡ size = bytes-length es ∙ ap (λ (k : ℕ). 4 * k) (length-map rs (entryOf h) ∙ taken s (h .count) 0 0 rs found .1) in
+        let front : take size drawn ≡ bytesOf es = ap (λ (p : Pass). take size (p .draft)) (sym pass) ∙ take-at (bytesOf es) (drop size draft) size sized in
+        record {
+          answer = ap (λ (p : Pass). given (record { n = h .count; failed = p .failed })) (sym pass) ∙ sym (answer-done s out _ whole);
+          bytes = copy ∙ ap (λ (l : List ℕ). l ++ drop size out) front ∙ sym (output-done s out _ whole);
+        }
+
+    pub done-checks : given (record { failed = failed; draft = drawn }) ≡ passOver h s draft → Checks s out (Done (h .count) failed) after
+    unfolding passOver
+    done-checks e =
+        let a = then-given (recordsIn 0 0 (partsFrom s 0 (h .count))) _ _ (sym e) in
+        given-checks (a .0) (a .1) (given-same (a .2))

@@ -1,51 +1,44 @@
--- What the two passes' own functions say. The promise of `check` rests on none of it.
+-- What the functions of the pass over the records say. The promise of `check` rests on none of it.
 use mathlib.Core.Path.{_≡_}
-use Prim.Native.Nat.{ℕ, zero, suc, _+_, _*_, _≤_}
-use mathlib.Core.List.{List, [], _∷_, _++_}
+use Prim.Native.Nat.{ℕ, _+_, _*_, _≤_}
+use mathlib.Core.List.{List, _++_, map}
 use lib.ListN.{length, drop}
 use Rattle.sheet.specs.declared.Header.{Header}
-use Rattle.sheet.specs.declared.Record.{Record}
-use Rattle.layout.specs.Bytes.{readOf}
-use Rattle.sheet.specs.RecordLaws.{recordAt}
-use Rattle.sheet.specs.Refusals.{Answer, given, refused}
-use Rattle.sheet.specs.Header.{readHeader}
-use Rattle.verdict.specs.declared.Verdict.{Verdict}
-use Rattle.verdict.specs.Judged.{judgedBy}
-use Rattle.hull.specs.Hull.{verdict}
+use Rattle.sheet.specs.Refusals.{Answer, given, told}
+use Rattle.sheet.specs.Header.{headerFault}
 use Rattle.checker.specs.declared.Entry.{Entry}
-use Rattle.checker.specs.Check.{recordPart, partsFrom, recordsIn, bytesOf, failures}
+use Rattle.checker.specs.declared.Passed.{Passed}
+use Rattle.checker.specs.declared.Passed.the-variants.{Fine, Refused as notPassed}
+use Rattle.checker.specs.Check.{_then_, partsFrom, soundAfter, recordsIn, entryOf, bytesOf, failures}
 
--- whether an answer is given, or the refusal
-abbrev pub plain : {A : Type 0} → Answer A → Answer (Unit {0})
-plain (given a) = given tt
-plain (refused k p) = refused k p
+-- nothing is given
+abbrev pub Refuses : {A : Type 0} → Answer A → Type 0
+Refuses {A} x = (a : A) → x ≡ given a → ⊥
 
--- stands where there is no verdict, which does not happen in a sheet that the first pass has found sound
-abbrev pub blank : Entry
-blank = record { id = 0; rule = 0; required = 0 }
+-- record i: 6, 7 and 8, and else the verdict on it
+unfoldable pub judgedAfter : Header → (i before : ℕ) → List ℕ → Answer Entry
+judgedAfter h i before b = soundAfter i before b then λ r. given (entryOf h r)
 
--- a record's id with what judging it gave
-abbrev pub judgedEntry : ℕ → Answer Verdict → Entry
-judgedEntry id (given v) = record { id = id; rule = v .rule; required = v .required }
-judgedEntry id (refused k p) = blank
-
--- the entry of a record, from its bytes, whatever its values
-unfoldable pub judgedIn : Header → List ℕ → Entry
-judgedIn h b = let r = recordAt (readOf 16 b) in judgedEntry (r .id) (judgedBy h r (verdict h r))
-
--- those of the records i, i + 1, .., so many of them
-unfoldable pub entriesFrom : Header → List ℕ → (i count : ℕ) → List Entry
-entriesFrom h s i zero = []
-entriesFrom h s i (suc count) = judgedIn h (recordPart s i) ∷ entriesFrom h s (i + 1) count
-
--- a sheet in which the first pass has found nothing
-pub record Accepted (s : List ℕ) (h : Header) (room : ℕ) : Type 0 where
-  pub header : readHeader s ≡ given h
+-- the header is sound, and sheet and draft have room for what it counts
+pub record Ready (h : Header) (s : List ℕ) (room : ℕ) : Type 0 where
+  pub header : headerFault h 0 ≡ 0
   pub whole : length s ≡ 12 + 16 * h .count
   pub fits : 4 * h .count ≤ room
-  pub sound : plain (recordsIn 0 0 (partsFrom s 0 (h .count))) ≡ given tt
 
--- what the second pass leaves in the output, and how many verdicts it counts
-pub record Judges (h : Header) (s out : List ℕ) (failed : ℕ) (after : List ℕ) : Type 0 where
-  pub count : failed ≡ failures (entriesFrom h s 0 (h .count))
-  pub bytes : after ≡ bytesOf (entriesFrom h s 0 (h .count)) ++ drop (4 * h .count) out
+-- where no record is turned away: how many verdicts have a rule, and what the draft holds
+pub record Pass : Type 0 where
+  pub failed : ℕ
+  pub draft : List ℕ
+
+-- what the code's answer says, with the draft as it is left; after a refusal that is nobody's
+abbrev pub toldPassed : Passed → List ℕ → Answer Pass
+toldPassed (Fine failed) draft = given (record { failed = failed; draft = draft })
+toldPassed (notPassed r) draft = told r
+
+-- the pass of verdicts over a draft
+abbrev pub passOf : ℕ → List Entry → List ℕ → Pass
+passOf n es draft = record { failed = failures es; draft = bytesOf es ++ drop (4 * n) draft }
+
+-- and of the records of a sheet
+unfoldable pub passOver : Header → List ℕ → List ℕ → Answer Pass
+passOver h s draft = recordsIn 0 0 (partsFrom s 0 (h .count)) then λ rs. given (passOf (h .count) (map (entryOf h) rs) draft)

@@ -8,18 +8,17 @@ use sheet::Refusal;
 use verdict::Judged;
 ghost use mathlib.Core.Path.{_≡_};
 ghost use mathlib.Core.Bool.{cond};
-ghost use mathlib.Core.List.{_++_};
-ghost use Prim.Native.Nat.{_+_, _*_, _≤_, _<_};
+ghost use Prim.Native.Nat.{_+_, _*_, _≤_};
 ghost use lib.Dec.{eqb};
-ghost use lib.ListN.{length, drop};
+ghost use lib.ListN.{length};
 ghost use Rattle.quantity.specs.Range.{modulus};
 ghost use Rattle.layout.specs.Layout.{pack, unpack, Fit};
-ghost use Rattle.sheet.specs.Refusals.{toldOutcome, toldHeader, toldRecord};
-ghost use Rattle.sheet.specs.Record.{readRecord};
+ghost use Rattle.sheet.specs.Refusals.{given, told, toldOutcome, toldHeader, toldRecord};
+ghost use Rattle.sheet.specs.Header.{headerFault};
 ghost use Rattle.sheet.specs.Writes.{Writes};
 ghost use Rattle.checker.specs.Entry.{verdictWidths, entryValues, entryAt, entryFault, toldEntry, readEntry, writeEntry};
-ghost use Rattle.checker.specs.Check.{headerFor, recordPart, recordOf, partsFrom, soundAfter, recordsIn, failing as failingOf, Checks};
-ghost use Rattle.checker.specs.Passes.{plain, judgedIn, Accepted, Judges};
+ghost use Rattle.checker.specs.Check.{headerFor, recordPart, soundAfter, failing as failingOf, Checks};
+ghost use Rattle.checker.specs.Passes.{Refuses, judgedAfter, Ready, toldPassed, passOver};
 
 // One verdict as it stands in the output, with the id of its record.
 pub struct Entry {
@@ -46,6 +45,9 @@ const HEADER: usize = 12;
 const RECORD: usize = 16;
 
 const VERDICT: usize = 4;
+
+// The verdicts of the longest sheet, 400 of them.
+const DRAFT: usize = 1600;
 
 const P19: u32 = 524288;
 
@@ -152,67 +154,51 @@ fn sound_after(bytes: &[u8], i: u16, before: u16) -> RecordRead
     }
 }
 
-fn sound_at(sheet: &[u8], i: u16, before: u16) -> RecordRead
-    requires { ⌜ 12 + 16 * i + 16 ≤ length (now sheet) ⌝ }
-    ensures { λ r. ⌜ toldRecord r ≡ soundAfter i before (recordPart (now (sheet .entry)) i) ⌝ }
+// Why record i is turned away, where it is.
+fn why_refused(bytes: &[u8], i: u16, before: u16) -> Refusal
+    requires { ⌜ Refuses (soundAfter i before (now bytes)) ⌝ }
+    ensures { λ x. ⌜ told x ≡ soundAfter i before (now (bytes .entry)) ⌝ }
 {
-    let from = HEADER + RECORD * (i as usize);
-    let to = from + RECORD;
-    sound_after(&sheet[from..to], i, before)
-}
-
-// The first pass: the first fault in the n records of the sheet.
-fn records_fault(sheet: &[u8], n: u16) -> Outcome
-    requires { ⌜ length (now sheet) ≡ 12 + 16 * n ⌝ }
-    ensures { λ r. ⌜ toldOutcome r ≡ plain (recordsIn 0 0 (partsFrom (now (sheet .entry)) 0 n)) ⌝ }
-{
-    // Ids are at least 1, so that the first record's is above this one.
-    let mut before: u16 = 0;
-    let mut i: u16 = 0;
-    while i < n {
-        match sound_at(sheet, i, before) {
-            RecordRead::Refused(x) => {
-                return Outcome::Refused(x);
-            }
-            RecordRead::Good(r) => {
-                before = r.id;
-            }
-        }
-        i += 1;
+    let read = sound_after(bytes, i, before);
+    match read {
+        RecordRead::Refused(x) => x,
+        RecordRead::Good(_) => Refusal::Order(i as u32),
     }
-    Outcome::Fine
 }
 
-// What stands where there is no verdict. In a sheet that the first pass has found sound there always is one.
-const BLANK: Entry = Entry {
-    id: 0,
-    rule: 0,
-    required: 0,
-};
-
-// The verdict on a record, from its sixteen bytes. Judging tests its values again, so that reading need not.
-fn entry_in(h: Header, bytes: &[u8]) -> Entry
-    ensures { λ e. ⌜ e ≡ judgedIn h (now (bytes .entry)) ⌝ }
+// The verdict on record i, in its sixteen bytes, after a record with the id `before`; or refusals 6 to 8. Judging tests the record's values, so that
+// the reader is asked only for the reason of a refusal.
+fn judged_after(h: Header, bytes: &[u8], i: u16, before: u16) -> EntryRead
+    requires { ⌜ headerFault h 0 ≡ 0 ⌝ }
+    ensures { λ r. ⌜ toldEntry r ≡ judgedAfter h i before (now (bytes .entry)) ⌝ }
 {
-    let r = record::record_in(bytes);
+    let raw = record::record_in(bytes);
+    let r = raw.values;
+    if raw.spare != 0 {
+        return EntryRead::Refused(why_refused(bytes, i, before));
+    }
+    let id = r.id;
+    if id <= before {
+        return EntryRead::Refused(why_refused(bytes, i, before));
+    }
     let judged = hull::judge(h, r);
     let Judged::Verdict(v) = judged else {
-        return BLANK;
+        return EntryRead::Refused(why_refused(bytes, i, before));
     };
-    Entry {
-        id: r.id,
+    EntryRead::Good(Entry {
+        id,
         rule: v.rule,
         required: v.required,
-    }
+    })
 }
 
-fn entry_at(h: Header, sheet: &[u8], i: u16) -> Entry
-    requires { ⌜ 12 + 16 * i + 16 ≤ length (now sheet) ⌝ }
-    ensures { λ e. ⌜ e ≡ judgedIn h (recordPart (now (sheet .entry)) i) ⌝ }
+fn judged_at(h: Header, sheet: &[u8], i: u16, before: u16) -> EntryRead
+    requires { ⌜ (headerFault h 0 ≡ 0) × (12 + 16 * i + 16 ≤ length (now sheet)) ⌝ }
+    ensures { λ r. ⌜ toldEntry r ≡ judgedAfter h i before (recordPart (now (sheet .entry)) i) ⌝ }
 {
     let at = HEADER + RECORD * (i as usize);
     let end = at + RECORD;
-    entry_in(h, &sheet[at..end])
+    judged_after(h, &sheet[at..end], i, before)
 }
 
 fn failing(e: Entry) -> u16
@@ -221,23 +207,55 @@ fn failing(e: Entry) -> u16
     if e.rule == 0 { 0 } else { 1 }
 }
 
-// The second pass: each record's verdict into its own four bytes of the output. The answer is how many have a rule.
-fn judge_all(h: Header, sheet: &[u8], out: &mut [u8]) -> u16
-    requires { ⌜ Accepted (now sheet) h (length (now out)) ⌝ }
-    ensures { λ r. ⌜ Judges h (now (sheet .entry)) (now (out .entry)) r (now (out .exit)) ⌝ }
+// What the pass over the records comes to.
+enum Passed {
+    // how many verdicts have a rule
+    Fine(u16),
+    Refused(Refusal),
+}
+
+// The pass: each record is judged in turn and its verdict goes into its own four bytes of the draft, up to the first record that is turned away.
+fn judge_all(h: Header, sheet: &[u8], draft: &mut [u8]) -> Passed
+    requires { ⌜ Ready h (now sheet) (length (now draft)) ⌝ }
+    ensures { λ r. ⌜ toldPassed r (now (draft .exit)) ≡ passOver h (now (sheet .entry)) (now (draft .entry)) ⌝ }
 {
     let count = h.count;
     let mut failed: u16 = 0;
+    // Ids are at least 1, so that the first record's is above this one.
+    let mut before: u16 = 0;
     let mut i: u16 = 0;
     while i < count {
-        let e = entry_at(h, sheet, i);
+        let judged = judged_at(h, sheet, i, before);
+        let e = match judged {
+            EntryRead::Refused(x) => {
+                return Passed::Refused(x);
+            }
+            EntryRead::Good(e) => e,
+        };
         let first = VERDICT * (i as usize);
         let past = first + VERDICT;
-        write_verdict(e, &mut out[first..past]);
+        write_verdict(e, &mut draft[first..past]);
         failed += failing(e);
+        before = e.id;
         i += 1;
     }
-    failed
+    Passed::Fine(failed)
+}
+
+// The records of a sheet whose header is sound. What the draft holds goes into the output once none of them is turned away.
+fn judge_sheet(h: Header, sheet: &[u8], draft: &mut [u8], out: &mut [u8]) -> Checked
+    requires { ⌜ (given h ≡ headerFor (now sheet) (length (now out))) × (4 * h .count ≤ length (now draft)) ⌝ }
+    ensures { λ r. ⌜ Checks (now (sheet .entry)) (now (out .entry)) r (now (out .exit)) ⌝ }
+{
+    let passed = judge_all(h, sheet, draft);
+    match passed {
+        Passed::Refused(x) => Checked::Refused(x),
+        Passed::Fine(failed) => {
+            let size = VERDICT * (h.count as usize);
+            bytes::copy(&draft[..size], out);
+            Checked::Done { n: h.count, failed }
+        }
+    }
 }
 
 // The whole sheet. A refusal leaves the output as it was lent; else each record's verdict stands in its own four bytes, and no other byte is touched.
@@ -245,18 +263,11 @@ pub fn check(sheet: &[u8], out: &mut [u8]) -> Checked
     ensures { λ r. ⌜ Checks (now (sheet .entry)) (now (out .entry)) r (now (out .exit)) ⌝ }
 {
     let read = header_for(sheet, out.len());
-    let h = match read {
-        HeaderRead::Refused(x) => {
-            return Checked::Refused(x);
-        }
-        HeaderRead::Good(h) => h,
-    };
-    let found = records_fault(sheet, h.count);
-    match found {
-        Outcome::Refused(x) => Checked::Refused(x),
-        Outcome::Fine => {
-            let failed = judge_all(h, sheet, out);
-            Checked::Done { n: h.count, failed }
+    match read {
+        HeaderRead::Refused(x) => Checked::Refused(x),
+        HeaderRead::Good(h) => {
+            let mut draft = [0u8; DRAFT];
+            judge_sheet(h, sheet, &mut draft, out)
         }
     }
 }

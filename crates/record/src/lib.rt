@@ -12,6 +12,7 @@ use sheet::Body;
 use sheet::Member;
 use sheet::Outcome;
 use sheet::Plate;
+use sheet::Raw;
 use sheet::Record;
 use sheet::RecordRead;
 use sheet::Refusal;
@@ -25,7 +26,7 @@ ghost use Rattle.layout.specs.Bytes.{longOf, readOf};
 ghost use Rattle.sheet.specs.Lines.{plateWidths, memberWidths};
 ghost use Rattle.sheet.specs.Refusals.{given, toldOutcome, toldRecord, recordRefused};
 ghost use Rattle.sheet.specs.Record.{ofPlate, ofMember, plateValues, memberValues, plateAt, memberAt, plateFault, memberFault, recordFault, readRecord, writeRecord, widthsIn, valuesIn, recordNumber};
-ghost use Rattle.sheet.specs.RecordLaws.{recordAt, spareAt};
+ghost use Rattle.sheet.specs.RecordLaws.{recordAt, spareAt, rawAt};
 ghost use Rattle.sheet.specs.Writes.{Writes};
 
 const P6: u64 = 64;
@@ -369,11 +370,14 @@ pub fn read_record_as(s: &[u8], i: u16) -> RecordRead
     RecordRead::Refused(refuse(i, f))
 }
 
-// The record in the first sixteen bytes, whatever its values, for whoever has it judged next; fewer bytes are read as 0.
-pub fn record_in(s: &[u8]) -> Record
-    ensures { λ r. ⌜ r ≡ recordAt (readOf 16 (now (s .entry))) ⌝ }
+// The record in the first sixteen bytes as it stands, for whoever has it judged next; fewer bytes are read as 0.
+pub fn record_in(s: &[u8]) -> Raw
+    ensures { λ r. ⌜ r ≡ rawAt (readOf 16 (now (s .entry))) ⌝ }
 {
-    record_of(layout::read_long(s))
+    let n = layout::read_long(s);
+    let values = record_of(n);
+    let spare = spare_of(n);
+    Raw { values, spare }
 }
 
 // `read_record_as` of a record alone, which is record 0.

@@ -5,6 +5,7 @@ use mathlib.Core.Path.{_≡_, sym, _∙_}
 use mathlib.Core.List.{List}
 use Rattle.sheet.specs.declared.Header.{Header}
 use Rattle.sheet.specs.declared.Record.{Record}
+use Rattle.sheet.specs.declared.Raw.{Raw}
 use Rattle.sheet.specs.declared.Outcome.{Outcome}
 use Rattle.sheet.specs.declared.Refusal.{Refusal}
 use Rattle.sheet.specs.declared.HeaderRead.{HeaderRead}
@@ -13,7 +14,7 @@ use Rattle.sheet.specs.Refusals.{given, numberOf, placeOf, toldOutcome, 
 use Rattle.sheet.specs.RefusalLaws.{outcome-only, header-only, record-only}
 use Rattle.sheet.specs.Header.{headerFault, readHeader, writeHeader}
 use Rattle.layout.specs.Bytes.{readOf}
-use Rattle.sheet.specs.RecordLaws.{recordAt}
+use Rattle.sheet.specs.RecordLaws.{rawAt}
 use Rattle.sheet.specs.Record.{recordFault, readRecord, writeRecord}
 use Rattle.sheet.specs.Writes.{Writes}
 
@@ -50,5 +51,5 @@ number-only r a b p q = p ∙ sym q
 pub place-only : (r : Refusal) (a b : ℕ) → a ≡ placeOf r → b ≡ placeOf r → a ≡ b
 place-only r a b p q = p ∙ sym q
 
-pub record-in-only : (s : List ℕ) (a b : Record) → a ≡ recordAt (readOf 16 s) → b ≡ recordAt (readOf 16 s) → a ≡ b
+pub record-in-only : (s : List ℕ) (a b : Raw) → a ≡ rawAt (readOf 16 s) → b ≡ rawAt (readOf 16 s) → a ≡ b
 record-in-only s a b p q = p ∙ sym q

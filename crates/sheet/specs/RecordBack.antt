@@ -5,11 +5,14 @@ use mathlib.Core.Path.{_≡_, refl, sym, ap, ap₂, _∙_}
 use mathlib.Core.Bool.{Bool, true, false, cond}
 use mathlib.Core.List.{List}
 use native.Mathlib.Omega.{arith}
+use native.Mathlib.Decide.{decLt}
 use lib.ListN.{length, getD, take}
 use lib.Dec.{ltb}
 use borrow.Author.Tests.{lt-ltb, le-ltb}
 use Rattle.quantity.specs.Range.{from}
 use Rattle.layout.specs.Layout.{total, pack, unpack, bytes, Fit}
+use Rattle.layout.specs.Bytes.{readOf}
+use Rattle.layout.specs.BytesLaws.{read-few, read-all}
 use Rattle.layout.specs.Laws.{pack-lt, pack-unpack-lt, unpack-pack}
 use Rattle.layout.specs.Line.{Allowed}
 use Rattle.layout.specs.LineLaws.{none-all, low-high}
@@ -17,13 +20,14 @@ use Rattle.sheet.specs.declared.Plate.{Plate}
 use Rattle.sheet.specs.declared.Body.{Body}
 use Rattle.sheet.specs.declared.Body.the-variants.{Plate as isPlate, Member as isMember}
 use Rattle.sheet.specs.declared.Record.{Record}
+use Rattle.sheet.specs.declared.Raw.{Raw}
 use Rattle.sheet.specs.Lines.{plateLines, plateWidths, memberWidths}
 use Rattle.sheet.specs.Refusals.{given, refused, recordRefused}
 use Rattle.sheet.specs.RefusalLaws.{at-none, by-none, given-refused}
-use Rattle.sheet.specs.Record.{plateValues, memberValues, plateAt, plateRecord, memberRecord, plateFault, bodyFault, recordFault, plateIn, recordIn, readRecord, widthsIn, valuesIn, recordNumber, writeRecord}
+use Rattle.sheet.specs.Record.{plateValues, memberValues, plateAt, plateRecord, memberRecord, plateFault, memberFault, bodyFault, recordFault, plateIn, recordIn, readRecord, widthsIn, valuesIn, recordNumber, writeRecord}
 use Rattle.sheet.specs.HeaderLaws.{flag-read}
-use Rattle.sheet.specs.RecordLaws.{recordAt, spareAt, plate-values-at, record-in, record-fit, plate-ranges, member-ranges}
-use Rattle.sheet.specs.Exactly.{slice-long}
+use Rattle.sheet.specs.RecordLaws.{recordAt, spareAt, rawAt, plate-values-at, record-in, record-fit, plate-ranges, member-ranges}
+use Rattle.sheet.specs.Exactly.{Exactly, slice-long}
 use Rattle.sheet.specs.RecordExactly.{recordCases}
 use Rattle.sheet.specs.Back.{read-again, written-again, written-onto}
 
@@ -148,3 +152,36 @@ module _ (i : ℕ) where
       pub record-written-onto : writeRecord r s .bytes ≡ s
       unfolding readRecord writeRecord
       record-written-onto = written-onto (recordCases 0) (recordIn i) recordNumber (λ a. recordFault a 0) number-read read-back s r fit e
+
+  -- bytes are read as a record exactly when the record in them has no fault and nothing stands in the bits that carry nothing
+  module _ (s : List ℕ) (r : Record) where
+    abbrev Bare : Type 0
+    Bare = (rawAt (readOf 16 s) ≡ record { values = r; spare = 0 }) × (recordFault r 0 ≡ 0)
+
+    read-bare : readRecord i s ≡ given r → Bare
+    read-bare e =
+        let n = pack (bytes 16) (take 16 s) in
+        let m = inside s r e in
+        let a = read-as n r (m .1) in (
+          ap rawAt (read-all 16 s (m .0)) ∙ ap₂ (λ (q : Record) (t : ℕ). record { values = q; spare = t }) (a .1) (spare-none n (a .0)),
+          record-read-fine s r e,
+        )
+
+    bare-read : Bare → readRecord i s ≡ given r
+    unfolding readRecord plateFault memberFault
+    bare-read b = go (decLt (length s) 16)
+      where
+        go : Dec (length s < 16) → readRecord i s ≡ given r
+        go (yes l) =
+            let none : recordFault (recordAt 0) 0 ≡ 0 = ap (λ (w : Raw). recordFault (w .values) 0) (ap rawAt (sym (read-few 16 s l)) ∙ b .0) ∙ b .1 in
+            absurd (omega arith)
+        go (no l) =
+            let n = pack (bytes 16) (take 16 s) in
+            let long : 16 ≤ length s = omega arith in
+            rw (le-ltb (length s) 16 long)
+            (record-in i n
+            ∙ ap (λ (w : Raw). recordRefused i (recordFault (w .values) (w .spare)) (given (w .values))) (ap rawAt (sym (read-all 16 s long)) ∙ b .0)
+            ∙ at-none (refused 6 i) (λ k. refused 7 (32 * i + k)) (recordFault r 0) (given r) (b .1))
+
+    pub record-read-raw : Exactly (readRecord i s ≡ given r) ((rawAt (readOf 16 s) ≡ record { values = r; spare = 0 }) × (recordFault r 0 ≡ 0))
+    record-read-raw = (read-bare, bare-read)

@@ -17,6 +17,7 @@ use Rattle.sheet.specs.declared.Member.{Member}
 use Rattle.sheet.specs.declared.Body.{Body}
 use Rattle.sheet.specs.declared.Body.the-variants.{Plate as isPlate, Member as isMember}
 use Rattle.sheet.specs.declared.Record.{Record}
+use Rattle.sheet.specs.declared.Raw.{Raw}
 use Rattle.sheet.specs.Kinds.{isLong, isBottom, isFloor, isDeep}
 use Rattle.sheet.specs.Lines.{either, none, plateTable, memberTable, plateLines, memberLines, plateWidths, memberWidths}
 use Rattle.sheet.specs.Record.{plateValues, memberValues, plateAt, plateRecord, memberRecord, plateLinesOf, memberLinesOf, plateFault, memberFault, bodyFault, recordFault, plateIn, recordIn, widthsIn, valuesIn}
@@ -31,6 +32,10 @@ recordAt n = cond (plateIn n) (plateRecord (unpack plateWidths n)) (memberRecord
 -- what stands there in the bits that carry nothing
 abbrev pub spareAt : ℕ → ℕ
 spareAt n = cond (plateIn n) (getD (unpack plateWidths n) 11 0) 0
+
+-- both, from one number
+abbrev pub rawAt : ℕ → Raw
+rawAt n = record { values = recordAt n; spare = spareAt n }
 
 -- the values of the plate that a number's fields are are those fields
 pub plate-values-at : (n : ℕ) → let vs = unpack plateWidths n in plateValues (getD vs 0 0) (getD vs 1 0) (plateAt vs) (getD vs 11 0) ≡ vs

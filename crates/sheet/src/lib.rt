@@ -79,6 +79,12 @@ pub struct Record {
     pub body: Body,
 }
 
+// A record as it stands in its bytes, with what stands in the bits that carry nothing. Neither has been tested.
+pub struct Raw {
+    pub values: Record,
+    pub spare: u32,
+}
+
 // Why a sheet, a header or a record is turned away, in the order of the table. What a case carries is its place.
 pub enum Refusal {
     SheetShort,

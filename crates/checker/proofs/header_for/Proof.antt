@@ -8,7 +8,7 @@ use lib.ListN.{length}
 use denote.Ref.{now}
 use Rattle.sheet.specs.Refusals.{given, toldHeader}
 use Rattle.sheet.specs.Header.{readHeader}
-use Rattle.checker.proofs.First.{header-refused, header-length, header-room, header-good}
+use Rattle.checker.proofs.Faults.{header-refused, header-length, header-room, header-good}
 use Rattle.checker.proofs.header_for.Statement.{statement}
 use Rattle.checker.proofs.header_for.Tie as tie
 

@@ -1,65 +1,63 @@
--- `checker::judge_all` meets its contract. The loop's invariant: with the entries that are left, the count and the bytes are those of all.
+-- `checker::judge_all` meets its contract. The loop's invariant: what the pass comes to from here on is what it comes to in all.
 -- Assumes nothing.
 use borrow.Author.Needs.{needs}
 use mathlib.Core.Path.{_≡_, refl, ap, sym, _∙_}
-use mathlib.Core.List.{List, _++_}
-use Prim.Native.Nat.{_+_, _*_, _≤_, _-_}
+use Prim.Native.Nat.{_≤_, _-_}
 use native.Mathlib.Omega.{arith}
-use native.Mathlib.Nat.{zero-add}
 use denote.Ref.{now}
-use lib.ListN.{length, take, drop}
-use Rattle.checker.specs.declared.Entry.{Entry}
-use Rattle.checker.specs.Entry.{entryFault}
-use Rattle.checker.specs.Check.{bytesOf, failures}
-use Rattle.checker.specs.Passes.{entriesFrom}
-use Rattle.checker.proofs.Second.{rest, rest-all, entry-fits, failures-turn, bytes-turn, failures-none, bytes-none}
+use lib.ListN.{length}
+use Rattle.sheet.specs.Refusals.{given}
+use Rattle.checker.specs.Entry.{toldEntry}
+use Rattle.checker.specs.Check.{recordPart}
+use Rattle.checker.specs.Passes.{judgedAfter, passOver}
+use Rattle.checker.proofs.Pass.{passFrom, pass-start, pass-refused, pass-turn, pass-end}
 use Rattle.checker.proofs.judge_all.Statement.{statement}
 use Rattle.checker.proofs.judge_all.Tie as tie
 
 abbrev Inv-loop : tie.InvT-loop
-Inv-loop h sheet out₀ n failed₀ i₀ out failed i =
-    (i ≤ n) × (failed ≤ i) × (length out ≡ length out₀)
-    × (failed + failures (rest n h sheet i) ≡ failures (entriesFrom h sheet 0 n))
-    × (take (4 * i) out ++ bytesOf (rest n h sheet i) ++ drop (4 * n) out ≡ bytesOf (entriesFrom h sheet 0 n) ++ drop (4 * n) out₀)
+Inv-loop h sheet draft₀ n failed₀ before₀ i₀ draft failed before i =
+    (i ≤ n) × (failed ≤ i) × (length draft ≡ length draft₀) × (passFrom n h sheet i before failed draft ≡ passOver h sheet draft₀)
 
 abbrev μ-loop : tie.MeasureT-loop
-μ-loop h sheet out₀ n failed₀ i₀ out failed i = n - i
+μ-loop h sheet draft₀ n failed₀ before₀ i₀ draft failed before i = n - i
 
 loop-holds : tie.Need-loop-holds Inv-loop μ-loop
 loop-holds c =
     let a = c .before .before .args in
-    let e = rest-all (a .h .count) (a .h) (now (a .sheet)) in
-    (search needs, search needs, refl, zero-add _ ∙ ap failures e, ap (λ (es : List Entry). bytesOf es ++ drop (4 * a .h .count) (now (a .out))) e)
+    (search needs, search needs, refl, pass-start (a .h) (now (a .sheet)) (now (a .draft)))
+
+returns : tie.Need-returns Inv-loop μ-loop
+returns c =
+    let at-judged = c .before .before .before in
+    let turn = at-judged .before in
+    let l = turn .before .loop in
+    let a = turn .before .before .before .before .args in
+    pass-refused (a .h .count) (a .h) (now (a .sheet)) (l .i) (l .before) (l .failed) (l .draft) (l .inv .3) _ _ (turn .loop-test .taken)
+    (sym (ap toldEntry (c .before .judged .given .1)) ∙ at-judged .judged-at .ensures)
 
 loop-again : tie.Need-loop-again Inv-loop μ-loop
 loop-again c =
     let at-write = c .before .before .before in
-    let at-entry = at-write .before .before in
-    let turn = at-entry .before in
+    let at-entry = at-write .before .before .before in
+    let at-judged = at-entry .before .before in
+    let turn = at-judged .before in
     let l = turn .before .loop in
     let start = turn .before .before .before .before in
     let a = start .args in
-    let h = a .h in
-    let s = now (a .sheet) in
-    let e = at-entry .entry-at .result in
-    let fine : entryFault e 0 ≡ 0 = ap (λ (x : Entry). entryFault x 0) (at-entry .entry-at .ensures) ∙ entry-fits s h _ (start .pre) (l .i) (turn .loop-test .taken) in
-    let f = failures-turn (h .count) h s (l .i) (turn .loop-test .taken) e (at-entry .entry-at .ensures) in (
+    let e = at-entry .judged2 .given .0 .0 in
+    let judged : given e ≡ judgedAfter (a .h) (l .i) (l .before) (recordPart (now (a .sheet)) (l .i)) = sym (ap toldEntry (at-entry .judged2 .given .1)) ∙ at-judged .judged-at .ensures in (
       search needs,
       search needs,
-      omega (arith, c .before .before .out .given .1, l .inv .2),
-      omega (arith, f, c .failing .ensures .0, l .inv .3),
-      bytes-turn (h .count) h s (l .i) (turn .loop-test .taken) e (at-entry .entry-at .ensures) (l .out) _ (at-write .write-verdict .last .1 .0) refl fine (at-write .write-verdict .ensures .bytes) (omega (arith, l .inv .2, start .pre .fits)) ∙ l .inv .4,
+      omega (arith, c .before .before .draft .given .1, l .inv .2),
+      pass-turn (a .h .count) (a .h) (now (a .sheet)) (l .i) (l .before) (l .failed) (l .draft) (l .inv .3) (turn .loop-test .taken) e judged _ (at-write .write-verdict .last .1 .0) refl
+          (at-write .write-verdict .ensures .bytes) (omega (arith, l .inv .2, start .pre .fits)) (c .failing .result) (c .failing .ensures .0),
     )
 
-returns : tie.Need-returns Inv-loop μ-loop
-returns c =
+returns-2 : tie.Need-returns-2 Inv-loop μ-loop
+returns-2 c =
     let l = c .before .loop in
     let a = c .before .before .before .before .args in
-    let f = failures-none (a .h .count) (a .h) (now (a .sheet)) (l .i) (c .loop-test .left) in
-    record {
-      count = omega (arith, l .inv .3, f);
-      bytes = sym (bytes-none (a .h .count) (a .h) (now (a .sheet)) (l .i) (l .out) (omega arith)) ∙ l .inv .4;
-    }
+    pass-end (a .h .count) (a .h) (now (a .sheet)) (l .i) (l .before) (l .failed) (l .draft) (l .inv .3) (omega arith)
 
 pub judge-all-spec : {M : Type 1} → statement M
 judge-all-spec =
@@ -68,7 +66,11 @@ judge-all-spec =
     Inv-loop
     μ-loop
     loop-holds
-    (λ c κs. search needs)
+    (λ c κs. (c .before .before .before .before .pre .header, omega arith))
+    (λ c. search needs)
+    (λ c. c .before .before .before .before .before .loop .inv .2)
+    returns
+    (λ c. search needs)
     (λ c. search needs)
     (λ c. search needs)
     (λ c. search needs)
@@ -82,4 +84,4 @@ judge-all-spec =
     (λ c. search needs)
     loop-again
     (λ c. c .before .loop .inv .2)
-    returns)
+    returns-2)

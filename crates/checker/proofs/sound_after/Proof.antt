@@ -4,7 +4,7 @@ use borrow.Author.Needs.{needs}
 use mathlib.Core.Path.{sym, ap, _∙_}
 use denote.Ref.{now}
 use Rattle.sheet.specs.Refusals.{toldRecord}
-use Rattle.checker.proofs.First.{record-refused, record-order, record-good}
+use Rattle.checker.proofs.Faults.{record-refused, record-order, record-good}
 use Rattle.checker.proofs.sound_after.Statement.{statement}
 use Rattle.checker.proofs.sound_after.Tie as tie
 

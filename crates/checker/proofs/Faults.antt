@@ -1,0 +1,49 @@
+-- Refusals 1 to 8: which of them is given in each case.
+-- Assumes nothing.
+use Prim.Native.Nat.{ℕ, _+_, _*_, _≤_, _<_}
+use mathlib.Core.Path.{_≡_, refl, sym}
+use mathlib.Core.List.{List}
+use lib.ListN.{length}
+use borrow.Author.Tests.{lt-ltb, le-ltb, le-leb, lt-leb, eq-eqb, ne-eqb}
+use Rattle.sheet.specs.declared.Header.{Header}
+use Rattle.sheet.specs.declared.Record.{Record}
+use Rattle.sheet.specs.Refusals.{Answer, given, refused}
+use Rattle.sheet.specs.Header.{readHeader}
+use Rattle.sheet.specs.Record.{readRecord}
+use Rattle.checker.specs.Check.{_then_, demand, headerFor, soundAfter}
+
+-- ---- refusals 1 to 5
+
+pub header-refused : (s : List ℕ) (room k p : ℕ) → refused k p ≡ readHeader s → refused k p ≡ headerFor s room
+unfolding headerFor _then_
+header-refused s room k p e = rw (sym e)
+
+module _ (s : List ℕ) (room : ℕ) (h : Header) (read : given h ≡ readHeader s) where
+  pub header-length : (length s ≡ 12 + 16 * h .count → ⊥) → refused 4 0 ≡ headerFor s room
+  unfolding headerFor _then_ demand
+  header-length n = rw (sym read, ne-eqb (length s) (12 + 16 * h .count) n)
+
+  module _ (whole : length s ≡ 12 + 16 * h .count) where
+    pub header-room : room < 4 * h .count → refused 5 0 ≡ headerFor s room
+    unfolding headerFor _then_ demand
+    header-room l = rw (sym read, eq-eqb (length s) (12 + 16 * h .count) whole, lt-leb (4 * h .count) room l)
+
+    pub header-good : 4 * h .count ≤ room → given h ≡ headerFor s room
+    unfolding headerFor _then_ demand
+    header-good l = rw (sym read, eq-eqb (length s) (12 + 16 * h .count) whole, le-leb (4 * h .count) room l)
+
+-- ---- refusals 6 to 8 of one record
+
+module _ (i before : ℕ) (b : List ℕ) where
+  pub record-refused : (k p : ℕ) → refused k p ≡ readRecord i b → refused k p ≡ soundAfter i before b
+  unfolding soundAfter _then_
+  record-refused k p e = rw (sym e)
+
+  module _ (r : Record) (read : given r ≡ readRecord i b) where
+    pub record-order : r .id ≤ before → refused 8 i ≡ soundAfter i before b
+    unfolding soundAfter _then_
+    record-order l = rw (sym read, le-ltb before (r .id) l)
+
+    pub record-good : before < r .id → given r ≡ soundAfter i before b
+    unfolding soundAfter _then_
+    record-good l = rw (sym read, lt-ltb before (r .id) l)

@@ -1,0 +1,228 @@
+-- The pass: what one record comes to, one turn, and the whole.
+-- Assumes nothing.
+use Prim.Native.Nat.{ℕ, suc, _+_, _-_, _*_, _≤_, _<_}
+use mathlib.Core.Path.{_≡_, refl, sym, ap, ap₂, _∙_}
+use mathlib.Core.List.{List, [], _∷_, _++_, map, append-assoc, append-nil}
+use native.Mathlib.Omega.{arith}
+use native.Mathlib.Nat.{sub-zero, zero-add, add-zero}
+use lib.ListN.{length, take, drop, take-append-drop, length-take, length-drop, length-append}
+use lib.Seq.{drop-drop, take-at}
+use borrow.Rule.Slice.PartMut.{putMid, drop-put}
+use Rattle.layout.specs.Bytes.{readOf}
+use Rattle.sheet.specs.declared.Header.{Header}
+use Rattle.sheet.specs.declared.Record.{Record}
+use Rattle.sheet.specs.declared.Raw.{Raw}
+use Rattle.sheet.specs.Refusals.{Answer, given, refused}
+use Rattle.sheet.specs.RefusalLaws.{given-refused, refused-number, refused-place, given-same}
+use Rattle.sheet.specs.Header.{headerFault}
+use Rattle.sheet.specs.Record.{recordFault, readRecord}
+use Rattle.sheet.specs.RecordLaws.{rawAt}
+use Rattle.sheet.specs.RecordBack.{record-read-fine, record-read-raw}
+use Rattle.verdict.specs.declared.Verdict.{Verdict}
+use Rattle.verdict.specs.Judged.{judgedBy}
+use Rattle.verdict.specs.JudgedLaws.{Sound, given-sound, sound-given}
+use Rattle.hull.specs.Hull.{verdict}
+use Rattle.checker.specs.declared.Entry.{Entry}
+use Rattle.checker.specs.Entry.{entryFault, entryBytes, writeEntry}
+use Rattle.checker.specs.EntryLaws.{bytes-written}
+use Rattle.checker.specs.Check.{_then_, recordPart, partsFrom, soundAfter, recordsIn, entryOf, bytesOf, failing, failures}
+use Rattle.checker.specs.CheckLaws.{then-given, sound-read}
+use Rattle.checker.specs.Passes.{Refuses, judgedAfter, Pass, passOver}
+use Rattle.checker.specs.Sound.{entry-sound}
+use Rattle.checker.proofs.Faults.{record-good}
+
+-- ---- one record
+
+module _ (h : Header) (i before : ℕ) (b : List ℕ) where
+  pub judged-refused : (k p : ℕ) → refused k p ≡ soundAfter i before b → refused k p ≡ judgedAfter h i before b
+  unfolding judgedAfter _then_
+  judged-refused k p e = rw (sym e)
+
+  -- what a verdict that is given is
+  pub judged-sound : (e : Entry) → given e ≡ judgedAfter h i before b → (r : Record) × (soundAfter i before b ≡ given r) × (e ≡ entryOf h r)
+  unfolding judgedAfter
+  judged-sound e g = let a = then-given (soundAfter i before b) _ e (sym g) in (a .0, a .1, sym (given-same (a .2)))
+
+  -- by the record as it stands in the bytes
+  module _ (w : Raw) (taken : w ≡ rawAt (readOf 16 b)) where
+    -- where the reader gives a record
+    read-as : (r : Record) → soundAfter i before b ≡ given r → (w ≡ record { values = r; spare = 0 }) × (recordFault r 0 ≡ 0) × (before < r .id)
+    read-as r e =
+        let s = sound-read i before b r e in
+        let a = record-read-raw i b r .0 (s .0) in
+        (taken ∙ a .0, a .1, s .1)
+
+    pub spare-refused : (w .spare ≡ 0 → ⊥) → Refuses (soundAfter i before b)
+    spare-refused n r e = n (ap (λ (x : Raw). x .spare) (read-as r e .0))
+
+    pub order-refused : w .values .id ≤ before → Refuses (soundAfter i before b)
+    order-refused l r e = let a = read-as r e in omega (arith, ap (λ (x : Raw). x .values .id) (a .0), a .2)
+
+    module _ (z : headerFault h 0 ≡ 0) where
+      pub judging-refused : (k p : ℕ) → refused k p ≡ judgedBy h (w .values) (verdict h (w .values)) → Refuses (soundAfter i before b)
+      judging-refused k p g r e =
+          let a = read-as r e in
+          let same : w .values ≡ r = ap (λ (x : Raw). x .values) (a .0) in
+          given-refused (sym (g ∙ ap (λ (q : Record). judgedBy h q (verdict h q)) same ∙ sound-given h r (verdict h r) (record { header = z; body = a .1 })))
+
+      pub judged-good : (v : Verdict) → w .spare ≡ 0 → before < w .values .id → given v ≡ judgedBy h (w .values) (verdict h (w .values))
+          → given (record { id = w .values .id; rule = v .rule; required = v .required }) ≡ judgedAfter h i before b
+      unfolding judgedAfter _then_ entryOf
+      judged-good v n l g =
+          let r = w .values in
+          let s = given-sound h r (verdict h r) v (sym g) in
+          let same : v ≡ verdict h r = given-same (g ∙ sound-given h r (verdict h r) s) in
+          let bare : rawAt (readOf 16 b) ≡ record { values = r; spare = 0 } = sym taken ∙ ap (λ (t : ℕ). record { values = r; spare = t }) n in
+          let read : readRecord i b ≡ given r = record-read-raw i b r .1 (bare, s .body) in
+          rw (sym (record-good i before b r (sym read) l)) (ap (λ (x : Verdict). given (record { id = r .id; rule = x .rule; required = x .required })) same)
+
+-- ---- a turn
+
+-- the records from record i on, of n
+unfoldable pub rest : ℕ → List ℕ → ℕ → List (List ℕ)
+rest n s i = partsFrom s i (n - i)
+
+rest-step : (n : ℕ) (s : List ℕ) (i : ℕ) → i < n → rest n s i ≡ recordPart s i ∷ rest n s (i + 1)
+unfolding partsFrom rest
+rest-step n s i l =
+    let m : n - i ≡ suc (n - (i + 1)) = omega arith in
+    rw m
+
+rest-none : (n : ℕ) (s : List ℕ) (i : ℕ) → n ≤ i → rest n s i ≡ []
+unfolding partsFrom rest
+rest-none n s i l =
+    let m : n - i ≡ 0 = omega arith in
+    rw m
+
+-- the pass with the verdicts that are left: so many have failed before them, and the draft holds those up to record i
+abbrev passWith : (n i failed : ℕ) → List ℕ → List Entry → Pass
+passWith n i failed draft es = record { failed = failed + failures es; draft = take (4 * i) draft ++ bytesOf es ++ drop (4 * n) draft }
+
+-- what the pass comes to from record i on
+unfoldable pub passFrom : (n : ℕ) → Header → List ℕ → (i before failed : ℕ) → List ℕ → Answer Pass
+passFrom n h s i before failed draft = recordsIn i before (rest n s i) then λ rs. given (passWith n i failed draft (map (entryOf h) rs))
+
+-- two steps that go on alike
+then-same : {A B : Type 0} (x : Answer A) (f g : A → Answer B) → ((a : A) → f a ≡ g a) → (x then f) ≡ (x then g)
+unfolding _then_
+then-same (given a) f g e = e a
+then-same (refused k p) f g e = refl
+
+-- what was given and made into another, and then goes on
+then-then : {A B C : Type 0} (x : Answer A) (f : A → B) (g : B → Answer C) → ((x then λ a. given (f a)) then g) ≡ (x then λ a. g (f a))
+unfolding _then_
+then-then (given a) f g = refl
+then-then (refused k p) f g = refl
+
+-- A part that was lent from the middle and has come back. at: where it starts, four bytes; v: what it holds now; past it nothing has changed.
+module _ (out v : List ℕ) (at : ℕ) (sized : length v ≡ 4) (within : at + 4 ≤ length out) where
+  unfoldable whole : List ℕ
+  whole = putMid at (at + 4 - at) out v
+
+  drop-whole : (m : ℕ) → at + 4 ≤ m → drop m whole ≡ drop m out
+  unfolding whole
+  drop-whole m h =
+      let d : drop (at + 4) whole ≡ drop (at + 4) out = drop-put at (at + 4) out v (omega arith) within (omega arith) in
+      let e : at + 4 + (m - (at + 4)) ≡ m = omega arith in
+      ap (λ (k : ℕ). drop k whole) (sym e)
+      ∙ sym (drop-drop (m - (at + 4)) (at + 4) whole)
+      ∙ ap (drop (m - (at + 4))) d
+      ∙ drop-drop (m - (at + 4)) (at + 4) out
+      ∙ ap (λ (k : ℕ). drop k out) e
+
+  take-whole : take (at + 4) whole ≡ take at out ++ v
+  unfolding whole
+  take-whole =
+      let l : length (take at out ++ v) ≡ at + 4 = simp (length-append, length-take) (omega arith) in
+      ap (take (at + 4)) (sym (append-assoc (take at out) v _)) ∙ take-at (take at out ++ v) _ (at + 4) l
+
+  part-turn : (m : ℕ) (more : List ℕ) → at + 4 ≤ m → take (at + 4) (putMid at (at + 4 - at) out v) ++ more ++ drop m (putMid at (at + 4 - at) out v) ≡ take at out ++ (v ++ more) ++ drop m out
+  unfolding whole
+  part-turn m more h = rw (take-whole, drop-whole m h) (simp append-assoc)
+
+-- four bytes into which an entry was written are the entry's
+wrote-four : (e : Entry) (o after : List ℕ) → length o ≡ 4 → entryFault e 0 ≡ 0 → after ≡ writeEntry e o .bytes → after ≡ entryBytes e
+wrote-four e o after l z w =
+    w ∙ bytes-written e o (omega arith) z ∙ ap (λ (t : List ℕ). entryBytes e ++ t) (drop-all o l) ∙ append-nil (entryBytes e)
+  where
+    drop-all : (q : List ℕ) → length q ≡ 4 → drop 4 q ≡ []
+    drop-all (a ∷ b ∷ c ∷ d ∷ []) m = refl
+    drop-all [] m = refl
+    drop-all (a ∷ []) m = refl
+    drop-all (a ∷ b ∷ []) m = refl
+    drop-all (a ∷ b ∷ c ∷ []) m = refl
+    drop-all (a ∷ b ∷ c ∷ d ∷ x ∷ q) m = absurd (omega arith)
+
+-- at the start it is the whole
+pub pass-start : (h : Header) (s draft : List ℕ) → passFrom (h .count) h s 0 0 0 draft ≡ passOver h s draft
+unfolding passFrom passOver rest
+pass-start h s draft = rw sub-zero (then-same (recordsIn 0 0 (partsFrom s 0 (h .count))) _ _ (λ rs. rw zero-add))
+
+-- the verdict on a sound record stands in front of those that are left
+pass-step : (n : ℕ) (h : Header) (s : List ℕ) (i before failed : ℕ) (draft : List ℕ) → i < n → (r : Record) → soundAfter i before (recordPart s i) ≡ given r
+    → passFrom n h s i before failed draft ≡ (recordsIn (i + 1) (r .id) (rest n s (i + 1)) then λ rs. given (passWith n i failed draft (entryOf h r ∷ map (entryOf h) rs)))
+unfolding passFrom recordsIn _then_
+pass-step n h s i before failed draft more r e =
+    rw (rest-step n s i more, e)
+    (then-then (recordsIn (i + 1) (r .id) (rest n s (i + 1))) (λ rs. r ∷ rs) (λ rs. given (passWith n i failed draft (map (entryOf h) rs))))
+
+-- what it comes to in all is what it comes to from record i on
+module _ (n : ℕ) (h : Header) (s : List ℕ) (i before failed : ℕ) (draft : List ℕ) {all : Answer Pass} (left : passFrom n h s i before failed draft ≡ all) where
+  -- a record that is turned away ends it
+  pub pass-refused : (k p : ℕ) → i < n → refused k p ≡ judgedAfter h i before (recordPart s i) → refused k p ≡ all
+  unfolding passFrom judgedAfter recordsIn _then_
+  pass-refused k p more e = rw (rest-step n s i more) (go (soundAfter i before (recordPart s i)) e) ∙ left
+    where
+      go : (x : Answer Record) → refused k p ≡ (x then λ r. given (entryOf h r))
+          → refused k p ≡ ((x then λ r. recordsIn (i + 1) (r .id) (rest n s (i + 1)) then λ rs. given (r ∷ rs)) then λ rs. given (passWith n i failed draft (map (entryOf h) rs)))
+      go (given r) g = given-refused (sym g)
+      go (refused l q) g = ap₂ refused (refused-number g) (refused-place g)
+
+  -- after the last there is nothing to add
+  pub pass-end : i ≡ n → given (record { failed = failed; draft = draft }) ≡ all
+  unfolding passFrom recordsIn _then_ bytesOf failures
+  pass-end e =
+      let l : n ≤ i = omega arith in
+      let nothing : given (record { failed = failed; draft = draft }) ≡ passFrom n h s i before failed draft = rw (rest-none n s i l, e, append-nil, take-append-drop, add-zero) in
+      nothing ∙ left
+
+  -- a verdict goes into its four bytes
+  module _ (more : i < n) (e : Entry) (judged : given e ≡ judgedAfter h i before (recordPart s i)) where
+    sound : (r : Record) × (soundAfter i before (recordPart s i) ≡ given r) × (e ≡ entryOf h r)
+    sound = judged-sound h i before (recordPart s i) e judged
+
+    writable : entryFault e 0 ≡ 0
+    writable =
+        let r = sound .0 in
+        let a = sound-read i before (recordPart s i) r (sound .1) in
+        ap (λ (x : Entry). entryFault x 0) (sound .2) ∙ entry-sound h r (record-read-fine i (recordPart s i) r (a .0))
+
+    step : passFrom n h s i before failed draft ≡ (recordsIn (i + 1) (e .id) (rest n s (i + 1)) then λ rs. given (passWith n i failed draft (e ∷ map (entryOf h) rs)))
+    unfolding entryOf
+    step =
+        pass-step n h s i before failed draft more (sound .0) (sound .1)
+        ∙ ap (λ (x : Entry). recordsIn (i + 1) (x .id) (rest n s (i + 1)) then λ rs. given (passWith n i failed draft (x ∷ map (entryOf h) rs))) (sym (sound .2))
+
+    module _ (o after : List ℕ) (lent : o ≡ take (4 * i + 4 - 4 * i) (drop (4 * i) draft)) (wrote : after ≡ writeEntry e o .bytes) (room : 4 * n ≤ length draft)
+        (more-failed : ℕ) (counted : more-failed ≡ failing e) where
+      abbrev next : List ℕ
+      next = putMid (4 * i) (4 * i + 4 - 4 * i) draft after
+
+      bytes-turn : (es : List Entry) → take (4 * (i + 1)) next ++ bytesOf es ++ drop (4 * n) next ≡ take (4 * i) draft ++ bytesOf (e ∷ es) ++ drop (4 * n) draft
+      unfolding bytesOf
+      bytes-turn es =
+          let four-more : 4 * (i + 1) ≡ 4 * i + 4 = omega arith in
+          let sized : length o ≡ 4 = rw lent (simp (length-take, length-drop) (omega arith)) in
+          rw (four-more, wrote-four e o after sized writable wrote) (part-turn draft (entryBytes e) (4 * i) refl (omega arith) (4 * n) (bytesOf es) (omega arith))
+
+      failures-turn : (es : List Entry) → failed + more-failed + failures es ≡ failed + failures (e ∷ es)
+      unfolding failures
+      failures-turn es = omega arith
+
+      pub pass-turn : passFrom n h s (i + 1) (e .id) (failed + more-failed) next ≡ all
+      unfolding passFrom
+      pass-turn =
+          then-same (recordsIn (i + 1) (e .id) (rest n s (i + 1))) _ _
+          (λ rs. ap₂ (λ (k : ℕ) (d : List ℕ). given (record { failed = k; draft = d })) (failures-turn (map (entryOf h) rs)) (bytes-turn (map (entryOf h) rs)))
+          ∙ sym step
+          ∙ left

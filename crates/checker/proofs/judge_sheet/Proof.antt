@@ -1,0 +1,64 @@
+-- `checker::judge_sheet` meets its contract.
+-- Assumes nothing.
+use borrow.Author.Needs.{needs}
+use native.Mathlib.Omega.{arith}
+use Prim.Native.Nat.{_*_}
+use mathlib.Core.Path.{ap, sym, _∙_}
+use denote.Ref.{now}
+use lib.ListN.{length, take, length-take}
+use Rattle.checker.specs.CheckLaws.{header-fits}
+use Rattle.checker.specs.Passes.{toldPassed}
+use Rattle.checker.proofs.Whole.{ready, at-records, refused-checks, copied, done-checks}
+use Rattle.checker.proofs.judge_sheet.Statement.{statement}
+use Rattle.checker.proofs.judge_sheet.Tie as tie
+
+returns : tie.Need-returns
+returns c =
+    let at-judge = c .before .before .before .before .before in
+    let start = at-judge .before .before .before .before .before in
+    let a = start .args in
+    let drawn = at-judge .judge-all .last .1 .1 .0 in
+    refused-checks (now (a .sheet)) (now (a .out)) _
+    (at-records (now (a .sheet)) (length (now (a .out))) (a .h) (start .pre .0) _ _ _
+    (sym (ap (λ p. toldPassed p drawn) (c .before .passed .given .1)) ∙ at-judge .judge-all .ensures))
+
+-- the part of the draft that is copied has all the verdicts
+as-many : tie.Need-slice-aggregate-copy
+as-many c =
+    let at-draft = c .before .before .before .before .before .before in
+    let start = at-draft .before .before .before .before .before .before in
+    simp length-take (omega (arith, at-draft .draft .given, start .pre .1))
+
+returns-2 : tie.Need-returns-2
+returns-2 c =
+    let at-copy = c .before .before in
+    let at-part = at-copy .before .before in
+    let at-passed = at-part .before .before .before in
+    let at-judge = at-passed .before .before .before .before in
+    let start = at-judge .before .before .before .before .before in
+    let a = start .args in
+    let drawn = at-judge .judge-all .last .1 .1 .0 in
+    let size = 4 * a .h .count in
+    done-checks (now (a .sheet)) (now (a .out)) (a .h) (start .pre .0) (now (a .draft)) _ drawn _
+    (copied size (take size drawn) (now (a .out)) _ (as-many at-part) (at-copy .copy .ensures .1))
+    (sym (ap (λ p. toldPassed p drawn) (at-passed .passed2 .given .1)) ∙ at-judge .judge-all .ensures)
+
+pub judge-sheet-spec : {M : Type 1} → statement M
+judge-sheet-spec =
+    tie.close
+    (tie.spec
+    (λ c κs. let start = c .before .before .before .before in ready _ _ _ (start .pre .0) _ (start .pre .1))
+    (λ c. search needs)
+    (λ c. search needs)
+    (λ c. search needs)
+    (λ c. search needs)
+    (λ c. search needs)
+    as-many
+    (λ c κs.
+    let start = c .before .before .before .before .before .before .before .before .before .before .before .before .before in
+    omega (arith, as-many (c .before), header-fits _ _ _ (sym (start .pre .0)) .fits))
+    (λ c. search needs)
+    returns
+    (λ c. search needs)
+    (λ c. search needs)
+    returns-2)
