@@ -15,7 +15,7 @@ use Rattle.layout.specs.LineLaws.{none-all}
 use Rattle.sheet.specs.declared.Record.{Record}
 use Rattle.sheet.specs.declared.Body.the-variants.{Plate as isPlate, Member as isMember}
 use Rattle.sheet.specs.Kinds.{isLong, isBottom, isFloor, isDeep}
-use Rattle.sheet.specs.Lines.{either, none, headerLines, plateLines, memberLines, waves}
+use Rattle.sheet.specs.Lines.{either, none, ruleLength, counts, ids, plateSpacing, sides, headerLines, plateLines, memberLines, waves}
 use Rattle.sheet.specs.Header.{headerValues, headerAt, headerFault}
 use Rattle.sheet.specs.Record.{plateValues, memberValues, plateRecord, memberRecord, plateLinesOf, memberLinesOf, plateFault, memberFault, bodyFault, recordFault}
 use Rattle.sheet.specs.HeaderLaws.{flag-within}
@@ -45,7 +45,7 @@ module _ (ns : List ℕ) where
   header-agree = (
     held-allows 255 (from 0 255) (from 1 1 ∷ []) (n 0) refl,
     λ t₁. (
-      held-allows 65535 span (from 4000 (span .high) ∷ []) (n 1) refl,
+      held-allows 65535 span (ruleLength ∷ []) (n 1) refl,
       λ t₂. (
         held-allows 65535 span (from 1 1000 ∷ []) (n 2) refl,
         λ t₃. (
@@ -57,7 +57,7 @@ module _ (ns : List ℕ) where
               λ t₆. (
                 refl,
                 λ t₇. (
-                  held-allows 65535 (from 0 65535) (from 0 400 ∷ []) (n 7) refl,
+                  held-allows 65535 (from 0 65535) (counts ∷ []) (n 7) refl,
                   λ t₈.
                       (refl, λ t₉. tt),
                 ),
@@ -79,10 +79,10 @@ module _ (ns : List ℕ) where
       let a : Allowed headerLines (numbersFrom 0 8 ns ++ 0 ∷ []) = none-all 0 headerLines (numbersFrom 0 8 ns ++ 0 ∷ []) e in
       rw (
         held-in 255 (from 0 255) (from 1 1 ∷ []) (n 0) refl (a .0),
-        held-in 65535 span (from 4000 (span .high) ∷ []) (n 1) refl (a .1 .0),
+        held-in 65535 span (ruleLength ∷ []) (n 1) refl (a .1 .0),
         held-in 65535 span (from 1 1000 ∷ []) (n 2) refl (a .1 .1 .0),
         held-in 65535 span waves (n 3) refl (a .1 .1 .1 .0),
-        held-in 65535 (from 0 65535) (from 0 400 ∷ []) (n 7) refl (a .1 .1 .1 .1 .1 .1 .1 .0),
+        held-in 65535 (from 0 65535) (counts ∷ []) (n 7) refl (a .1 .1 .1 .1 .1 .1 .1 .0),
       )
 
   pub header-apart-past : (headerApart ns ≡ 0 → ⊥) → 2 ≤ headerApart ns
@@ -138,22 +138,22 @@ module _ (ns : List ℕ) where
   kind-held t = sym (held-in 255 (from 0 255) (from 1 4 ∷ []) (m 0) refl t)
 
   -- b1 and b2
-  breadth : (x : ℕ) → within (from 1 4) (m 0) ≡ true → within (either (isLong (m 0)) none (from 10 1000)) x ≡ within (either (isLong kind) none (from 10 1000)) (heldIn span 65535 x)
+  breadth : (x : ℕ) → within (from 1 4) (m 0) ≡ true → within (either (isLong (m 0)) none sides) x ≡ within (either (isLong kind) none sides) (heldIn span 65535 x)
   breadth x t =
-      held-allows 65535 span (either (isLong (m 0)) none (from 10 1000) ∷ []) x (by-test (isLong (m 0)) 65535 span none (from 10 1000) refl refl)
-      ∙ ap (λ (k : ℕ). within (either (isLong k) none (from 10 1000)) (heldIn span 65535 x)) (kind-held t)
+      held-allows 65535 span (either (isLong (m 0)) none sides ∷ []) x (by-test (isLong (m 0)) 65535 span none sides refl refl)
+      ∙ ap (λ (k : ℕ). within (either (isLong k) none sides) (heldIn span 65535 x)) (kind-held t)
 
   plate-agree : Agree (okays (plateLinesOf ns) (plateFields ns)) plateTests (okays heldPlateLines heldPlateValues)
   plate-agree = (
     held-allows 255 (from 0 255) (from 1 4 ∷ []) (m 0) refl,
     λ t₁. (
-      held-allows 65535 (from 0 65535) (from 1 1000 ∷ []) (m 1) refl,
+      held-allows 65535 (from 0 65535) (ids ∷ []) (m 1) refl,
       λ t₂. (
         held-allows 65535 steelFactor (steelFactor ∷ []) (m 2) refl,
         λ t₃. (
           held-allows 65535 span (from 0 1000 ∷ []) (m 3) refl,
           λ t₄. (
-            held-allows 65535 spacing (from (spacing .low) 2000 ∷ []) (m 4) refl,
+            held-allows 65535 spacing (plateSpacing ∷ []) (m 4) refl,
             λ t₅. (
               held-allows 65535 thickness (thickness ∷ []) (m 5) refl,
               λ t₆. (
@@ -192,14 +192,14 @@ module _ (ns : List ℕ) where
   plate-held-same e =
       let a : Allowed (plateLinesOf ns) (plateFields ns) = none-all 0 (plateLinesOf ns) (plateFields ns) e in
       let b = a .1 .1 .1 .1 .1 .1 in
-      let breadths = either (isLong (m 0)) none (from 10 1000) ∷ [] in
-      let kept = by-test (isLong (m 0)) 65535 span none (from 10 1000) refl refl in
+      let breadths = either (isLong (m 0)) none sides ∷ [] in
+      let kept = by-test (isLong (m 0)) 65535 span none sides refl refl in
       rw (
         held-in 255 (from 0 255) (from 1 4 ∷ []) (m 0) refl (a .0),
-        held-in 65535 (from 0 65535) (from 1 1000 ∷ []) (m 1) refl (a .1 .0),
+        held-in 65535 (from 0 65535) (ids ∷ []) (m 1) refl (a .1 .0),
         held-in 65535 steelFactor (steelFactor ∷ []) (m 2) refl (a .1 .1 .0),
         held-in 65535 span (from 0 1000 ∷ []) (m 3) refl (a .1 .1 .1 .0),
-        held-in 65535 spacing (from (spacing .low) 2000 ∷ []) (m 4) refl (a .1 .1 .1 .1 .0),
+        held-in 65535 spacing (plateSpacing ∷ []) (m 4) refl (a .1 .1 .1 .1 .0),
         held-in 65535 thickness (thickness ∷ []) (m 5) refl (a .1 .1 .1 .1 .1 .0),
         held-in 65535 span breadths (m 6) kept (b .0),
         held-in 65535 span breadths (m 7) kept (b .1 .0),
@@ -230,14 +230,14 @@ module _ (ns : List ℕ) where
   member-agree = (
     held-allows 255 (from 0 255) (from 5 8 ∷ []) (m 0) refl,
     λ t₁. (
-      held-allows 65535 (from 0 65535) (from 1 1000 ∷ []) (m 1) refl,
+      held-allows 65535 (from 0 65535) (ids ∷ []) (m 1) refl,
       λ t₂. (
         held-allows 65535 span (from 0 (cond (isDeep (m 0)) 0 1000) ∷ []) (m 2) (deep-kept (isDeep (m 0)))
             ∙ ap (λ (k : ℕ). within (from 0 (cond (isDeep k) 0 1000)) (heldIn span 65535 (m 2))) (member-kind t₁),
         λ t₃. (
           held-allows 65535 spacing (spacing ∷ []) (m 3) refl,
           λ t₄. (
-            held-allows 65535 span (from 10 1000 ∷ []) (m 4) refl,
+            held-allows 65535 span (sides ∷ []) (m 4) refl,
             λ t₅. (
               held-allows 65535 thickness (thickness ∷ []) (m 5) refl,
               λ t₆. (
@@ -280,10 +280,10 @@ module _ (ns : List ℕ) where
       let b = a .1 .1 .1 .1 .1 .1 in
       rw (
         held-in 255 (from 0 255) (from 5 8 ∷ []) (m 0) refl (a .0),
-        held-in 65535 (from 0 65535) (from 1 1000 ∷ []) (m 1) refl (a .1 .0),
+        held-in 65535 (from 0 65535) (ids ∷ []) (m 1) refl (a .1 .0),
         held-in 65535 span (from 0 (cond (isDeep (m 0)) 0 1000) ∷ []) (m 2) (deep-kept (isDeep (m 0))) (a .1 .1 .0),
         held-in 65535 spacing (spacing ∷ []) (m 3) refl (a .1 .1 .1 .0),
-        held-in 65535 span (from 10 1000 ∷ []) (m 4) refl (a .1 .1 .1 .1 .0),
+        held-in 65535 span (sides ∷ []) (m 4) refl (a .1 .1 .1 .1 .0),
         held-in 65535 thickness (thickness ∷ []) (m 5) refl (a .1 .1 .1 .1 .1 .0),
         held-in 255 (from 0 255) (from 1 100 ∷ []) (m 6) refl (b .0),
         held-in 255 (from 0 255) (from 1 100 ∷ []) (m 7) refl (b .1 .0),
