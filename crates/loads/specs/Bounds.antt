@@ -6,7 +6,7 @@ use mathlib.Core.Path.{_≡_, refl}
 use native.Mathlib.Omega.{arith}
 use native.Mathlib.Nat.{max-le, mul-le-mul}
 use lib.Dec.{lit<, leb, eqb}
-use Rattle.quantity.specs.Range.{pressure, lineLoad as lineLoads}
+use Rattle.quantity.specs.Range.{spacing, pressure, lineLoad as lineLoads}
 use Rattle.gauge.specs.Ceil.{ceilOf, ceil-most}
 use Rattle.loads.specs.Loads.{water, wind, crest, twoRunWater, sea, bottomLoad, innerLoad, deepLoad, lineLoad}
 
@@ -44,7 +44,7 @@ pub inner-bound : (cargo z : ℕ) (isBallast : Bool) (zL : ℕ) → cargo ≤ 20
 unfolding innerLoad
 inner-bound cargo z isBallast zL p h = either isBallast _ _ _ (max-le (omega arith) (omega arith)) (omega arith)
 
-pub line-bound : (P S : ℕ) → P ≤ greatestSea → S ≤ 4000 → lineLoad P S ≤ lineLoads .high
+pub line-bound : (P S : ℕ) → P ≤ greatestSea → S ≤ spacing .high → lineLoad P S ≤ lineLoads .high
 unfolding lineLoad
 line-bound P S p s = ceil-most _ 1000000 _ (lit< tt) (omega (arith, mul-le-mul p s))
 
@@ -53,6 +53,6 @@ pub highest-pressure : innerLoad 200000 0 false 0 ≡ pressure .high
 unfolding innerLoad
 highest-pressure = refl
 
-pub highest-line-load : lineLoad (sea 1000 120 0) 4000 ≡ lineLoads .high
+pub highest-line-load : lineLoad (sea 1000 120 0) (spacing .high) ≡ lineLoads .high
 unfolding lineLoad sea ceilOf
 highest-line-load = refl

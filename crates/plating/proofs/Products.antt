@@ -5,11 +5,11 @@ use mathlib.Core.Path.{_≡_}
 use native.Mathlib.Nat.{mul-le-mul}
 use Rattle.quantity.specs.Range.{steelFactor}
 use Rattle.plating.specs.Rules.{K2}
-use Rattle.plating.specs.Bounds.{widest}
+use Rattle.sheet.specs.Lines.{plateSpacing}
 use Rattle.plating.specs.Laws.{K2-range}
 
 -- S² and S²K of a plate
-pub in-range : {S K : ℕ} → S ≤ widest → K ≤ steelFactor .high → (S * S ≤ 4000000) × (S * S * K ≤ 4000000000)
+pub in-range : {S K : ℕ} → S ≤ plateSpacing .high → K ≤ steelFactor .high → (S * S ≤ 4000000) × (S * S * K ≤ 4000000000)
 in-range s k = (mul-le-mul s s, mul-le-mul (mul-le-mul s s) k)
 
 -- K2²

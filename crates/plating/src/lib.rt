@@ -17,12 +17,13 @@ ghost use lib.Dec.{leb};
 ghost use Rattle.quantity.specs.Range.{thickness, pressure, steelFactor};
 ghost use Rattle.gauge.specs.ShapeLaws.{Says};
 ghost use Rattle.sheet.specs.Kinds.{isLong, isBottom};
+ghost use Rattle.sheet.specs.Lines.{plateSpacing};
 ghost use Rattle.sheet.specs.Record.{ofPlate};
 ghost use Rattle.sheet.specs.Ranges.{HeaderRanges, PlateRanges};
 ghost use Rattle.verdict.specs.Verdict.{verdictOf};
 ghost use Rattle.verdict.specs.Judged.{toldJudged, judgedBy};
 ghost use Rattle.plating.specs.Rules.{R, K2, allowance, rule1, rule2, isSecond, firstForm, secondForm, rule3, plateLoad, plateRules, plateVerdict};
-ghost use Rattle.plating.specs.Bounds.{Panel, widest, greatestR};
+ghost use Rattle.plating.specs.Bounds.{Panel, greatestR};
 
 // The stress R at which the hull's bending leaves nothing for the plate's own.
 const LIMIT: u64 = 210000;
@@ -98,7 +99,7 @@ fn rule1(kind: u8, length: Span, factor: SteelFactor, spacing: Spacing) -> Shape
 
 // Rule 2: what the pressure asks.
 fn rule2(kind: u8, factor: SteelFactor, spacing: Spacing, load: Pressure) -> Shape
-    requires { ⌜ (factor .0 ≤ steelFactor .high) × (spacing .0 ≤ widest) × (load .0 ≤ pressure .high) ⌝ }
+    requires { ⌜ (factor .0 ≤ steelFactor .high) × (spacing .0 ≤ plateSpacing .high) × (load .0 ≤ pressure .high) ⌝ }
     ensures { λ d. ⌜ Says d (thickness .high) (rule2 kind (factor .0) (spacing .0) (load .0)) ⌝ }
 {
     let k = factor.0 as u64;

@@ -18,17 +18,37 @@ none = from 0 0
 abbrev pub waves : List Range
 waves = from 0 0 ∷ from 60 60 ∷ from 120 120 ∷ []
 
+-- the rule length L, cm
+abbrev pub ruleLength : Range
+ruleLength = from 4000 (span .high)
+
+-- the number of records n
+abbrev pub counts : Range
+counts = from 0 400
+
+-- the id of a record
+abbrev pub ids : Range
+ids = from 1 1000
+
+-- the spacing S of a plate, mm
+abbrev pub plateSpacing : Range
+plateSpacing = from (spacing .low) 2000
+
+-- b1 and b2 of a plate and l of a member, cm
+abbrev pub sides : Range
+sides = from 10 1000
+
 -- the header: version, L, D0, H, runs, M, ZB, n, zero
 abbrev pub headerLines : List Line
 headerLines =
     line 4 (from 1 1)
-    ∷ line 14 (from 4000 (span .high))
+    ∷ line 14 ruleLength
     ∷ line 10 (from 1 1000)
     ∷ record { width = 8; values = waves }
     ∷ line 1 (from 0 1)
     ∷ line 20 (from 0 1000000)
     ∷ line 27 (from 1 100000000)
-    ∷ line 9 (from 0 400)
+    ∷ line 9 counts
     ∷ zeros 3
     ∷ []
 
@@ -37,13 +57,13 @@ headerLines =
 abbrev pub plateTable : (long bottom ballast : Bool) (z : ℕ) → List Line
 plateTable long bottom ballast z =
     line 4 (from 1 4)
-    ∷ line 10 (from 1 1000)
+    ∷ line 10 ids
     ∷ line 10 steelFactor
     ∷ line 10 (from 0 1000)
-    ∷ line 12 (from (spacing .low) 2000)
+    ∷ line 12 plateSpacing
     ∷ line 12 thickness
-    ∷ line 10 (either long none (from 10 1000))
-    ∷ line 10 (either long none (from 10 1000))
+    ∷ line 10 (either long none sides)
+    ∷ line 10 (either long none sides)
     ∷ line 1 (from 0 1)
     ∷ line 11 (either ballast (from z 1200) none)
     ∷ line 18 (from 0 (cond bottom 0 200000))
@@ -54,10 +74,10 @@ plateTable long bottom ballast z =
 abbrev pub memberTable : (deep floor : Bool) → List Line
 memberTable deep floor =
     line 4 (from 5 8)
-    ∷ line 10 (from 1 1000)
+    ∷ line 10 ids
     ∷ line 10 (from 0 (cond deep 0 1000))
     ∷ line 12 spacing
-    ∷ line 10 (from 10 1000)
+    ∷ line 10 sides
     ∷ line 12 thickness
     ∷ line 7 (from 1 100)
     ∷ line 7 (from 1 100)

@@ -17,7 +17,7 @@ use Rattle.layout.specs.LineLaws.{none-all, FirstFault, low-high}
 use Rattle.sheet.specs.declared.Body.{Body}
 use Rattle.sheet.specs.declared.Body.the-variants.{Plate as isPlate, Member as isMember}
 use Rattle.sheet.specs.declared.Record.{Record}
-use Rattle.sheet.specs.Lines.{plateLines, memberLines, plateWidths, memberWidths}
+use Rattle.sheet.specs.Lines.{ids, plateLines, memberLines, plateWidths, memberWidths}
 use Rattle.sheet.specs.Refusals.{given, refused, recordRefused}
 use Rattle.sheet.specs.Record.{plateRecord, memberRecord, plateLinesOf, memberLinesOf, plateFault, memberFault, bodyFault, recordFault, plateIn, recordIn, readRecord, valuesIn, recordNumber, recordBytes, writeRecord}
 use Rattle.sheet.specs.RecordLaws.{recordAt}
@@ -101,14 +101,14 @@ body-fault kind id (isPlate p) = refl
 body-fault kind id (isMember m) = refl
 
 -- the id of a record with no fault
-id-within : (kind id : ℕ) (b : Body) → Allowed (linesIn kind b) (valuesIn kind id b) → within (from 1 1000) id ≡ true
+id-within : (kind id : ℕ) (b : Body) → Allowed (linesIn kind b) (valuesIn kind id b) → within ids id ≡ true
 id-within kind id (isPlate p) a = a .1 .0
 id-within kind id (isMember m) a = a .1 .0
 
 pub record-id : (r : Record) → recordFault r 0 ≡ 0 → (1 ≤ r .id) × (r .id ≤ 1000)
 record-id r e =
     let a = none-all 0 (linesOf r) (valuesOf r) (sym (body-fault (r .kind) (r .id) (r .body)) ∙ e) in
-    low-high (from 1 1000) (r .id) (id-within (r .kind) (r .id) (r .body) a)
+    low-high ids (r .id) (id-within (r .kind) (r .id) (r .body) a)
 
 -- ---- the kind
 

@@ -19,7 +19,7 @@ use Rattle.sheet.specs.declared.Body.the-variants.{Plate as isPlate, Mem
 use Rattle.sheet.specs.declared.Record.{Record}
 use Rattle.sheet.specs.declared.Raw.{Raw}
 use Rattle.sheet.specs.Kinds.{isLong, isBottom, isFloor, isDeep}
-use Rattle.sheet.specs.Lines.{either, none, plateTable, memberTable, plateLines, memberLines, plateWidths, memberWidths}
+use Rattle.sheet.specs.Lines.{either, none, plateSpacing, sides, plateTable, memberTable, plateLines, memberLines, plateWidths, memberWidths}
 use Rattle.sheet.specs.Record.{plateValues, memberValues, plateAt, plateRecord, memberRecord, plateLinesOf, memberLinesOf, plateFault, memberFault, bodyFault, recordFault, plateIn, recordIn, widthsIn, valuesIn}
 use Rattle.sheet.specs.Ranges.{PlateRanges, MemberRanges}
 use Rattle.sheet.specs.Refusals.{given, recordRefused}
@@ -121,13 +121,13 @@ plate-ranges kind id p spare e =
       factor-low = low-high steelFactor (p .factor .0) (from-K .0) .0;
       factor-high = low-high steelFactor (p .factor .0) (from-K .0) .1;
       z-high = low-high (from 0 1000) (p .z .0) (from-K .1 .0) .1;
-      spacing-low = low-high (from (spacing .low) 2000) (p .spacing .0) (from-K .1 .1 .0) .0;
-      spacing-high = low-high (from (spacing .low) 2000) (p .spacing .0) (from-K .1 .1 .0) .1;
+      spacing-low = low-high plateSpacing (p .spacing .0) (from-K .1 .1 .0) .0;
+      spacing-high = low-high plateSpacing (p .spacing .0) (from-K .1 .1 .0) .1;
       thickness-low = low-high thickness (p .thickness .0) (from-T .0) .0;
       thickness-high = low-high thickness (p .thickness .0) (from-T .0) .1;
-      b1-low = λ t. either-bounds (isLong kind) none (from 10 1000) (p .b1 .0) (from-T .1 .0) .1 t .0;
-      b1-high = either-most (isLong kind) none (from 10 1000) (p .b1 .0) 1000 (lit≤ tt) (lit≤ tt) (from-T .1 .0);
-      b2-high = either-most (isLong kind) none (from 10 1000) (p .b2 .0) 1000 (lit≤ tt) (lit≤ tt) (from-T .1 .1 .0);
+      b1-low = λ t. either-bounds (isLong kind) none sides (p .b1 .0) (from-T .1 .0) .1 t .0;
+      b1-high = either-most (isLong kind) none sides (p .b1 .0) (sides .high) (lit≤ tt) (lit≤ tt) (from-T .1 .0);
+      b2-high = either-most (isLong kind) none sides (p .b2 .0) (sides .high) (lit≤ tt) (lit≤ tt) (from-T .1 .1 .0);
       tank-low = λ t. either-bounds (p .ballast) (from (p .z .0) 1200) none (p .«tank_top» .0) (from-ballast .1 .0) .0 t .0;
       tank-high = either-most (p .ballast) (from (p .z .0) 1200) none (p .«tank_top» .0) 1200 (lit≤ tt) (lit≤ tt) (from-ballast .1 .0);
       cargo-high = zero-or (isBottom kind) 200000 (p .cargo) (from-ballast .1 .1 .0);
@@ -146,8 +146,8 @@ member-ranges kind id m e =
       z-high = zero-or (isDeep kind) 1000 (m .z .0) (from-z .0);
       spacing-low = low-high spacing (m .spacing .0) (from-z .1 .0) .0;
       spacing-high = low-high spacing (m .spacing .0) (from-z .1 .0) .1;
-      span-low = low-high (from 10 1000) (m .span .0) (from-z .1 .1 .0) .0;
-      span-high = low-high (from 10 1000) (m .span .0) (from-z .1 .1 .0) .1;
+      span-low = low-high sides (m .span .0) (from-z .1 .1 .0) .0;
+      span-high = low-high sides (m .span .0) (from-z .1 .1 .0) .1;
       thickness-low = low-high thickness (m .thickness .0) (from-T .0) .0;
       thickness-high = low-high thickness (m .thickness .0) (from-T .0) .1;
       bending-high = low-high (from 1 100) (m .bending) (from-T .1 .0) .1;

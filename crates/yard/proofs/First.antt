@@ -5,12 +5,10 @@ use mathlib.Core.Path.{_≡_, refl, sym, ap, _∙_}
 use mathlib.Core.Bool.{Bool, true, false, cond, _&&_}
 use mathlib.Core.List.{List, [], _∷_}
 use native.Mathlib.Omega.{arith}
-use lib.Dec.{leb, eqb}
-use borrow.Author.Tests.{eqb-true, eqb-false, ne-eqb, lt-ltb, le-ltb, le-leb, leb-false}
-use Rattle.quantity.specs.Range.{Range}
-use Rattle.layout.specs.Line.{Line, among, allows, endBelow}
-use Rattle.layout.specs.LineLaws.{among-below}
-use Rattle.yard.specs.Held.{held, firstOf}
+use lib.Dec.{eqb}
+use borrow.Author.Tests.{eqb-true, eqb-false, ne-eqb, lt-ltb, le-ltb}
+use Rattle.layout.specs.Line.{Line, allows}
+use Rattle.yard.specs.Held.{firstOf}
 
 -- ---- the lower of two numbers, 0 being none
 
@@ -93,27 +91,3 @@ agree-fault k (a ∷ os) (x ∷ xs) (s ∷ ss) h = go x s a (h .0) (λ t. agree-
     go true false a e on = ap (λ (t : Bool). cond t A (suc k)) e ∙ sym (under-left (suc k) X (omega arith) (past (suc k) xs))
     go false true a e on = ap (λ (t : Bool). cond t A (suc k)) e ∙ sym (under-right (suc k) S (omega arith) (past (suc k) ss))
     go false false a e on = ap (λ (t : Bool). cond t A (suc k)) e ∙ sym (first-right (suc k) (suc k) (omega arith) (omega arith))
-
--- ---- a number as it is held
-
-pub held-same : (top x : ℕ) → x ≤ top → held top x ≡ x
-held-same top x l = rw (le-leb x top l)
-
--- a line that ends below the highest number that is held allows a number exactly when it allows what the number is held as
-pub held-allows : (top : ℕ) (rs : List Range) (x : ℕ) → endBelow top rs ≡ true → among rs x ≡ among rs (held top x)
-held-allows top rs x f = go (leb x top) refl
-  where
-    none : (y : ℕ) → top ≤ y → among rs y ≡ false
-    none y l = pick (among rs y) refl
-      where
-        pick : (b : Bool) → among rs y ≡ b → b ≡ false
-        pick true q = absurd (omega (arith, among-below top rs y f q))
-        pick false q = refl
-
-    go : (b : Bool) → leb x top ≡ b → among rs x ≡ among rs (cond b x top)
-    go true e = refl
-    go false e = none x (omega (arith, leb-false x top e)) ∙ sym (none top (omega arith))
-
--- and one that it allows is held as it is
-pub held-in : (top : ℕ) (rs : List Range) (x : ℕ) → endBelow top rs ≡ true → among rs x ≡ true → held top x ≡ x
-held-in top rs x f a = held-same top x (omega (arith, among-below top rs x f a))

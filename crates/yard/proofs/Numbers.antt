@@ -6,22 +6,23 @@ use mathlib.Core.Bool.{Bool, true, false, cond, _&&_}
 use mathlib.Core.List.{List, [], _∷_, _++_}
 use native.Mathlib.Omega.{arith}
 use lib.ListN.{getD}
-use lib.Dec.{leb, eqb, lit≤}
-use borrow.Author.Tests.{eq-eqb, ne-eqb, eqb-true, eqb-false, le-leb, lt-leb, leb-false}
-use Rattle.quantity.specs.Range.{Range, within, from, span, spacing, thickness, shearArea, steelFactor}
+use lib.Dec.{eqb, lit≤, leb·zero}
+use borrow.Author.Tests.{eq-eqb, ne-eqb, eqb-true, eqb-false}
+use Rattle.quantity.specs.Range.{Range, within, from, span, spacing, thickness, modulus, shearArea, steelFactor}
 use Rattle.quantity.specs.Laws.{one-value}
-use Rattle.layout.specs.Line.{Line, Allowed, faultFrom, endBelow}
-use Rattle.layout.specs.LineLaws.{none-all, low-high}
+use Rattle.layout.specs.Line.{Line, Allowed, faultFrom}
+use Rattle.layout.specs.LineLaws.{none-all}
 use Rattle.sheet.specs.declared.Record.{Record}
 use Rattle.sheet.specs.declared.Body.the-variants.{Plate as isPlate, Member as isMember}
 use Rattle.sheet.specs.Kinds.{isLong, isBottom, isFloor, isDeep}
-use Rattle.sheet.specs.Lines.{either, none, headerLines, plateLines, memberLines, waves}
+use Rattle.sheet.specs.Lines.{either, none, ruleLength, counts, ids, plateSpacing, sides, headerLines, plateLines, memberLines, waves}
 use Rattle.sheet.specs.Header.{headerValues, headerAt, headerFault}
 use Rattle.sheet.specs.Record.{plateValues, memberValues, plateRecord, memberRecord, plateLinesOf, memberLinesOf, plateFault, memberFault, bodyFault, recordFault}
 use Rattle.sheet.specs.HeaderLaws.{flag-within}
-use Rattle.yard.specs.Held.{held, firstOf, headerHeld, headerApart, plateHeld, plateApart, memberHeld, memberApart, recordHeld, recordApart}
+use Rattle.yard.specs.Held.{held, heldIn, firstOf, headerHeld, headerApart, plateHeld, plateApart, memberHeld, memberApart, recordHeld, recordApart}
 use Rattle.yard.specs.Writing.{numbersFrom, headerNumbersFault, plateFields, recordFrom, recordNumbersFault, plateNumbered}
-use Rattle.yard.proofs.First.{okays, Agree, agree-fault, held-allows, held-same, held-in}
+use Rattle.yard.proofs.First.{okays, Agree, agree-fault}
+use Rattle.yard.proofs.Kept.{liesIn, keeps, around, held-allows, held-in, held-alone}
 
 and-true : (b : Bool) → b ≡ (b && true)
 and-true true = refl
@@ -42,13 +43,13 @@ module _ (ns : List ℕ) where
 
   header-agree : Agree (okays headerLines (numbersFrom 0 8 ns ++ 0 ∷ [])) headerTests (okays headerLines (headerValues (headerHeld ns) 0))
   header-agree = (
-    held-allows 255 (from 1 1 ∷ []) (n 0) refl,
+    held-allows 255 (from 0 255) (from 1 1 ∷ []) (n 0) refl,
     λ t₁. (
-      held-allows 65535 (from 4000 (span .high) ∷ []) (n 1) refl,
+      held-allows 65535 span (ruleLength ∷ []) (n 1) refl,
       λ t₂. (
-        held-allows 65535 (from 1 1000 ∷ []) (n 2) refl,
+        held-allows 65535 span (from 1 1000 ∷ []) (n 2) refl,
         λ t₃. (
-          held-allows 65535 waves (n 3) refl,
+          held-allows 65535 span waves (n 3) refl,
           λ t₄. (
             flag-alone (n 4),
             λ t₅. (
@@ -56,7 +57,7 @@ module _ (ns : List ℕ) where
               λ t₆. (
                 refl,
                 λ t₇. (
-                  held-allows 65535 (from 0 400 ∷ []) (n 7) refl,
+                  held-allows 65535 (from 0 65535) (counts ∷ []) (n 7) refl,
                   λ t₈.
                       (refl, λ t₉. tt),
                 ),
@@ -77,11 +78,11 @@ module _ (ns : List ℕ) where
   header-held-same e =
       let a : Allowed headerLines (numbersFrom 0 8 ns ++ 0 ∷ []) = none-all 0 headerLines (numbersFrom 0 8 ns ++ 0 ∷ []) e in
       rw (
-        held-in 255 (from 1 1 ∷ []) (n 0) refl (a .0),
-        held-in 65535 (from 4000 (span .high) ∷ []) (n 1) refl (a .1 .0),
-        held-in 65535 (from 1 1000 ∷ []) (n 2) refl (a .1 .1 .0),
-        held-in 65535 waves (n 3) refl (a .1 .1 .1 .0),
-        held-in 65535 (from 0 400 ∷ []) (n 7) refl (a .1 .1 .1 .1 .1 .1 .1 .0),
+        held-in 255 (from 0 255) (from 1 1 ∷ []) (n 0) refl (a .0),
+        held-in 65535 span (ruleLength ∷ []) (n 1) refl (a .1 .0),
+        held-in 65535 span (from 1 1000 ∷ []) (n 2) refl (a .1 .1 .0),
+        held-in 65535 span waves (n 3) refl (a .1 .1 .1 .0),
+        held-in 65535 (from 0 65535) (counts ∷ []) (n 7) refl (a .1 .1 .1 .1 .1 .1 .1 .0),
       )
 
   pub header-apart-past : (headerApart ns ≡ 0 → ⊥) → 2 ≤ headerApart ns
@@ -107,10 +108,14 @@ zero-sum a b = one-value 0 (a + b) ∙ go (eqb a 0) refl (eqb b 0) refl ∙ sym 
     go true p false q = let m = eqb-false b 0 q in ne-eqb (a + b) 0 (λ z. m (omega arith))
     go false p t q = let m = eqb-false a 0 p in ne-eqb (a + b) 0 (λ z. m (omega arith))
 
--- lines by a test end below what is held, in either case
-by-test : (t : Bool) (top : ℕ) (r s : Range) → endBelow top (r ∷ []) ≡ true → endBelow top (s ∷ []) ≡ true → endBelow top (either t r s ∷ []) ≡ true
-by-test true top r s p q = p
-by-test false top r s p q = q
+-- a line by a test is kept, where it is in either case
+by-test : (t : Bool) (top : ℕ) (q r s : Range) → keeps top q (r ∷ []) ≡ true → keeps top q (s ∷ []) ≡ true → keeps top q (either t r s ∷ []) ≡ true
+by-test true top q r s p p′ = p
+by-test false top q r s p p′ = p′
+
+-- and so is that of the tank top, from any height on
+tank-kept : (t : Bool) (z : ℕ) → keeps 65535 span (either t (from z 1200) none ∷ []) ≡ true
+tank-kept t z = by-test t 65535 span (from z 1200) none (rw (leb·zero z)) refl
 
 module _ (ns : List ℕ) where
   abbrev m : ℕ → ℕ
@@ -124,33 +129,33 @@ module _ (ns : List ℕ) where
       true ∷ true ∷ true ∷ true ∷ true ∷ true ∷ true ∷ true ∷ within (from 0 1) (m 8) ∷ true ∷ true ∷ (within none (m 11) && within none (m 12)) ∷ []
 
   abbrev heldPlateLines : List Line
-  heldPlateLines = plateLines kind (eqb (m 8) 1) (held 65535 (m 3))
+  heldPlateLines = plateLines kind (eqb (m 8) 1) (heldIn span 65535 (m 3))
 
   abbrev heldPlateValues : List ℕ
   heldPlateValues = plateValues kind (held 65535 (m 1)) (plateHeld ns) 0
 
   kind-held : within (from 1 4) (m 0) ≡ true → m 0 ≡ kind
-  kind-held t = sym (held-in 255 (from 1 4 ∷ []) (m 0) refl t)
+  kind-held t = sym (held-in 255 (from 0 255) (from 1 4 ∷ []) (m 0) refl t)
 
   -- b1 and b2
-  breadth : (x : ℕ) → within (from 1 4) (m 0) ≡ true → within (either (isLong (m 0)) none (from 10 1000)) x ≡ within (either (isLong kind) none (from 10 1000)) (held 65535 x)
+  breadth : (x : ℕ) → within (from 1 4) (m 0) ≡ true → within (either (isLong (m 0)) none sides) x ≡ within (either (isLong kind) none sides) (heldIn span 65535 x)
   breadth x t =
-      held-allows 65535 (either (isLong (m 0)) none (from 10 1000) ∷ []) x (by-test (isLong (m 0)) 65535 none (from 10 1000) refl refl)
-      ∙ ap (λ (k : ℕ). within (either (isLong k) none (from 10 1000)) (held 65535 x)) (kind-held t)
+      held-allows 65535 span (either (isLong (m 0)) none sides ∷ []) x (by-test (isLong (m 0)) 65535 span none sides refl refl)
+      ∙ ap (λ (k : ℕ). within (either (isLong k) none sides) (heldIn span 65535 x)) (kind-held t)
 
   plate-agree : Agree (okays (plateLinesOf ns) (plateFields ns)) plateTests (okays heldPlateLines heldPlateValues)
   plate-agree = (
-    held-allows 255 (from 1 4 ∷ []) (m 0) refl,
+    held-allows 255 (from 0 255) (from 1 4 ∷ []) (m 0) refl,
     λ t₁. (
-      held-allows 65535 (from 1 1000 ∷ []) (m 1) refl,
+      held-allows 65535 (from 0 65535) (ids ∷ []) (m 1) refl,
       λ t₂. (
-        held-allows 65535 (steelFactor ∷ []) (m 2) refl,
+        held-allows 65535 steelFactor (steelFactor ∷ []) (m 2) refl,
         λ t₃. (
-          held-allows 65535 (from 0 1000 ∷ []) (m 3) refl,
+          held-allows 65535 span (from 0 1000 ∷ []) (m 3) refl,
           λ t₄. (
-            held-allows 65535 (from (spacing .low) 2000 ∷ []) (m 4) refl,
+            held-allows 65535 spacing (plateSpacing ∷ []) (m 4) refl,
             λ t₅. (
-              held-allows 65535 (thickness ∷ []) (m 5) refl,
+              held-allows 65535 thickness (thickness ∷ []) (m 5) refl,
               λ t₆. (
                 breadth (m 6) t₁,
                 λ t₇. (
@@ -158,8 +163,8 @@ module _ (ns : List ℕ) where
                   λ t₈. (
                     flag-alone (m 8),
                     λ t₉. (
-                      held-allows 65535 (either (eqb (m 8) 1) (from (m 3) 1200) none ∷ []) (m 9) (by-test (eqb (m 8) 1) 65535 (from (m 3) 1200) none refl refl)
-                          ∙ ap (λ (z : ℕ). within (either (eqb (m 8) 1) (from z 1200) none) (held 65535 (m 9))) (sym (held-in 65535 (from 0 1000 ∷ []) (m 3) refl t₄)),
+                      held-allows 65535 span (either (eqb (m 8) 1) (from (m 3) 1200) none ∷ []) (m 9) (tank-kept (eqb (m 8) 1) (m 3))
+                          ∙ ap (λ (z : ℕ). within (either (eqb (m 8) 1) (from z 1200) none) (heldIn span 65535 (m 9))) (sym (held-in 65535 span (from 0 1000 ∷ []) (m 3) refl t₄)),
                       λ t₁₀. (
                         ap (λ (k : ℕ). within (from 0 (cond (isBottom k) 0 200000)) (m 10)) (kind-held t₁),
                         λ t₁₁.
@@ -187,18 +192,18 @@ module _ (ns : List ℕ) where
   plate-held-same e =
       let a : Allowed (plateLinesOf ns) (plateFields ns) = none-all 0 (plateLinesOf ns) (plateFields ns) e in
       let b = a .1 .1 .1 .1 .1 .1 in
-      let breadths = either (isLong (m 0)) none (from 10 1000) ∷ [] in
-      let below = by-test (isLong (m 0)) 65535 none (from 10 1000) refl refl in
+      let breadths = either (isLong (m 0)) none sides ∷ [] in
+      let kept = by-test (isLong (m 0)) 65535 span none sides refl refl in
       rw (
-        held-in 255 (from 1 4 ∷ []) (m 0) refl (a .0),
-        held-in 65535 (from 1 1000 ∷ []) (m 1) refl (a .1 .0),
-        held-in 65535 (steelFactor ∷ []) (m 2) refl (a .1 .1 .0),
-        held-in 65535 (from 0 1000 ∷ []) (m 3) refl (a .1 .1 .1 .0),
-        held-in 65535 (from (spacing .low) 2000 ∷ []) (m 4) refl (a .1 .1 .1 .1 .0),
-        held-in 65535 (thickness ∷ []) (m 5) refl (a .1 .1 .1 .1 .1 .0),
-        held-in 65535 breadths (m 6) below (b .0),
-        held-in 65535 breadths (m 7) below (b .1 .0),
-        held-in 65535 (either (eqb (m 8) 1) (from (m 3) 1200) none ∷ []) (m 9) (by-test (eqb (m 8) 1) 65535 (from (m 3) 1200) none refl refl) (b .1 .1 .1 .0),
+        held-in 255 (from 0 255) (from 1 4 ∷ []) (m 0) refl (a .0),
+        held-in 65535 (from 0 65535) (ids ∷ []) (m 1) refl (a .1 .0),
+        held-in 65535 steelFactor (steelFactor ∷ []) (m 2) refl (a .1 .1 .0),
+        held-in 65535 span (from 0 1000 ∷ []) (m 3) refl (a .1 .1 .1 .0),
+        held-in 65535 spacing (plateSpacing ∷ []) (m 4) refl (a .1 .1 .1 .1 .0),
+        held-in 65535 thickness (thickness ∷ []) (m 5) refl (a .1 .1 .1 .1 .1 .0),
+        held-in 65535 span breadths (m 6) kept (b .0),
+        held-in 65535 span breadths (m 7) kept (b .1 .0),
+        held-in 65535 span (either (eqb (m 8) 1) (from (m 3) 1200) none ∷ []) (m 9) (tank-kept (eqb (m 8) 1) (m 3)) (b .1 .1 .1 .0),
       )
 
   -- ---- a member
@@ -210,54 +215,47 @@ module _ (ns : List ℕ) where
   heldMemberValues = memberValues kind (held 65535 (m 1)) (memberHeld ns)
 
   member-kind : within (from 5 8) (m 0) ≡ true → m 0 ≡ kind
-  member-kind t = sym (held-in 255 (from 5 8 ∷ []) (m 0) refl t)
+  member-kind t = sym (held-in 255 (from 0 255) (from 5 8 ∷ []) (m 0) refl t)
 
   -- σ1 is tested by itself: what more than 255 is held as is allowed
-  stress-alone : (t : Bool) (x : ℕ) → within (from 0 (cond t 0 255)) x ≡ (within (from 0 255) x && within (from 0 (cond t 0 255)) (held 255 x))
-  stress-alone t x = go (leb x 255) refl
-    where
-      over : (t : Bool) → 255 < x → cond t 0 255 < x
-      over true l = omega arith
-      over false l = l
+  stress-in : (t : Bool) → liesIn (from 0 255) (from 0 (cond t 0 255)) ≡ true
+  stress-in true = refl
+  stress-in false = refl
 
-      go : (b : Bool) → leb x 255 ≡ b → within (from 0 (cond t 0 255)) x ≡ ((leb 0 x && b) && within (from 0 (cond t 0 255)) (cond b x 255))
-      go true e = rw (le-leb 0 x (omega arith))
-      go false e = rw (le-leb 0 x (omega arith), lt-leb x (cond t 0 255) (over t (leb-false x 255 e)))
-
-  deep-below : (t : Bool) → endBelow 65535 (from 0 (cond t 0 1000) ∷ []) ≡ true
-  deep-below true = refl
-  deep-below false = refl
+  deep-kept : (t : Bool) → keeps 65535 span (from 0 (cond t 0 1000) ∷ []) ≡ true
+  deep-kept true = refl
+  deep-kept false = refl
 
   member-agree : Agree (okays (memberLinesOf ns) (numbersFrom 0 13 ns)) memberTests (okays (memberLines kind) heldMemberValues)
   member-agree = (
-    held-allows 255 (from 5 8 ∷ []) (m 0) refl,
+    held-allows 255 (from 0 255) (from 5 8 ∷ []) (m 0) refl,
     λ t₁. (
-      held-allows 65535 (from 1 1000 ∷ []) (m 1) refl,
+      held-allows 65535 (from 0 65535) (ids ∷ []) (m 1) refl,
       λ t₂. (
-        held-allows 65535 (from 0 (cond (isDeep (m 0)) 0 1000) ∷ []) (m 2) (deep-below (isDeep (m 0)))
-            ∙ ap (λ (k : ℕ). within (from 0 (cond (isDeep k) 0 1000)) (held 65535 (m 2))) (member-kind t₁),
+        held-allows 65535 span (from 0 (cond (isDeep (m 0)) 0 1000) ∷ []) (m 2) (deep-kept (isDeep (m 0)))
+            ∙ ap (λ (k : ℕ). within (from 0 (cond (isDeep k) 0 1000)) (heldIn span 65535 (m 2))) (member-kind t₁),
         λ t₃. (
-          held-allows 65535 (spacing ∷ []) (m 3) refl,
+          held-allows 65535 spacing (spacing ∷ []) (m 3) refl,
           λ t₄. (
-            held-allows 65535 (from 10 1000 ∷ []) (m 4) refl,
+            held-allows 65535 span (sides ∷ []) (m 4) refl,
             λ t₅. (
-              held-allows 65535 (thickness ∷ []) (m 5) refl,
+              held-allows 65535 thickness (thickness ∷ []) (m 5) refl,
               λ t₆. (
-                held-allows 255 (from 1 100 ∷ []) (m 6) refl,
+                held-allows 255 (from 0 255) (from 1 100 ∷ []) (m 6) refl,
                 λ t₇. (
-                  held-allows 255 (from 1 100 ∷ []) (m 7) refl,
+                  held-allows 255 (from 0 255) (from 1 100 ∷ []) (m 7) refl,
                   λ t₈. (
-                    held-allows 255 (either (isFloor (m 0)) (from 100 100) (from 1 100) ∷ []) (m 8) (by-test (isFloor (m 0)) 255 (from 100 100) (from 1 100) refl refl)
+                    held-allows 255 (from 0 255) (either (isFloor (m 0)) (from 100 100) (from 1 100) ∷ []) (m 8) (by-test (isFloor (m 0)) 255 (from 0 255) (from 100 100) (from 1 100) refl refl)
                         ∙ ap (λ (k : ℕ). within (either (isFloor k) (from 100 100) (from 1 100)) (held 255 (m 8))) (member-kind t₁),
                     λ t₉. (
-                      stress-alone (isFloor (m 0)) (m 9)
+                      held-alone 255 (from 0 255) (from 0 (cond (isFloor (m 0)) 0 255)) (m 9) (stress-in (isFloor (m 0)))
                           ∙ ap (λ (k : ℕ). within (from 0 255) (m 9) && within (from 0 (cond (isFloor k) 0 255)) (held 255 (m 9))) (member-kind t₁),
                       λ t₁₀. (
-                        refl,
+                        held-allows 4294967295 modulus (modulus ∷ []) (m 10) refl,
                         λ t₁₁. (
-                          held-allows 65535 (shearArea ∷ []) (m 11) refl,
+                          held-allows 65535 shearArea (shearArea ∷ []) (m 11) refl,
                           λ t₁₂.
-                              (held-allows 65535 (steelFactor ∷ []) (m 12) refl, λ t₁₃. tt),
+                              (held-allows 65535 steelFactor (steelFactor ∷ []) (m 12) refl, λ t₁₃. tt),
                         ),
                       ),
                     ),
@@ -281,23 +279,20 @@ module _ (ns : List ℕ) where
       let a : Allowed (memberLinesOf ns) (numbersFrom 0 13 ns) = none-all 0 (memberLinesOf ns) (numbersFrom 0 13 ns) e in
       let b = a .1 .1 .1 .1 .1 .1 in
       rw (
-        held-in 255 (from 5 8 ∷ []) (m 0) refl (a .0),
-        held-in 65535 (from 1 1000 ∷ []) (m 1) refl (a .1 .0),
-        held-in 65535 (from 0 (cond (isDeep (m 0)) 0 1000) ∷ []) (m 2) (deep-below (isDeep (m 0))) (a .1 .1 .0),
-        held-in 65535 (spacing ∷ []) (m 3) refl (a .1 .1 .1 .0),
-        held-in 65535 (from 10 1000 ∷ []) (m 4) refl (a .1 .1 .1 .1 .0),
-        held-in 65535 (thickness ∷ []) (m 5) refl (a .1 .1 .1 .1 .1 .0),
-        held-in 255 (from 1 100 ∷ []) (m 6) refl (b .0),
-        held-in 255 (from 1 100 ∷ []) (m 7) refl (b .1 .0),
-        held-in 255 (either (isFloor (m 0)) (from 100 100) (from 1 100) ∷ []) (m 8) (by-test (isFloor (m 0)) 255 (from 100 100) (from 1 100) refl refl) (b .1 .1 .0),
-        stress-held (isFloor (m 0)) (m 9) (b .1 .1 .1 .0),
-        held-in 65535 (shearArea ∷ []) (m 11) refl (b .1 .1 .1 .1 .1 .0),
-        held-in 65535 (steelFactor ∷ []) (m 12) refl (b .1 .1 .1 .1 .1 .1 .0),
+        held-in 255 (from 0 255) (from 5 8 ∷ []) (m 0) refl (a .0),
+        held-in 65535 (from 0 65535) (ids ∷ []) (m 1) refl (a .1 .0),
+        held-in 65535 span (from 0 (cond (isDeep (m 0)) 0 1000) ∷ []) (m 2) (deep-kept (isDeep (m 0))) (a .1 .1 .0),
+        held-in 65535 spacing (spacing ∷ []) (m 3) refl (a .1 .1 .1 .0),
+        held-in 65535 span (sides ∷ []) (m 4) refl (a .1 .1 .1 .1 .0),
+        held-in 65535 thickness (thickness ∷ []) (m 5) refl (a .1 .1 .1 .1 .1 .0),
+        held-in 255 (from 0 255) (from 1 100 ∷ []) (m 6) refl (b .0),
+        held-in 255 (from 0 255) (from 1 100 ∷ []) (m 7) refl (b .1 .0),
+        held-in 255 (from 0 255) (either (isFloor (m 0)) (from 100 100) (from 1 100) ∷ []) (m 8) (by-test (isFloor (m 0)) 255 (from 0 255) (from 100 100) (from 1 100) refl refl) (b .1 .1 .0),
+        around (from 0 255) (from 0 (cond (isFloor (m 0)) 0 255)) (m 9) (stress-in (isFloor (m 0))) (b .1 .1 .1 .0),
+        held-in 4294967295 modulus (modulus ∷ []) (m 10) refl (b .1 .1 .1 .1 .0),
+        held-in 65535 shearArea (shearArea ∷ []) (m 11) refl (b .1 .1 .1 .1 .1 .0),
+        held-in 65535 steelFactor (steelFactor ∷ []) (m 12) refl (b .1 .1 .1 .1 .1 .1 .0),
       )
-    where
-      stress-held : (t : Bool) (x : ℕ) → within (from 0 (cond t 0 255)) x ≡ true → held 255 x ≡ x
-      stress-held true x q = held-in 255 (from 0 0 ∷ []) x refl q
-      stress-held false x q = held-same 255 x (low-high (from 0 255) x q .1)
 
   -- ---- a record
 

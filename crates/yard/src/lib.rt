@@ -1,16 +1,11 @@
 // The checker, the header, the records and the verdicts for programs in C or Rust: an answer crosses as one number, the fields as numbers in layout
 // order. include/praithong.h declares these functions.
+mod held;
 mod values;
 
 use checker::Checked;
 use checker::Entry;
 use checker::EntryRead;
-use quantity::Modulus;
-use quantity::ShearArea;
-use quantity::Spacing;
-use quantity::Span;
-use quantity::SteelFactor;
-use quantity::Thickness;
 use sheet::Body;
 use sheet::Header;
 use sheet::HeaderRead;
@@ -29,7 +24,7 @@ ghost use Rattle.sheet.specs.Header.{readHeader};
 ghost use Rattle.sheet.specs.Record.{readRecord};
 ghost use Rattle.yard.specs.Packed.{packed, fine, Checks, Reads, Wrote};
 ghost use Rattle.yard.specs.Writing.{writeHeaderNumbers, writeRecordNumbers};
-ghost use Rattle.yard.specs.Held.{held, firstOf, headerHeld, plateHeld, memberHeld, recordHeld, headerApart, plateApart, memberApart, recordApart};
+ghost use Rattle.yard.specs.Held.{firstOf, headerHeld, plateHeld, memberHeld, recordHeld, headerApart, plateApart, memberApart, recordApart};
 ghost use Rattle.yard.specs.Fields.{entryNumbers, headerNumbers, plateNumbers, memberNumbers, recordNumbers, numbered};
 
 // A refusal's number counts these.
@@ -182,20 +177,6 @@ pub extern "C" fn yard_read_record(bytes: &[u8], fields: &mut [u32; 13]) -> u64
     }
 }
 
-// A number that the byte cannot hold becomes 255, never a cut one. Every line but that of σ1 ends below that, so that such a number is still faulty.
-fn held_byte(x: u32) -> u8
-    ensures { λ r. ⌜ r ≡ held 255 x ⌝ }
-{
-    if x <= 255 { x as u8 } else { 255 }
-}
-
-// The same in sixteen bits, below whose highest number every line ends.
-fn held_short(x: u32) -> u16
-    ensures { λ r. ⌜ r ≡ held 65535 x ⌝ }
-{
-    if x <= 65535 { x as u16 } else { 65535 }
-}
-
 // The first of two faulty fields, or of two refusals by their numbers, 0 being none: the refusal of an earlier field has the lower number.
 fn first_of(a: u64, b: u64) -> u64
     ensures { λ r. ⌜ r ≡ firstOf a b ⌝ }
@@ -212,14 +193,14 @@ fn first_of(a: u64, b: u64) -> u64
 fn header_held(f: [u32; 8]) -> Header
     ensures { λ r. ⌜ r ≡ headerHeld f ⌝ }
 {
-    let version = held_byte(f[0]);
-    let length = Span(held_short(f[1]));
-    let draught = Span(held_short(f[2]));
-    let wave = Span(held_short(f[3]));
+    let version = held::byte(f[0]);
+    let length = held::span_of(f[1]);
+    let draught = held::span_of(f[2]);
+    let wave = held::span_of(f[3]);
     let two_runs = f[4] == 1;
     let moment = f[5];
     let bottom_modulus = f[6];
-    let count = held_short(f[7]);
+    let count = held::short(f[7]);
     Header {
         version,
         length,
@@ -261,14 +242,14 @@ pub extern "C" fn yard_write_header(fields: &[u32; 8], out: &mut [u8]) -> u64
 fn plate_held(f: [u32; 13]) -> Plate
     ensures { λ r. ⌜ r ≡ plateHeld f ⌝ }
 {
-    let factor = SteelFactor(held_short(f[2]));
-    let z = Span(held_short(f[3]));
-    let spacing = Spacing(held_short(f[4]));
-    let thickness = Thickness(held_short(f[5]));
-    let b1 = Span(held_short(f[6]));
-    let b2 = Span(held_short(f[7]));
+    let factor = held::factor_of(f[2]);
+    let z = held::span_of(f[3]);
+    let spacing = held::spacing_of(f[4]);
+    let thickness = held::thickness_of(f[5]);
+    let b1 = held::span_of(f[6]);
+    let b2 = held::span_of(f[7]);
     let ballast = f[8] == 1;
-    let tank_top = Span(held_short(f[9]));
+    let tank_top = held::span_of(f[9]);
     let cargo = f[10];
     Plate {
         factor,
@@ -286,17 +267,17 @@ fn plate_held(f: [u32; 13]) -> Plate
 fn member_held(f: [u32; 13]) -> Member
     ensures { λ r. ⌜ r ≡ memberHeld f ⌝ }
 {
-    let z = Span(held_short(f[2]));
-    let spacing = Spacing(held_short(f[3]));
-    let span = Span(held_short(f[4]));
-    let thickness = Thickness(held_short(f[5]));
-    let bending = held_byte(f[6]);
-    let shear = held_byte(f[7]);
-    let eta = held_byte(f[8]);
-    let stress = held_byte(f[9]);
-    let modulus = Modulus(f[10]);
-    let area = ShearArea(held_short(f[11]));
-    let factor = SteelFactor(held_short(f[12]));
+    let z = held::span_of(f[2]);
+    let spacing = held::spacing_of(f[3]);
+    let span = held::span_of(f[4]);
+    let thickness = held::thickness_of(f[5]);
+    let bending = held::byte(f[6]);
+    let shear = held::byte(f[7]);
+    let eta = held::byte(f[8]);
+    let stress = held::byte(f[9]);
+    let modulus = held::modulus_of(f[10]);
+    let area = held::shear_area_of(f[11]);
+    let factor = held::factor_of(f[12]);
     Member {
         z,
         spacing,
@@ -315,8 +296,8 @@ fn member_held(f: [u32; 13]) -> Member
 fn record_held(f: [u32; 13]) -> Record
     ensures { λ r. ⌜ r ≡ recordHeld f ⌝ }
 {
-    let kind = held_byte(f[0]);
-    let id = held_short(f[1]);
+    let kind = held::byte(f[0]);
+    let id = held::short(f[1]);
     if f[0] < 5 {
         let p = plate_held(f);
         Record {

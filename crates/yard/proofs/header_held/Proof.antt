@@ -10,7 +10,13 @@ returns c =
     let c₂ = c₁ .before in
     let c₃ = c₂ .before in
     let c₄ = c₃ .before in
-    rw (c .held-short4 .ensures, c₁ .held-short3 .ensures, c₂ .held-short2 .ensures, c₃ .held-short .ensures, c₄ .held-byte .ensures)
+    rw (
+      c .short .ensures,
+      c₁ .span-of3 .ensures,
+      c₂ .span-of2 .ensures,
+      c₃ .span-of .ensures,
+      c₄ .byte .ensures,
+    )
 
 pub header-held-spec : {M : Type 1} → statement M
 header-held-spec =

@@ -15,17 +15,19 @@ returns c =
     let c₇ = c₆ .before in
     let c₈ = c₇ .before in
     let c₉ = c₈ .before in
+    let c₁₀ = c₉ .before in
     rw (
-      c .held-short6 .ensures,
-      c₁ .held-short5 .ensures,
-      c₂ .held-byte4 .ensures,
-      c₃ .held-byte3 .ensures,
-      c₄ .held-byte2 .ensures,
-      c₅ .held-byte .ensures,
-      c₆ .held-short4 .ensures,
-      c₇ .held-short3 .ensures,
-      c₈ .held-short2 .ensures,
-      c₉ .held-short .ensures,
+      c .factor-of .ensures,
+      c₁ .shear-area-of .ensures,
+      c₂ .modulus-of .ensures,
+      c₃ .byte4 .ensures,
+      c₄ .byte3 .ensures,
+      c₅ .byte2 .ensures,
+      c₆ .byte .ensures,
+      c₇ .thickness-of .ensures,
+      c₈ .span-of2 .ensures,
+      c₉ .spacing-of .ensures,
+      c₁₀ .span-of .ensures,
     )
 
 pub member-held-spec : {M : Type 1} → statement M
@@ -49,6 +51,7 @@ member-held-spec =
     (λ c. search needs)
     (λ c κs. search needs)
     (λ c. search needs)
+    (λ c κs. search needs)
     (λ c. search needs)
     (λ c κs. search needs)
     (λ c. search needs)

@@ -13,13 +13,13 @@ returns c =
     let c₅ = c₄ .before in
     let c₆ = c₅ .before in
     rw (
-      c .held-short7 .ensures,
-      c₁ .held-short6 .ensures,
-      c₂ .held-short5 .ensures,
-      c₃ .held-short4 .ensures,
-      c₄ .held-short3 .ensures,
-      c₅ .held-short2 .ensures,
-      c₆ .held-short .ensures,
+      c .span-of4 .ensures,
+      c₁ .span-of3 .ensures,
+      c₂ .span-of2 .ensures,
+      c₃ .thickness-of .ensures,
+      c₄ .spacing-of .ensures,
+      c₅ .span-of .ensures,
+      c₆ .factor-of .ensures,
     )
 
 pub plate-held-spec : {M : Type 1} → statement M

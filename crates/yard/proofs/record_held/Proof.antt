@@ -8,12 +8,12 @@ use Rattle.yard.proofs.record_held.Tie as tie
 returns : tie.Need-returns
 returns c =
     let k = c .before .before in
-    rw (lt-ltb _ _ (c .before .if1 .taken), c .plate-held .ensures, k .held-short .ensures, k .before .held-byte .ensures)
+    rw (lt-ltb _ _ (c .before .if1 .taken), c .plate-held .ensures, k .short .ensures, k .before .byte .ensures)
 
 returns-2 : tie.Need-returns-2
 returns-2 c =
     let k = c .before .before in
-    rw (le-ltb _ _ (c .before .if1 .left), c .member-held .ensures, k .held-short .ensures, k .before .held-byte .ensures)
+    rw (le-ltb _ _ (c .before .if1 .left), c .member-held .ensures, k .short .ensures, k .before .byte .ensures)
 
 pub record-held-spec : {M : Type 1} → statement M
 record-held-spec =
