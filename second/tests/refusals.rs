@@ -3,10 +3,11 @@
 mod common;
 
 use common::{member, plate, sheet, vessel_v, with};
-use second::check::{check, Refusal};
+use second::check::check;
 use second::form::{field_number, Form};
 use second::limits::in_record;
 use second::print::answer;
+use second::refusal::Refusal;
 
 fn refusal(sheet: &[u8]) -> Option<(usize, usize)> {
     let mut output = [0xee; 1600];
