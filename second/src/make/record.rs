@@ -164,7 +164,7 @@ fn plate_material(chance: &mut Chance, header: &Header, kind: i128) -> i128 {
 
 /// K2 at its cap of 26,000 (b2 = 5 b1) and around it, at a whole 2000, near
 /// 1000, and anywhere.
-fn panel(chance: &mut Chance) -> (i128, i128) {
+pub fn panel(chance: &mut Chance) -> (i128, i128) {
     match chance.below(5) {
         0 => {
             let b1 = chance.between(10, 199);
