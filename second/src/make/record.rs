@@ -340,3 +340,21 @@ fn round_member(chance: &mut Chance, form: &mut Form) {
         _ => {}
     }
 }
+
+#[cfg(test)]
+mod tests {
+    use super::*;
+    use crate::make::vessel;
+
+    #[test]
+    fn halving_finds_what_the_walk_finds() {
+        let mut chance = Chance::new(5);
+        for _ in 0..60 {
+            let header = vessel::header(&mut chance);
+            let form = record(&mut chance, &header, 1);
+            for demand in demands(&Header::of(&header), &Record::of(&form)) {
+                assert_eq!(turn(&demand), demand.least());
+            }
+        }
+    }
+}

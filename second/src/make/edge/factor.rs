@@ -7,10 +7,8 @@
 //! and the draw counts if that is near enough and the load can be had.
 
 use super::quiet::{quiet_header, quiet_member, quiet_plate};
-use super::side::{
-    Side::{self, Meets, Misses},
-    Sides,
-};
+use super::side::at_edge;
+use super::side::Side::{self, Meets, Misses};
 use crate::form::Form;
 use crate::limits::{A_HIGHEST, T_HIGHEST, W_HIGHEST};
 use crate::loads::{hull_stress, line_load, member_pressure, panel_factor, plate_pressure};
@@ -80,7 +78,7 @@ fn root_at_edge(a: i128, X: i128, b: i128, y: i128, side: Side) -> bool {
     let step = if side == Misses { 1 } else { -1 };
     let beside = X + step;
     let turns = (a * X * X >= b * y) != (a * beside * beside >= b * y);
-    X > 0 && turns && Sides { a, x: X * X, b, y }.at_edge(side)
+    X > 0 && turns && at_edge(a, X * X, b, y, side)
 }
 
 fn least_thickness(chance: &mut Chance, kind: i128, side: Side) -> Drawn {
@@ -97,8 +95,8 @@ fn least_thickness(chance: &mut Chance, kind: i128, side: Side) -> Drawn {
     Some((header, quiet_plate(kind, K, S, T)))
 }
 
-/// Every pressure on a bottom plate is a multiple of the first (98100 = 20 x 4905,
-/// 14715 = 3 x 4905, 50031 x 60 = 612 x 4905) and at most the second.
+/// Ballast less relief is a multiple of the first (98100 = 20 x 4905, 14715 = 3 x
+/// 4905, 50031 x 60 = 612 x 4905) and at most the second; so is cargo below.
 const BOTTOM_PRESSURES: (i128, i128) = (4905, 98_100 * 1300);
 const CARGO_PRESSURES: (i128, i128) = (1000, 200_000_000);
 
@@ -130,9 +128,7 @@ fn under_pressure(chance: &mut Chance, kind: i128, side: Side) -> Drawn {
     // P in steps: the last that is met, or the first that is missed.
     let steps = left * T * T / (right * step) + if side == Misses { 1 } else { 0 };
     let (P, T) = (i128::from(step * steps), i128::from(T));
-    let y = S * S * K * P;
-    let x = T * T;
-    if !(Sides { a, x, b, y }).at_edge(side) {
+    if !at_edge(a, T * T, b, S * S * K * P, side) {
         return None;
     }
     let mut header = quiet_header();
@@ -201,14 +197,7 @@ fn under_stress(chance: &mut Chance, kind: i128, side: Side) -> Drawn {
     if kind <= 2 && K * R > turn[kind as usize - 1] {
         return None;
     }
-    if !(Sides {
-        a,
-        x,
-        b,
-        y: S * S * R,
-    })
-    .at_edge(side)
-    {
+    if !at_edge(a, x, b, S * S * R, side) {
         return None;
     }
     let mut header = quiet_header();
@@ -239,15 +228,7 @@ fn under_stress_second_form(chance: &mut Chance, kind: i128, side: Side) -> Draw
     let y = S * S * K;
     let left = (b * y - 1) / (a * x_per_left) + if side == Meets { 1 } else { 0 };
     let R = 210_000 - left;
-    if K * R <= turn
-        || !(Sides {
-            a,
-            x: x_per_left * left,
-            b,
-            y,
-        })
-        .at_edge(side)
-    {
+    if K * R <= turn || !at_edge(a, x_per_left * left, b, y, side) {
         return None;
     }
     let mut header = quiet_header();
@@ -297,13 +278,7 @@ fn web_of_long_vessel(chance: &mut Chance, side: Side) -> Drawn {
 /// The line load at which a x >= b q y_per_q turns, if this is an edge.
 fn line_load_at_edge(a: i128, x: i128, b: i128, y_per_q: i128, side: Side) -> Option<i128> {
     let q = a * x / (b * y_per_q) + if side == Misses { 1 } else { 0 };
-    let sides = Sides {
-        a,
-        x,
-        b,
-        y: y_per_q * q,
-    };
-    (q <= MOST_Q && sides.at_edge(side)).then_some(q)
+    (q <= MOST_Q && at_edge(a, x, b, y_per_q * q, side)).then_some(q)
 }
 
 /// No vessel has more: D0 1000, H 120, S 4000.
@@ -342,21 +317,10 @@ fn modulus(chance: &mut Chance, kind: i128, side: Side) -> Drawn {
         eta = chance.between(50, 100);
         sigma1 = chance.between(0, 150);
     }
+    let bending = beta_b * eta * l * l;
     let q = match kind {
-        5 => line_load_at_edge(
-            100_000_000_000,
-            W * (214 - sigma1),
-            833,
-            beta_b * eta * l * l,
-            side,
-        ),
-        8 => line_load_at_edge(
-            2_000_000_000,
-            W * (197 - sigma1),
-            25,
-            beta_b * eta * l * l,
-            side,
-        ),
+        5 => line_load_at_edge(100_000_000_000, W * (214 - sigma1), 833, bending, side),
+        8 => line_load_at_edge(2_000_000_000, W * (197 - sigma1), 25, bending, side),
         _ => line_load_at_edge(5_000_000_000, W, 29, beta_b * l * l, side),
     }?;
     let mut header = quiet_header();

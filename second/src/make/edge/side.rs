@@ -6,23 +6,13 @@ pub enum Side {
     Meets,
 }
 
-/// An inequality a x >= b y.
-pub struct Sides {
-    pub a: i128,
-    pub x: i128,
-    pub b: i128,
-    pub y: i128,
-}
-
-impl Sides {
-    /// Whether it stands on the side asked for, and one more or one less in a,
-    /// and in b, would put it on the other.
-    pub fn at_edge(&self, side: Side) -> bool {
-        let over = self.a * self.x - self.b * self.y;
-        let step = self.x.min(self.y);
-        match side {
-            Side::Misses => -step <= over && over < 0,
-            Side::Meets => 0 <= over && over < step,
-        }
+/// Whether a x >= b y is on the side asked for, and one more or one less in a, and
+/// in b, would put it on the other.
+pub fn at_edge(a: i128, x: i128, b: i128, y: i128, side: Side) -> bool {
+    let over = a * x - b * y;
+    let step = x.min(y);
+    match side {
+        Side::Misses => -step <= over && over < 0,
+        Side::Meets => 0 <= over && over < step,
     }
 }
