@@ -2,20 +2,9 @@
 //! record by record.
 
 use crate::form::{Form, HEADER_BYTES, RECORD_BYTES, VERDICT, VERDICT_BYTES};
+use crate::refusal::Refusal;
 use crate::rules::demands;
 use crate::sheet::{read_header, read_record, Header, Record};
-
-#[derive(Clone, Copy, Debug, PartialEq, Eq)]
-pub struct Refusal {
-    pub number: usize,
-    pub place: usize,
-}
-
-impl Refusal {
-    pub fn new(number: usize, place: usize) -> Refusal {
-        Refusal { number, place }
-    }
-}
 
 /// What a check that isn't refused gives.
 #[derive(Clone, Copy, Debug, PartialEq, Eq)]

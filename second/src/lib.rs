@@ -17,6 +17,7 @@ pub mod limits;
 pub mod loads;
 pub mod make;
 pub mod print;
+pub mod refusal;
 pub mod rules;
 pub mod sheet;
 pub mod stream;

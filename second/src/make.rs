@@ -3,30 +3,18 @@
 //! gives the same sheets everywhere.
 
 mod chance;
+mod draft;
+mod edge;
 mod record;
 mod spoil;
 mod vessel;
 
-use crate::form::{Form, HEADER_BYTES, RECORD_BYTES};
+use crate::form::{HEADER_BYTES, RECORD_BYTES};
 use crate::limits::{ID_HIGHEST, N_HIGHEST};
 use crate::stream::LONGEST_SHEET;
 use chance::Chance;
-
-/// A sheet not yet packed, so that single fields can still be changed.
-struct Draft {
-    header: Form,
-    records: Vec<Form>,
-}
-
-impl Draft {
-    fn bytes(&self) -> Vec<u8> {
-        let mut bytes = self.header.pack();
-        for record in &self.records {
-            bytes.extend(record.pack());
-        }
-        bytes
-    }
-}
+use draft::Draft;
+use edge::Edges;
 
 /// Ids that rise strictly and end at or under the highest one.
 fn rising_ids(chance: &mut Chance, n: i128) -> Vec<i128> {
@@ -95,10 +83,11 @@ fn longer_than_any(chance: &mut Chance) -> Vec<u8> {
 /// Sheet after sheet, without end.
 pub fn sheets(seed: u64) -> impl Iterator<Item = Vec<u8>> {
     let mut chance = Chance::new(seed);
-    std::iter::repeat_with(move || one(&mut chance))
+    let mut edges = Edges::new();
+    std::iter::repeat_with(move || one(&mut chance, &mut edges))
 }
 
-fn one(chance: &mut Chance) -> Vec<u8> {
+fn one(chance: &mut Chance, edges: &mut Edges) -> Vec<u8> {
     match chance.below(1000) {
         0..5 => sound(chance, N_HIGHEST).bytes(),
         5..7 => longer_than_any(chance),
@@ -135,6 +124,7 @@ fn one(chance: &mut Chance) -> Vec<u8> {
             spoil::bytes(chance, &mut bytes);
             bytes
         }
+        550..600 => edges.sheet(chance).bytes(),
         _ => {
             let n = chance.between(1, 12);
             sound(chance, n).bytes()

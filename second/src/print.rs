@@ -1,8 +1,9 @@
 //! The lines the document's program prints for one sheet.
 
-use crate::check::{check, Outcome, Refusal, Verdict};
+use crate::check::{check, Outcome, Verdict};
 use crate::form::VERDICT_BYTES;
 use crate::limits::N_HIGHEST;
+use crate::refusal::Refusal;
 
 /// Checks a sheet with room for the longest answer, so refusal 5 cannot arise.
 pub fn verdicts(sheet: &[u8]) -> Result<(Vec<Verdict>, Outcome), Refusal> {

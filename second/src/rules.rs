@@ -122,12 +122,16 @@ impl Demand {
     }
 
     pub fn is_met(&self) -> bool {
-        (self.meets)(self.entered)
+        self.is_met_by(self.entered)
+    }
+
+    pub fn is_met_by(&self, number: i128) -> bool {
+        (self.meets)(number)
     }
 
     /// The least number of the gauge that meets the rule, by a walk from 1.
     pub fn least(&self) -> Option<i128> {
-        (1..=self.gauge).find(|number| (self.meets)(*number))
+        (1..=self.gauge).find(|number| self.is_met_by(*number))
     }
 }
 

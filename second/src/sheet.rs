@@ -1,9 +1,9 @@
 //! What a sheet says once its fields are known to be allowed: the header, and
 //! records that carry plate data or member data, never both.
 
-use crate::check::Refusal;
 use crate::form::{record_layout, Form, HEADER, HEADER_BYTES};
 use crate::limits::{first_fault, in_header, in_record, VERSION};
+use crate::refusal::Refusal;
 
 #[derive(Clone, Copy, Debug, PartialEq, Eq)]
 pub struct Header {

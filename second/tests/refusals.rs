@@ -3,10 +3,12 @@
 mod common;
 
 use common::{member, plate, sheet, vessel_v, with};
-use second::check::{check, Refusal};
+use second::check::check;
 use second::form::{field_number, Form};
 use second::limits::in_record;
+use second::make::sheets;
 use second::print::answer;
+use second::refusal::Refusal;
 
 fn refusal(sheet: &[u8]) -> Option<(usize, usize)> {
     let mut output = [0xee; 1600];
@@ -91,6 +93,32 @@ fn number_5_output() {
     assert_eq!(check(&no_kind, &mut []), Err(Refusal::new(5, 0)));
     assert_eq!(check(&no_kind[..20], &mut []), Err(Refusal::new(4, 0)));
     assert!(check(&sheet(&vessel_v(), &[]), &mut []).is_ok());
+}
+
+/// Every sheet that is not turned away: an output of any length under 4n bytes
+/// is refused and stays as lent; of 4n bytes or more the first 4n are written.
+#[test]
+fn number_5_for_each_sound_sheet() {
+    let mut sound = 0;
+    for sheet in sheets(11).take(400) {
+        let mut ample = vec![0xee; 1700];
+        let Ok(outcome) = check(&sheet, &mut ample) else {
+            continue;
+        };
+        sound += 1;
+        let needed = 4 * outcome.n;
+        assert!(ample[needed..].iter().all(|byte| *byte == 0xee));
+        let mut exact = vec![0xee; needed];
+        assert_eq!(check(&sheet, &mut exact), Ok(outcome));
+        assert_eq!(exact, ample[..needed]);
+        let lengths = [0, 1, 3, needed / 2, needed.saturating_sub(1)];
+        for length in lengths.into_iter().filter(|length| *length < needed) {
+            let mut short = vec![0xee; length];
+            assert_eq!(check(&sheet, &mut short), Err(Refusal::new(5, 0)));
+            assert_eq!(short, vec![0xee; length]);
+        }
+    }
+    assert!(sound > 100);
 }
 
 #[test]

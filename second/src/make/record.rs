@@ -30,6 +30,21 @@ pub fn record(chance: &mut Chance, header: &Form, id: i128) -> Form {
     form
 }
 
+/// The least number of the gauge that meets a rule, as `Demand::least` has it. Here
+/// by halving, to save time: what is enough stays enough further up the gauge.
+fn turn(demand: &Demand) -> Option<i128> {
+    let (mut below, mut enough) = (0, demand.gauge + 1);
+    while enough - below > 1 {
+        let middle = (below + enough) / 2;
+        if demand.is_met_by(middle) {
+            enough = middle;
+        } else {
+            below = middle;
+        }
+    }
+    (enough <= demand.gauge).then_some(enough)
+}
+
 /// One number of the gauge at, just under or just over `least`.
 fn near(chance: &mut Chance, least: i128, steps: &[i128], gauge: i128) -> i128 {
     (least + chance.of(steps)).clamp(1, gauge)
@@ -39,7 +54,7 @@ fn near(chance: &mut Chance, least: i128, steps: &[i128], gauge: i128) -> i128 {
 /// needs the most; at another one the earlier or the later rules get their say.
 fn thickness(chance: &mut Chance, demands: &[Demand; 3]) -> i128 {
     let gauge = demands[0].gauge;
-    let least: Vec<Option<i128>> = demands.iter().map(Demand::least).collect();
+    let least: Vec<Option<i128>> = demands.iter().map(turn).collect();
     let chosen = if chance.one_in(4) {
         *chance.of(&least)
     } else {
@@ -68,7 +83,7 @@ fn scantlings(chance: &mut Chance, demands: &[Demand; 3]) -> [i128; 3] {
             _ if index == tried => &[-1, -1, 0, 1],
             _ => &[-1, 0, 1],
         };
-        numbers[index] = match demand.least() {
+        numbers[index] = match turn(demand) {
             Some(least) => near(chance, least, steps, demand.gauge),
             None => *chance.of(&[1, demand.gauge - 1, demand.gauge]),
         };
@@ -149,7 +164,7 @@ fn plate_material(chance: &mut Chance, header: &Header, kind: i128) -> i128 {
 
 /// K2 at its cap of 26,000 (b2 = 5 b1) and around it, at a whole 2000, near
 /// 1000, and anywhere.
-fn panel(chance: &mut Chance) -> (i128, i128) {
+pub fn panel(chance: &mut Chance) -> (i128, i128) {
     match chance.below(5) {
         0 => {
             let b1 = chance.between(10, 199);
@@ -323,5 +338,23 @@ fn round_member(chance: &mut Chance, form: &mut Form) {
             form.set("sigma1", 97);
         }
         _ => {}
+    }
+}
+
+#[cfg(test)]
+mod tests {
+    use super::*;
+    use crate::make::vessel;
+
+    #[test]
+    fn halving_finds_what_the_walk_finds() {
+        let mut chance = Chance::new(5);
+        for _ in 0..60 {
+            let header = vessel::header(&mut chance);
+            let form = record(&mut chance, &header, 1);
+            for demand in demands(&Header::of(&header), &Record::of(&form)) {
+                assert_eq!(turn(&demand), demand.least());
+            }
+        }
     }
 }

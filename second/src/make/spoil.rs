@@ -2,7 +2,7 @@
 //! to an end of its range, a bit turned in T): those are wanted too.
 
 use super::chance::Chance;
-use super::Draft;
+use super::draft::Draft;
 use crate::form::{record_layout, Form};
 use crate::limits::{in_header, in_record, Allowed, N_HIGHEST};
 

@@ -87,7 +87,7 @@ fn moment_and_modulus(chance: &mut Chance) -> (i128, i128) {
 
 /// A moment and a modulus from 1,000,000 cm3 up that give R, as a rule after
 /// rounding up: with such a modulus one kNm moves R by at most 1.
-fn aimed_at(chance: &mut Chance, R: i128) -> (i128, i128) {
+pub fn aimed_at(chance: &mut Chance, R: i128) -> (i128, i128) {
     let ZB = chance.between(1_000_000, 4_700_000);
     (R * ZB / 1_000_000, ZB)
 }
