@@ -1,13 +1,13 @@
 -- Refusals 1 to 8: which of them is given in each case.
 -- Assumes nothing.
 use Prim.Native.Nat.{ℕ, _+_, _*_, _≤_, _<_}
-use mathlib.Core.Path.{_≡_, refl, sym}
+use mathlib.Core.Path.{_≡_, sym}
 use mathlib.Core.List.{List}
 use lib.ListN.{length}
 use borrow.Author.Tests.{lt-ltb, le-ltb, le-leb, lt-leb, eq-eqb, ne-eqb}
 use Rattle.sheet.specs.declared.Header.{Header}
 use Rattle.sheet.specs.declared.Record.{Record}
-use Rattle.sheet.specs.Refusals.{Answer, given, refused}
+use Rattle.sheet.specs.Refusals.{given, refused}
 use Rattle.sheet.specs.Header.{readHeader}
 use Rattle.sheet.specs.Record.{readRecord}
 use Rattle.checker.specs.Check.{_then_, demand, headerFor, soundAfter}

@@ -20,7 +20,7 @@ use Rattle.sheet.specs.RecordLaws.{rawAt}
 use Rattle.sheet.specs.RecordBack.{record-read-fine, record-read-raw}
 use Rattle.verdict.specs.declared.Verdict.{Verdict}
 use Rattle.verdict.specs.Judged.{judgedBy}
-use Rattle.verdict.specs.JudgedLaws.{Sound, given-sound, sound-given}
+use Rattle.verdict.specs.JudgedLaws.{given-sound, sound-given}
 use Rattle.hull.specs.Hull.{verdict}
 use Rattle.checker.specs.declared.Entry.{Entry}
 use Rattle.checker.specs.Entry.{entryFault, entryBytes, writeEntry}

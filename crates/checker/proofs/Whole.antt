@@ -2,7 +2,7 @@
 -- Assumes nothing.
 use Prim.Native.Nat.{ℕ, _*_, _≤_}
 use native.Mathlib.Omega.{arith}
-use mathlib.Core.Path.{_≡_, refl, sym, ap, ap₂, _∙_}
+use mathlib.Core.Path.{_≡_, sym, ap, ap₂, _∙_}
 use mathlib.Core.List.{List, _++_, map}
 use lib.ListN.{length, take, drop, length-map}
 use lib.Seq.{take-at, take-all}
@@ -14,7 +14,7 @@ use Rattle.sheet.specs.RefusalLaws.{given-refused, refused-number, refused-plac
 use Rattle.sheet.specs.HeaderLaws.{header-ranges}
 use Rattle.sheet.specs.HeaderBack.{header-read-fine}
 use Rattle.checker.specs.declared.Checked.the-variants.{Done, Refused as notDone}
-use Rattle.checker.specs.Check.{_then_, headerFor, partsFrom, recordsIn, Sheet, sheetIn, entryOf, verdicts, bytesOf, failures, Totals, answerOf, outputOf, Checks}
+use Rattle.checker.specs.Check.{_then_, headerFor, partsFrom, recordsIn, Sheet, sheetIn, entryOf, verdicts, bytesOf, answerOf, Checks}
 use Rattle.checker.specs.CheckLaws.{header-fits, then-given, taken, bytes-length, answer-done, output-done, refused-as-lent}
 use Rattle.checker.specs.Passes.{Ready, Pass, passOf, passOver}
 

@@ -154,7 +154,7 @@ fn sound_after(bytes: &[u8], i: u16, before: u16) -> RecordRead
     }
 }
 
-// Why record i is turned away, where it is.
+// Why record i is turned away, where it is: the reader then gives no record.
 fn why_refused(bytes: &[u8], i: u16, before: u16) -> Refusal
     requires { ⌜ Refuses (soundAfter i before (now bytes)) ⌝ }
     ensures { λ x. ⌜ told x ≡ soundAfter i before (now (bytes .entry)) ⌝ }

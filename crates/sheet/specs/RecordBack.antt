@@ -94,6 +94,10 @@ same-number n l = go (plateIn n)
         ∙ pack-unpack-lt plateWidths n l
     go false z = pack-unpack-lt memberWidths n l
 
+-- in the first sixteen bytes a record stands that has no fault, and nothing in the bits that carry nothing
+abbrev pub Bare : List ℕ → Record → Type 0
+Bare s r = (rawAt (readOf 16 s) ≡ record { values = r; spare = 0 }) × (recordFault r 0 ≡ 0)
+
 module _ (i : ℕ) where
   number-read : (r : Record) → recordFault r 0 ≡ 0 → (recordNumber r < 2 ^ total (bytes 16)) × (recordIn i (recordNumber r) ≡ given r)
   number-read r e =
@@ -153,12 +157,8 @@ module _ (i : ℕ) where
       unfolding readRecord writeRecord
       record-written-onto = written-onto (recordCases 0) (recordIn i) recordNumber (λ a. recordFault a 0) number-read read-back s r fit e
 
-  -- bytes are read as a record exactly when the record in them has no fault and nothing stands in the bits that carry nothing
   module _ (s : List ℕ) (r : Record) where
-    abbrev Bare : Type 0
-    Bare = (rawAt (readOf 16 s) ≡ record { values = r; spare = 0 }) × (recordFault r 0 ≡ 0)
-
-    read-bare : readRecord i s ≡ given r → Bare
+    read-bare : readRecord i s ≡ given r → Bare s r
     read-bare e =
         let n = pack (bytes 16) (take 16 s) in
         let m = inside s r e in
@@ -167,7 +167,7 @@ module _ (i : ℕ) where
           record-read-fine s r e,
         )
 
-    bare-read : Bare → readRecord i s ≡ given r
+    bare-read : Bare s r → readRecord i s ≡ given r
     unfolding readRecord plateFault memberFault
     bare-read b = go (decLt (length s) 16)
       where
@@ -183,5 +183,6 @@ module _ (i : ℕ) where
             ∙ ap (λ (w : Raw). recordRefused i (recordFault (w .values) (w .spare)) (given (w .values))) (ap rawAt (sym (read-all 16 s long)) ∙ b .0)
             ∙ at-none (refused 6 i) (λ k. refused 7 (32 * i + k)) (recordFault r 0) (given r) (b .1))
 
-    pub record-read-raw : Exactly (readRecord i s ≡ given r) ((rawAt (readOf 16 s) ≡ record { values = r; spare = 0 }) × (recordFault r 0 ≡ 0))
+    -- a record is read exactly where it stands bare
+    pub record-read-raw : Exactly (readRecord i s ≡ given r) (Bare s r)
     record-read-raw = (read-bare, bare-read)

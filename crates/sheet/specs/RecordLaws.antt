@@ -33,7 +33,7 @@ recordAt n = cond (plateIn n) (plateRecord (unpack plateWidths n)) (memberRecord
 abbrev pub spareAt : ℕ → ℕ
 spareAt n = cond (plateIn n) (getD (unpack plateWidths n) 11 0) 0
 
--- both, from one number
+-- both, as they stand in a number of 128 bits
 abbrev pub rawAt : ℕ → Raw
 rawAt n = record { values = recordAt n; spare = spareAt n }
 
