@@ -42,6 +42,7 @@ around r s x f a =
     let k = leb-true (s .high) (r .high) (h .1) in
     rw (le-leb (r .low) x (omega arith), le-leb x (r .high) (omega arith))
 
+-- what a line that is kept allows lies within the range, and below the number that is held for the others
 kept-one : (top : ℕ) (r s : Range) (x : ℕ) → (liesIn r s && ltb (s .high) top) ≡ true → within s x ≡ true → (within r x ≡ true) × (x < top)
 kept-one top r s x f a =
     let h = both (liesIn r s) (ltb (s .high) top) f in
@@ -87,6 +88,7 @@ abbrev pub heldOr : ℕ → Held → ℕ
 heldOr other (isHeld x) = x
 heldOr other refused = other
 
+-- it is the number as it is held
 pub made-held : (top : ℕ) (r : Range) {low high y : ℕ} {a : Held} → Makes r low high y a → heldOr top a ≡ heldIn r top y
 made-held top r {y = y} m = ap (heldOr top) (m .answered) ∙ go (within r y)
   where
@@ -94,7 +96,7 @@ made-held top r {y = y} m = ap (heldOr top) (m .answered) ∙ go (within r y)
     go true = refl
     go false = refl
 
--- and of a number that was first held in the quantity's field
+-- also where the number is first held in the field
 pub made-short : (top : ℕ) (r : Range) (x : ℕ) {low high y : ℕ} {a : Held} → keeps top (from 0 top) (r ∷ []) ≡ true → y ≡ held top x → Makes r low high y a
     → heldOr top a ≡ heldIn r top x
 made-short top r x f e m = made-held top r m ∙ ap (heldIn r top) e ∙ go (within (from 0 top) x) refl

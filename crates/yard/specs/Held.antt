@@ -1,4 +1,4 @@
--- How numbers of 32 bits are held in the narrower fields of a header and a record on their way to being written. No promise to a caller rests on this.
+-- How numbers of 32 bits are held in the fields of a header and a record on their way to being written. No promise to a caller rests on this.
 use Prim.Native.Nat.{ℕ}
 use mathlib.Core.Bool.{cond}
 use mathlib.Core.List.{List}
