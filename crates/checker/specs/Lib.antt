@@ -5,4 +5,5 @@ pub mod Passes
 pub mod Sound
 pub mod CheckLaws
 pub mod Only
+pub mod Bounds
 pub mod Longer

@@ -41,7 +41,7 @@ header-cut s l =
     rw (le-ltb _ _ m, le-ltb _ _ n) (ap (λ (b : List ℕ). headerIn (pack (bytes 12) b)) (take-take 12 enough s (omega arith)))
 
 -- what is read of a sheet up to there says what the whole of it says
-sheet-cut : (s : List ℕ) (room : ℕ) → sheetIn (take enough s) room ≡ sheetIn s room
+pub sheet-cut : (s : List ℕ) (room : ℕ) → sheetIn (take enough s) room ≡ sheetIn s room
 sheet-cut s room = go (decLt (length s) enough)
   where
     go : Dec (length s < enough) → sheetIn (take enough s) room ≡ sheetIn s room

@@ -4,7 +4,6 @@ pub mod Page
 pub mod PageLaws
 pub mod Pieces
 pub mod PiecesLaws
-pub mod Rows
 pub mod Longest
 pub mod Reading
 pub mod Back

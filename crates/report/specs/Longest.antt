@@ -5,7 +5,7 @@ use mathlib.Core.Path.{_≡_, refl, sym, ap, _∙_}
 use mathlib.Core.List.{List, [], _∷_, _++_, map}
 use native.Mathlib.Omega.{arith}
 use lib.ListN.{length, take, drop, length-append}
-use lib.Seq.{take-all, take-take}
+use lib.Seq.{take-take}
 use borrow.Author.Tests.{le-leb}
 use Rattle.sheet.specs.declared.Header.{Header}
 use Rattle.sheet.specs.declared.Record.{Record}
@@ -17,14 +17,13 @@ use Rattle.sheet.specs.RecordBack.{record-read-fine}
 use Rattle.checker.specs.Check.{_then_, demand, headerFor, recordPart, Sheet, sheetIn, entryOf, verdicts, failures, answerOf}
 use Rattle.checker.specs.CheckLaws.{Taken, next, sheet-whole}
 use Rattle.checker.specs.Sound.{entry-sound}
-use Rattle.checker.specs.Longer.{enough, answer-cut}
+use Rattle.checker.specs.Longer.{enough, sheet-cut}
+use Rattle.checker.specs.Bounds.{Refusable, sheet-told, sheet-counts}
 use Rattle.report.specs.Text.{room, entryNumbers, linesOf, printed, line, linesText, refusedWord, textBy, textOf}
 use Rattle.report.specs.TextLaws.{pair-most, entry-most, lines-last}
 use Rattle.decimal.specs.Put.{putOn}
 use Rattle.report.specs.declared.Told.{Told}
 use Rattle.report.specs.Page.{longest, toldLength, lengthIn, Tells}
-use Rattle.report.specs.PiecesLaws.{sheet-counts, answer-refused}
-use Rattle.report.specs.Rows.{Refusable, sheet-told}
 
 -- ---- the longest
 
@@ -86,21 +85,9 @@ room-enough s space l = go (readHeader s) refl
 
 -- ---- the sheet's length
 
--- a sheet that is not turned away is not cut, and one that is turned away is turned away alike
-sheet-cut : (s : List ℕ) → sheetIn (take enough s) room ≡ sheetIn s room
-unfolding answerOf _then_
-sheet-cut s = go (sheetIn s room) refl
-  where
-    go : (x : Answer Sheet) → sheetIn s room ≡ x → sheetIn (take enough s) room ≡ sheetIn s room
-    go (given t) e =
-        let few = sheet-counts s room t e .records in
-        let whole = sheet-whole s room t e .header .whole in
-        ap (λ (b : List ℕ). sheetIn b room) (take-all enough s (omega arith))
-    go (refused k p) e = answer-refused (take enough s) room k p (answer-cut s room ∙ ap (λ (x : Answer Sheet). x then λ t. given (record { n = t .header .count; failed = failures (verdicts t) })) e) ∙ sym e
-
 -- what is read of a sheet up to there, or further, says what is printed of the whole
 pub text-cut : (n : ℕ) (s : List ℕ) → enough ≤ n → textOf (take n s) ≡ textOf s
 unfolding textOf printed
 text-cut n s l =
-    let cut : sheetIn (take n s) room ≡ sheetIn s room = sym (sheet-cut (take n s)) ∙ ap (λ (b : List ℕ). sheetIn b room) (take-take enough n s l) ∙ sheet-cut s in
+    let cut : sheetIn (take n s) room ≡ sheetIn s room = sym (sheet-cut (take n s) room) ∙ ap (λ (b : List ℕ). sheetIn b room) (take-take enough n s l) ∙ sheet-cut s room in
     rw cut

@@ -5,7 +5,7 @@ use mathlib.Core.Path.{_≡_, refl, sym, ap, ap₂, _∙_}
 use mathlib.Core.Bool.{Bool, true, false, cond}
 use mathlib.Core.List.{List, [], _∷_, _++_, map}
 use native.Mathlib.Omega.{arith}
-use lib.ListN.{length, take, drop, length-append, length-map}
+use lib.ListN.{length, take, drop, length-append}
 use lib.Dec.{eqb}
 use Rattle.sheet.specs.declared.Header.{Header}
 use Rattle.sheet.specs.declared.Record.{Record}
@@ -13,8 +13,6 @@ use Rattle.sheet.specs.declared.Refusal.{Refusal}
 use Rattle.sheet.specs.declared.Refusal.the-variants.{SheetShort, Version, HeaderField, SheetLength, OutputShort, Kind, Field, Order}
 use Rattle.sheet.specs.Refusals.{Answer, given, refused, numberOf, placeOf}
 use Rattle.sheet.specs.RefusalLaws.{given-refused, refused-number, refused-place}
-use Rattle.sheet.specs.HeaderLaws.{header-ranges}
-use Rattle.sheet.specs.HeaderBack.{header-read-fine}
 use Rattle.checker.specs.declared.Entry.{Entry}
 use Rattle.checker.specs.declared.Checked.{Checked}
 use Rattle.checker.specs.declared.Checked.the-variants.{Done, Refused as notDone}
@@ -22,6 +20,7 @@ use Rattle.checker.specs.Entry.{readEntry}
 use Rattle.checker.specs.EntryLaws.{read-sound}
 use Rattle.checker.specs.Check.{_then_, part, recordOf, Sheet, sheetIn, entryOf, verdicts, failures, Totals, answerOf, outputOf, Checks}
 use Rattle.checker.specs.CheckLaws.{Taken, next, sheet-whole, verdict-read, answer-sheet}
+use Rattle.checker.specs.Bounds.{sheet-counts}
 use Rattle.report.specs.Text.{room, entryNumbers, linesOf, printed, line, linesText, refusedWord, textBy, textOf}
 use Rattle.report.specs.TextLaws.{entry-most, lines-last}
 use Rattle.report.specs.Pieces.{readText, verdictText, verdictsText, refusalText, checkedText, Counted}
@@ -62,29 +61,6 @@ number-small OutputShort = omega arith
 number-small (Kind p) = omega arith
 number-small (Field p) = omega arith
 number-small (Order p) = omega arith
-
-failures-most : (es : List Entry) → failures es ≤ length es
-unfolding failures
-failures-most [] = omega arith
-failures-most (e ∷ es) = go (eqb (e .rule) 0) (failures-most es)
-  where
-    go : (t : Bool) → failures es ≤ length es → cond t 0 1 + failures es ≤ length (e ∷ es)
-    go true l = omega arith
-    go false l = omega arith
-
--- the counts of a sheet that is not turned away, in an output of so many bytes
-pub record Counts (space : ℕ) (t : Sheet) : Type 0 where
-  pub inside : 4 * t .header .count ≤ space
-  pub records : t .header .count ≤ 400
-  pub failed : failures (verdicts t) ≤ 400
-
-pub sheet-counts : (s : List ℕ) (space : ℕ) (t : Sheet) → sheetIn s space ≡ given t → Counts space t
-unfolding verdicts
-sheet-counts s space t e =
-    let w = sheet-whole s space t e in
-    let few = header-ranges (t .header) 0 (header-read-fine s (t .header) (w .header .read)) .count-high in
-    let one-each = length-map (t .records) (entryOf (t .header)) in
-    record { inside = w .header .fits; records = few; failed = omega (arith, failures-most (verdicts t), one-each, w .number) }
 
 -- so that the counts of a check are within their bounds
 pub checked-counted : (s out after : List ℕ) (r : Checked) → length after ≡ length out → Checks s out r after → Counted r after

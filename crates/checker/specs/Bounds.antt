@@ -1,11 +1,12 @@
--- A refusal's number and place, whatever the sheet and the output: a row of the table, and a place within the longest sheet.
+-- What an answer can be, whatever the sheet and the output: a refusal's number is a row of the table and its place within the longest sheet, and no count is
+-- above the highest.
 -- Assumes nothing.
 use Prim.Native.Nat.{ℕ, zero, suc, _+_, _*_, _≤_, _<_}
 use mathlib.Core.Path.{_≡_, refl, sym, subst}
 use mathlib.Core.Bool.{Bool, true, false, cond}
-use mathlib.Core.List.{List, _∷_}
+use mathlib.Core.List.{List, [], _∷_}
 use native.Mathlib.Omega.{arith}
-use lib.ListN.{length, take}
+use lib.ListN.{length, take, length-map}
 use lib.Dec.{ltb, leb, eqb}
 use Rattle.layout.specs.Layout.{pack, unpack, bytes}
 use Rattle.layout.specs.Line.{Line, faultFrom}
@@ -23,8 +24,9 @@ use Rattle.sheet.specs.RecordLaws.{recordAt}
 use Rattle.sheet.specs.Exactly.{Cases, byFault}
 use Rattle.sheet.specs.HeaderExactly.{headerCases}
 use Rattle.sheet.specs.RecordExactly.{recordCases, linesAt, fieldsAt, record-by-fields}
-use Rattle.checker.specs.Check.{_then_, demand, headerFor, recordPart, partsFrom, soundAfter, recordsIn, sheetIn}
-use Rattle.checker.specs.CheckLaws.{header-fits}
+use Rattle.checker.specs.declared.Entry.{Entry}
+use Rattle.checker.specs.Check.{_then_, demand, headerFor, recordPart, partsFrom, soundAfter, recordsIn, Sheet, sheetIn, entryOf, verdicts, failures}
+use Rattle.checker.specs.CheckLaws.{header-fits, sheet-whole}
 
 -- a number of the table, and a place within a sheet of 400 records
 pub record Row (number place : ℕ) : Type 0 where
@@ -38,14 +40,14 @@ Refusable (given a) = Unit
 Refusable (refused number place) = Row number place
 
 -- no field has a number past the last
-most : (ls : List Line) (vs : List ℕ) → length vs ≡ length ls → faultFrom 1 ls vs ≤ length ls
+pub most : (ls : List Line) (vs : List ℕ) → length vs ≡ length ls → faultFrom 1 ls vs ≤ length ls
 most ls vs same = go (faultFrom 1 ls vs) refl
   where
     go : (f : ℕ) → faultFrom 1 ls vs ≡ f → f ≤ length ls
     go zero e = omega arith
     go (suc i) e = let l = fault-first ls vs same i e .inside in omega arith
 
-fault-told : {A : Type 0} (c : Cases) (f : ℕ) (a : A) → Row (c .first) (c .at) → Row (c .later) (c .place f) → Refusable (byFault c f a)
+pub fault-told : {A : Type 0} (c : Cases) (f : ℕ) (a : A) → Row (c .first) (c .at) → Row (c .later) (c .place f) → Refusable (byFault c f a)
 fault-told {A} c f a p q = go (which (c .first) (c .at) (c .later) (c .place) f a)
   where
     go : Which (c .first) (c .at) (c .later) (c .place) f a → Refusable (byFault c f a)
@@ -54,24 +56,24 @@ fault-told {A} c f a p q = go (which (c .first) (c .at) (c .later) (c .place) f 
     go (later z w) = subst (λ (t : Answer A). Refusable t) (sym w) q
 
 -- a row from its three parts
-row : (k p : ℕ) → 1 ≤ k → k ≤ 8 → p < 12800 → Row k p
+pub row : (k p : ℕ) → 1 ≤ k → k ≤ 8 → p < 12800 → Row k p
 row k p a b c = record { some = a; last = b; inside = c }
 
-by-test : {A : Type 0} (t : Bool) (k p : ℕ) (x : Answer A) → Row k p → Refusable x → Refusable (cond t (refused k p) x)
+pub by-test : {A : Type 0} (t : Bool) (k p : ℕ) (x : Answer A) → Row k p → Refusable x → Refusable (cond t (refused k p) x)
 by-test true k p x r t = r
 by-test false k p x r t = t
 
-then-told : {A B : Type 0} (x : Answer A) (rest : A → Answer B) → Refusable x → ((a : A) → x ≡ given a → Refusable (rest a)) → Refusable (x then rest)
+pub then-told : {A B : Type 0} (x : Answer A) (rest : A → Answer B) → Refusable x → ((a : A) → x ≡ given a → Refusable (rest a)) → Refusable (x then rest)
 unfolding _then_
 then-told (given a) rest t h = h a refl
 then-told (refused k p) rest t h = t
 
-demand-told : (t : Bool) (k : ℕ) → Row k 0 → Refusable (demand t k)
+pub demand-told : (t : Bool) (k : ℕ) → Row k 0 → Refusable (demand t k)
 unfolding demand
 demand-told true k r = tt
 demand-told false k r = r
 
-read-header-told : (s : List ℕ) → Refusable (readHeader s)
+pub read-header-told : (s : List ℕ) → Refusable (readHeader s)
 unfolding readHeader headerIn
 read-header-told s =
     let vs = unpack headerWidths (pack (bytes 12) (take 12 s)) in
@@ -91,7 +93,7 @@ record-most n = go (plateIn n)
     go true = omega (arith, most (plateLinesOf vs) vs refl)
     go false = omega (arith, most (memberLinesOf ws) ws refl)
 
-record-told : (i : ℕ) (s : List ℕ) → i < 400 → Refusable (readRecord i s)
+pub record-told : (i : ℕ) (s : List ℕ) → i < 400 → Refusable (readRecord i s)
 unfolding readRecord
 record-told i s l =
     let n = pack (bytes 16) (take 16 s) in
@@ -124,7 +126,7 @@ header-told s space =
     (λ h e. then-told (demand (eqb (length s) (12 + 16 * h .count)) 4) (λ u. demand (leb (4 * h .count) space) 5 then λ v. given h) (demand-told (eqb (length s) (12 + 16 * h .count)) 4 (row 4 0 (omega arith) (omega arith) (omega arith)))
     (λ u q. then-told (demand (leb (4 * h .count) space) 5) (λ v. given h) (demand-told (leb (4 * h .count) space) 5 (row 5 0 (omega arith) (omega arith) (omega arith))) (λ v w. tt)))
 
-count-most : (s : List ℕ) (h : Header) → readHeader s ≡ given h → h .count ≤ 400
+pub count-most : (s : List ℕ) (h : Header) → readHeader s ≡ given h → h .count ≤ 400
 count-most s h e = header-ranges h 0 (header-read-fine s h e) .count-high
 
 -- the number and the place of a refusal, whatever the sheet
@@ -134,3 +136,26 @@ sheet-told s space =
     then-told (headerFor s space) (λ h. recordsIn 0 0 (partsFrom s 0 (h .count)) then λ rs. given (record { header = h; records = rs })) (header-told s space)
     (λ h e. then-told (recordsIn 0 0 (partsFrom s 0 (h .count))) (λ rs. given (record { header = h; records = rs }))
     (records-told s (h .count) 0 0 (omega (arith, count-most s h (header-fits s space h e .read)))) (λ rs q. tt))
+
+pub failures-most : (es : List Entry) → failures es ≤ length es
+unfolding failures
+failures-most [] = omega arith
+failures-most (e ∷ es) = go (eqb (e .rule) 0) (failures-most es)
+  where
+    go : (t : Bool) → failures es ≤ length es → cond t 0 1 + failures es ≤ length (e ∷ es)
+    go true l = omega arith
+    go false l = omega arith
+
+-- the counts of a sheet that is not turned away, in an output of so many bytes
+pub record Counts (space : ℕ) (t : Sheet) : Type 0 where
+  pub inside : 4 * t .header .count ≤ space
+  pub records : t .header .count ≤ 400
+  pub failed : failures (verdicts t) ≤ 400
+
+pub sheet-counts : (s : List ℕ) (space : ℕ) (t : Sheet) → sheetIn s space ≡ given t → Counts space t
+unfolding verdicts
+sheet-counts s space t e =
+    let w = sheet-whole s space t e in
+    let few = count-most s (t .header) (w .header .read) in
+    let one-each = length-map (t .records) (entryOf (t .header)) in
+    record { inside = w .header .fits; records = few; failed = omega (arith, failures-most (verdicts t), one-each, w .number) }
