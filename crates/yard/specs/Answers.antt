@@ -1,6 +1,6 @@
 -- Every answer is within the ranges in which no two have the same number.
 -- Assumes nothing.
-use Prim.Native.Nat.{ℕ, _≤_}
+use Prim.Native.Nat.{ℕ, _+_, _*_, _≤_}
 use mathlib.Core.Path.{_≡_, refl, sym, ap, subst}
 use mathlib.Core.Bool.{Bool, true, false, cond}
 use mathlib.Core.List.{List, [], _∷_, _++_}
@@ -70,7 +70,7 @@ unfolding writeRecordNumbers recordNumbersFault
 write-record-told ns o =
     written-told (recordCases 0) (recordNumbersFault ns) (recordBytes (recordFrom ns)) o
     (fault-row (recordCases 0) (recordNumbersFault ns) (tt {0}) (row 6 0 (omega arith) (omega arith) (omega arith))
-    (row 7 (recordNumbersFault ns) (omega arith) (omega arith) (omega (arith, go (plateNumbered ns)))))
+    (row 7 (32 * 0 + recordNumbersFault ns) (omega arith) (omega arith) (omega (arith, go (plateNumbered ns)))))
   where
     go : (t : Bool) → cond t (faultFrom 1 (plateLinesOf ns) (plateFields ns)) (faultFrom 1 (memberLinesOf ns) (numbersFrom 0 13 ns)) ≤ 13
     go true = omega (arith, most (plateLinesOf ns) (plateFields ns) refl)
