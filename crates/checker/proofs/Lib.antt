@@ -1,4 +1,5 @@
 mod Answers
 mod Faults
 mod Pass
+mod Unjudged
 mod Whole

@@ -82,13 +82,13 @@ module _ (h : Header) (i before : ℕ) (b : List ℕ) where
 unfoldable pub rest : ℕ → List ℕ → ℕ → List (List ℕ)
 rest n s i = partsFrom s i (n - i)
 
-rest-step : (n : ℕ) (s : List ℕ) (i : ℕ) → i < n → rest n s i ≡ recordPart s i ∷ rest n s (i + 1)
+pub rest-step : (n : ℕ) (s : List ℕ) (i : ℕ) → i < n → rest n s i ≡ recordPart s i ∷ rest n s (i + 1)
 unfolding partsFrom rest
 rest-step n s i l =
     let m : n - i ≡ suc (n - (i + 1)) = omega arith in
     rw m
 
-rest-none : (n : ℕ) (s : List ℕ) (i : ℕ) → n ≤ i → rest n s i ≡ []
+pub rest-none : (n : ℕ) (s : List ℕ) (i : ℕ) → n ≤ i → rest n s i ≡ []
 unfolding partsFrom rest
 rest-none n s i l =
     let m : n - i ≡ 0 = omega arith in

@@ -1,9 +1,11 @@
 pub mod Entry
 pub mod EntryLaws
 pub mod Check
+pub mod Unjudged
 pub mod Passes
 pub mod Sound
 pub mod CheckLaws
 pub mod Only
 pub mod Bounds
 pub mod Longer
+pub mod UnjudgedLaws

@@ -18,6 +18,7 @@ ghost use Rattle.sheet.specs.Header.{headerFault};
 ghost use Rattle.sheet.specs.Writes.{Writes};
 ghost use Rattle.checker.specs.Entry.{verdictWidths, entryValues, entryAt, entryFault, toldEntry, readEntry, writeEntry};
 ghost use Rattle.checker.specs.Check.{headerFor, recordPart, soundAfter, failing as failingOf, Checks};
+ghost use Rattle.checker.specs.Unjudged.{recordsSound, soundHeader};
 ghost use Rattle.checker.specs.Passes.{Refuses, judgedAfter, Ready, toldPassed, passOver};
 
 // One verdict as it stands in the output, with the id of its record.
@@ -150,6 +151,53 @@ fn sound_after(bytes: &[u8], i: u16, before: u16) -> RecordRead
                 return RecordRead::Refused(Refusal::Order(i as u32));
             }
             RecordRead::Good(r)
+        }
+    }
+}
+
+fn sound_at(sheet: &[u8], i: u16, before: u16) -> RecordRead
+    requires { ⌜ 12 + 16 * i + 16 ≤ length (now sheet) ⌝ }
+    ensures { λ r. ⌜ toldRecord r ≡ soundAfter i before (recordPart (now (sheet .entry)) i) ⌝ }
+{
+    let at = HEADER + RECORD * (i as usize);
+    let end = at + RECORD;
+    sound_after(&sheet[at..end], i, before)
+}
+
+// Refusals 6 to 8 of the first n records, each finished before the next.
+fn records_sound(sheet: &[u8], n: u16) -> Outcome
+    requires { ⌜ 12 + 16 * n ≤ length (now sheet) ⌝ }
+    ensures { λ r. ⌜ toldOutcome r ≡ recordsSound (now (sheet .entry)) n ⌝ }
+{
+    let mut before: u16 = 0;
+    let mut i: u16 = 0;
+    while i < n {
+        let read = sound_at(sheet, i, before);
+        let r = match read {
+            RecordRead::Refused(x) => {
+                return Outcome::Refused(x);
+            }
+            RecordRead::Good(r) => r,
+        };
+        before = r.id;
+        i += 1;
+    }
+    Outcome::Fine
+}
+
+// The header of a sheet that is read and not judged, or the first of the refusals 1 to 4 and 6 to 8: 5 is about an output.
+pub fn sound_header(sheet: &[u8]) -> HeaderRead
+    ensures { λ r. ⌜ toldHeader r ≡ soundHeader (now (sheet .entry)) ⌝ }
+{
+    let read = header_for(sheet, DRAFT);
+    match read {
+        HeaderRead::Refused(x) => HeaderRead::Refused(x),
+        HeaderRead::Good(h) => {
+            let found = records_sound(sheet, h.count);
+            match found {
+                Outcome::Refused(x) => HeaderRead::Refused(x),
+                Outcome::Fine => HeaderRead::Good(h),
+            }
         }
     }
 }

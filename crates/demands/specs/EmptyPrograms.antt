@@ -4,22 +4,14 @@ use mathlib.Core.Bool.{cond}
 use mathlib.Core.List.{List, [], _∷_, _++_}
 use lib.ListN.{length, take, drop}
 use lib.Dec.{eqb}
-use Rattle.sheet.specs.declared.Refusal.{Refusal}
-use Rattle.sheet.specs.declared.Refusal.the-variants.{SheetShort, Version, HeaderField, SheetLength, OutputShort, Kind, Field, Order}
+use Rattle.sheet.specs.declared.Refusal.the-variants.{SheetShort}
 use Rattle.sheet.specs.Refusals.{Answer, given, refused}
+use Rattle.sheet.specs.RefusalLaws.{refusalOf}
 use Rattle.checker.specs.declared.Entry.{Entry}
 use Rattle.checker.specs.declared.Checked.{Checked}
 use Rattle.checker.specs.declared.Checked.the-variants.{Done, Refused as notDone}
 use Rattle.checker.specs.Check.{Sheet, sheetIn, verdicts, bytesOf, failures}
 use Rattle.demands.specs.Program.{Program}
-
--- the refusal of a number and a place
-abbrev pub refusalOf : (k p : ℕ) → Refusal
-refusalOf k p =
-    cond (eqb k 1) SheetShort
-    (cond (eqb k 2) Version
-    (cond (eqb k 3) (HeaderField p)
-    (cond (eqb k 4) SheetLength (cond (eqb k 5) OutputShort (cond (eqb k 6) (Kind p) (cond (eqb k 7) (Field p) (Order p)))))))
 
 -- its answer to a sheet that was read, with this count of failures
 abbrev pub answerBy : (Sheet → ℕ) → Answer Sheet → Checked

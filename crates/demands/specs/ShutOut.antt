@@ -17,7 +17,7 @@ use Rattle.layout.specs.LineLaws.{none-all}
 use Rattle.sheet.specs.declared.Header.{Header}
 use Rattle.sheet.specs.declared.Record.{Record}
 use Rattle.sheet.specs.Refusals.{Answer, given, refused}
-use Rattle.sheet.specs.RefusalLaws.{given-refused, given-same}
+use Rattle.sheet.specs.RefusalLaws.{refusalOf, given-refused, given-same}
 use Rattle.sheet.specs.Header.{headerIn, readHeader}
 use Rattle.sheet.specs.Record.{recordIn, readRecord}
 use Rattle.sheet.specs.RecordBack.{record-read-fine}
@@ -35,7 +35,7 @@ use Rattle.demands.specs.Table.{Row, sheet-short, version, header-field,
 use Rattle.demands.specs.Program.{Program, Meets, fourAt}
 use Rattle.demands.specs.Demands.{entryOn, failedFrom, Second, Demands}
 use Rattle.demands.specs.Empty.{ShutOut, OfVerdicts, LeavesAsLent, RefusesAll, PassesAll, NamesOne, PassesRest, ruleIn, failedIn, Miscounts, MakesUpCount}
-use Rattle.demands.specs.EmptyPrograms.{refusalOf, answerBy, afterBy, checker, changedFrom, changing, passInstead, numberInstead, passAfterFirst, idle, refusing, passing, naming, firstOnly, counting}
+use Rattle.demands.specs.EmptyPrograms.{answerBy, afterBy, checker, changedFrom, changing, passInstead, numberInstead, passAfterFirst, idle, refusing, passing, naming, firstOnly, counting}
 use Rattle.demands.specs.Rows.{refused-exactly}
 use Rattle.demands.specs.Proved.{given-fits, demands-met}
 use Rattle.demands.specs.Example.{example, mended, lent, example-answer, mended-answer}

@@ -14,7 +14,8 @@ use Rattle.sheet.specs.Refusals.{Answer, given, refused}
 use Rattle.sheet.specs.RefusalLaws.{given-same}
 use Rattle.checker.specs.declared.Entry.{Entry}
 use Rattle.checker.specs.Check.{_then_, Sheet, sheetIn, verdicts, failures}
-use Rattle.report.specs.Text.{room, entryNumbers, linesOf, printed, line, linesText, textBy, textOf}
+use Rattle.checker.specs.Unjudged.{room}
+use Rattle.report.specs.Text.{entryNumbers, linesOf, printed, line, linesText, textBy, textOf}
 use Rattle.report.specs.Reading.{linesIn, refusalIn, answerIn}
 
 -- ---- the lines

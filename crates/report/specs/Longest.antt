@@ -10,16 +10,14 @@ use borrow.Author.Tests.{le-leb}
 use Rattle.sheet.specs.declared.Header.{Header}
 use Rattle.sheet.specs.declared.Record.{Record}
 use Rattle.sheet.specs.Refusals.{Answer, given, refused}
-use Rattle.sheet.specs.Header.{readHeader}
-use Rattle.sheet.specs.HeaderLaws.{header-ranges}
-use Rattle.sheet.specs.HeaderBack.{header-read-fine}
 use Rattle.sheet.specs.RecordBack.{record-read-fine}
-use Rattle.checker.specs.Check.{_then_, demand, headerFor, recordPart, Sheet, sheetIn, entryOf, verdicts, failures, answerOf}
+use Rattle.checker.specs.Check.{_then_, recordPart, Sheet, sheetIn, entryOf, verdicts, failures, answerOf}
+use Rattle.checker.specs.Unjudged.{room}
 use Rattle.checker.specs.CheckLaws.{Taken, next, sheet-whole}
 use Rattle.checker.specs.Sound.{entry-sound}
 use Rattle.checker.specs.Longer.{enough, sheet-cut}
 use Rattle.checker.specs.Bounds.{Refusable, sheet-told, sheet-counts}
-use Rattle.report.specs.Text.{room, entryNumbers, linesOf, printed, line, linesText, refusedWord, textBy, textOf}
+use Rattle.report.specs.Text.{entryNumbers, linesOf, printed, line, linesText, refusedWord, textBy, textOf}
 use Rattle.report.specs.TextLaws.{pair-most, entry-most, lines-last}
 use Rattle.decimal.specs.Put.{putOn}
 use Rattle.report.specs.declared.Told.{Told}
@@ -69,19 +67,6 @@ unfolding lengthIn putOn
 told-all s o r after l t =
     let fits = le-leb (length (textOf s)) (length o) (omega (arith, text-most s)) in
     (t .answer ∙ rw fits, t .bytes ∙ rw fits)
-
--- ---- the output's room
-
--- an output that has room for the verdicts of every sheet gives what any longer one gives: refusal 5 does not arise
-pub room-enough : (s : List ℕ) (space : ℕ) → room ≤ space → sheetIn s space ≡ sheetIn s room
-unfolding sheetIn headerFor _then_ demand
-room-enough s space l = go (readHeader s) refl
-  where
-    go : (x : Answer Header) → readHeader s ≡ x → sheetIn s space ≡ sheetIn s room
-    go (refused k p) e = rw e
-    go (given h) e =
-        let few = header-ranges h 0 (header-read-fine s h e) .count-high in
-        rw (e, le-leb (4 * h .count) space (omega arith), le-leb (4 * h .count) room (omega arith))
 
 -- ---- the sheet's length
 

@@ -10,7 +10,7 @@ use lib.Dec.{eqb}
 use Rattle.sheet.specs.declared.Header.{Header}
 use Rattle.sheet.specs.declared.Record.{Record}
 use Rattle.sheet.specs.declared.Refusal.{Refusal}
-use Rattle.sheet.specs.declared.Refusal.the-variants.{SheetShort, Version, HeaderField, SheetLength, OutputShort, Kind, Field, Order}
+use Rattle.sheet.specs.declared.Refusal.the-variants.{SheetShort, Version, HeaderField, SheetLength, OutputShort, Kind, Field, Order, NoSuchId, NoRoom}
 use Rattle.sheet.specs.Refusals.{Answer, given, refused, numberOf, placeOf}
 use Rattle.sheet.specs.RefusalLaws.{given-refused, refused-number, refused-place}
 use Rattle.checker.specs.declared.Entry.{Entry}
@@ -19,9 +19,10 @@ use Rattle.checker.specs.declared.Checked.the-variants.{Done, Refused as notDon
 use Rattle.checker.specs.Entry.{readEntry}
 use Rattle.checker.specs.EntryLaws.{read-sound}
 use Rattle.checker.specs.Check.{_then_, part, recordOf, Sheet, sheetIn, entryOf, verdicts, failures, Totals, answerOf, outputOf, Checks}
+use Rattle.checker.specs.Unjudged.{room}
 use Rattle.checker.specs.CheckLaws.{Taken, next, sheet-whole, verdict-read, answer-sheet}
 use Rattle.checker.specs.Bounds.{sheet-counts}
-use Rattle.report.specs.Text.{room, entryNumbers, linesOf, printed, line, linesText, refusedWord, textBy, textOf}
+use Rattle.report.specs.Text.{entryNumbers, linesOf, printed, line, linesText, refusedWord, textBy, textOf}
 use Rattle.report.specs.TextLaws.{entry-most, lines-last}
 use Rattle.report.specs.Pieces.{readText, verdictText, verdictsText, refusalText, checkedText, Counted}
 
@@ -51,8 +52,8 @@ verdicts-most out i (suc count) =
     let b = part out (4 * i) (4 * i + 4) in
     omega (arith, length-append (verdictText b) (verdictsText out (i + 1) count), verdict-most b, verdicts-most out (i + 1) count)
 
--- a refusal's number is one digit
-pub number-small : (r : Refusal) → numberOf r < 10
+-- a refusal's number has two digits at most
+pub number-small : (r : Refusal) → numberOf r < 100
 number-small SheetShort = omega arith
 number-small Version = omega arith
 number-small (HeaderField p) = omega arith
@@ -61,6 +62,8 @@ number-small OutputShort = omega arith
 number-small (Kind p) = omega arith
 number-small (Field p) = omega arith
 number-small (Order p) = omega arith
+number-small NoSuchId = omega arith
+number-small NoRoom = omega arith
 
 -- so that the counts of a check are within their bounds
 pub checked-counted : (s out after : List ℕ) (r : Checked) → length after ≡ length out → Checks s out r after → Counted r after

@@ -5,12 +5,9 @@ use Rattle.decimal.specs.Line.{lineOf}
 use Rattle.sheet.specs.Refusals.{Answer, given, refused}
 use Rattle.checker.specs.declared.Entry.{Entry}
 use Rattle.checker.specs.Check.{_then_, Sheet, sheetIn, verdicts, failures}
+use Rattle.checker.specs.Unjudged.{room}
 
 -- ---- the numbers
-
--- an output that has room for the verdicts of every sheet: four bytes for each of 400 records
-abbrev pub room : ℕ
-room = 1600
 
 -- the numbers of a verdict's line
 abbrev pub entryNumbers : Entry → List ℕ

@@ -83,7 +83,7 @@ fn put_verdicts(out: &[u8], n: u16, page: &mut [u8]) -> usize
 }
 
 fn put_refusal(page: &mut [u8], r: Refusal) -> usize
-    requires { ⌜ 21 ≤ length (now page) ⌝ }
+    requires { ⌜ 22 ≤ length (now page) ⌝ }
     ensures { λ len. ⌜ Laid (now (page .entry)) 0 (refusalText r) len (now (page .exit)) ⌝ }
 {
     let number = r.number() as u32;

@@ -9,7 +9,7 @@ use borrow.Author.Tests.{eq-eqb, ne-eqb, eqb-true, eqb-false}
 use Rattle.sheet.specs.declared.Header.{Header}
 use Rattle.sheet.specs.declared.Record.{Record}
 use Rattle.sheet.specs.declared.Refusal.{Refusal}
-use Rattle.sheet.specs.declared.Refusal.the-variants.{SheetShort, Version, HeaderField, SheetLength, OutputShort, Kind, Field, Order}
+use Rattle.sheet.specs.declared.Refusal.the-variants.{SheetShort, Version, HeaderField, SheetLength, OutputShort, Kind, Field, Order, NoSuchId, NoRoom}
 use Rattle.sheet.specs.declared.Outcome.{Outcome}
 use Rattle.sheet.specs.declared.Outcome.the-variants.{Fine, Refused as notFine}
 use Rattle.sheet.specs.declared.HeaderRead.{HeaderRead}
@@ -19,12 +19,13 @@ use Rattle.sheet.specs.declared.RecordRead.the-variants.{Good as goodRec
 use Rattle.sheet.specs.Refusals.{Answer, given, refused, numberOf, placeOf, told, toldOutcome, toldHeader, toldRecord, refusedAt}
 
 -- the refusal of a number and a place
-abbrev refusalOf : ℕ → ℕ → Refusal
+abbrev pub refusalOf : (k p : ℕ) → Refusal
 refusalOf k p =
     cond (eqb k 1) SheetShort
     (cond (eqb k 2) Version
     (cond (eqb k 3) (HeaderField p)
-    (cond (eqb k 4) SheetLength (cond (eqb k 5) OutputShort (cond (eqb k 6) (Kind p) (cond (eqb k 7) (Field p) (Order p)))))))
+    (cond (eqb k 4) SheetLength
+    (cond (eqb k 5) OutputShort (cond (eqb k 6) (Kind p) (cond (eqb k 7) (Field p) (cond (eqb k 8) (Order p) (cond (eqb k 10) NoSuchId NoRoom))))))))
 
 back : (r : Refusal) → refusalOf (numberOf r) (placeOf r) ≡ r
 back SheetShort = refl
@@ -35,6 +36,8 @@ back OutputShort = refl
 back (Kind p) = refl
 back (Field p) = refl
 back (Order p) = refl
+back NoSuchId = refl
+back NoRoom = refl
 
 -- a number and a place are those of one refusal at most
 pub refusal-only : (r s : Refusal) → numberOf r ≡ numberOf s → placeOf r ≡ placeOf s → r ≡ s

@@ -85,7 +85,7 @@ pub struct Raw {
     pub spare: u32,
 }
 
-// Why a sheet, a header or a record is turned away, in the order of the table. What a case carries is its place.
+// Why a sheet, a header, a record or an edit is turned away, in the order of the table. What a case carries is its place.
 pub enum Refusal {
     SheetShort,
     Version,
@@ -95,6 +95,8 @@ pub enum Refusal {
     Kind(u32),
     Field(u32),
     Order(u32),
+    NoSuchId,
+    NoRoom,
 }
 
 impl Refusal {
@@ -111,6 +113,8 @@ impl Refusal {
             Refusal::Kind(_) => 6,
             Refusal::Field(_) => 7,
             Refusal::Order(_) => 8,
+            Refusal::NoSuchId => 10,
+            Refusal::NoRoom => 11,
         }
     }
 
@@ -127,6 +131,8 @@ impl Refusal {
             Refusal::Kind(place) => place,
             Refusal::Field(place) => place,
             Refusal::Order(place) => place,
+            Refusal::NoSuchId => 0,
+            Refusal::NoRoom => 0,
         }
     }
 }

@@ -30,8 +30,8 @@ module _ (c : tie.After-place) where
 
   fits : 0 + length (refusalText (start .args .r)) ≤ length (now (start .args .page))
   fits =
-      let small : c .before .number .result < 10 ^ 1 = omega (arith, c .before .number .ensures, number-small (start .args .r)) in
-      let most = pair-most 0 9 (c .before .number .result) (c .place .result) small (omega arith) in
+      let small : c .before .number .result < 10 ^ 2 = omega (arith, c .before .number .ensures, number-small (start .args .r)) in
+      let most = pair-most 1 9 (c .before .number .result) (c .place .result) small (omega arith) in
       omega (arith, ap length split, most, start .pre)
 
 -- the word stands in front

@@ -1,0 +1,118 @@
+-- What an edit of a sheet answers, and what it leaves in the buffer. The sheet is the first bytes of the buffer; how many they are is given beside it.
+use Prim.Native.Nat.{ℕ, _+_, _-_, _*_}
+use mathlib.Core.Path.{_≡_}
+use mathlib.Core.Bool.{Bool, cond, _&&_}
+use mathlib.Core.List.{List, _++_}
+use lib.ListN.{length, take, drop, replicate}
+use lib.Dec.{leb, ltb}
+use Rattle.sheet.specs.declared.Header.{Header}
+use Rattle.sheet.specs.declared.Record.{Record}
+use Rattle.sheet.specs.Lines.{counts}
+use Rattle.sheet.specs.Refusals.{Answer, given, refused, told, recordRefused}
+use Rattle.sheet.specs.Header.{headerBytes}
+use Rattle.sheet.specs.Record.{recordFault, recordBytes}
+use Rattle.checker.specs.Check.{_then_, demand, part, Sheet}
+use Rattle.checker.specs.Unjudged.{soundSheet}
+use Rattle.edit.specs.declared.Edited.{Edited}
+use Rattle.edit.specs.declared.Edited.the-variants.{Length, Refused as notEdited}
+use Rattle.edit.specs.Keyed.{placeOf, hasOf}
+
+-- ---- the sheet in the buffer
+
+-- 1 also where the buffer has fewer bytes than the sheet; then the table without 5
+unfoldable pub sheetAt : (buffer : List ℕ) (len : ℕ) → Answer Sheet
+sheetAt buffer len = demand (leb len (length buffer)) 1 then λ u. soundSheet (take len buffer)
+
+-- its header
+unfoldable pub headerOf : (buffer : List ℕ) (len : ℕ) → Answer Header
+headerOf buffer len = sheetAt buffer len then λ t. given (t .header)
+
+-- where record i begins
+abbrev pub start : ℕ → ℕ
+start i = 12 + 16 * i
+
+-- the key of a record
+abbrev pub idOf : Record → ℕ
+idOf r = r .id
+
+-- the header with another count, and every other field as it was
+abbrev pub counting : ℕ → Header → Header
+counting n h =
+    record {
+      version = h .version;
+      length = h .length;
+      draught = h .draught;
+      wave = h .wave;
+      «two_runs» = h .«two_runs»;
+      moment = h .moment;
+      «bottom_modulus» = h .«bottom_modulus»;
+      count = n;
+    }
+
+-- ---- the bytes that an edit leaves
+
+-- a record in the place of record i: no other byte changes
+unfoldable pub replacing : (i : ℕ) → Record → List ℕ → List ℕ
+replacing i r b = take (start i) b ++ (recordBytes r ++ drop (start i + 16) b)
+
+-- a record put in as record i of a sheet of len bytes, under the header h: what stood from there on stands sixteen bytes further
+unfoldable pub inserting : Header → (i len : ℕ) → Record → List ℕ → List ℕ
+inserting h i len r b = headerBytes h ++ (part b 12 (start i) ++ (recordBytes r ++ (part b (start i) len ++ drop (len + 16) b)))
+
+-- record i taken out, under the header h: what stood after it closes the gap, and the sixteen bytes that come free at the end are zero
+unfoldable pub removing : Header → (i len : ℕ) → List ℕ → List ℕ
+removing h i len b = headerBytes h ++ (part b 12 (start i) ++ (part b (start i + 16) len ++ (replicate 16 0 ++ drop len b)))
+
+-- ---- the answers
+
+-- the length of the sheet after an edit, and the buffer's bytes
+pub record After : Type 0 where
+  pub size : ℕ
+  pub bytes : List ℕ
+
+-- 11: a new id has room unless the sheet plus 16 exceeds the buffer or n stands at its highest
+abbrev pub hasRoom : (n len size : ℕ) → Bool
+hasRoom n len size = leb (len + 16) size && ltb n (counts .high)
+
+-- a sound record put into a sheet: it replaces the one with its id, or goes in at its place in the id order
+unfoldable pub placing : Sheet → (buffer : List ℕ) (len : ℕ) → Record → Answer After
+placing t b len r =
+    let n = t .header .count in
+    let i = placeOf idOf (r .id) (t .records) in
+    cond (hasOf idOf (r .id) (t .records))
+    (given (record { size = len; bytes = replacing i r b }))
+    (demand (hasRoom n len (length b)) 11 then λ u. given (record { size = len + 16; bytes = inserting (counting (n + 1) (t .header)) i len r b }))
+
+-- a record put into the sheet: 6 and 7 on it with n as its record, then 11
+unfoldable pub putIn : (buffer : List ℕ) (len : ℕ) → Record → Answer After
+putIn b len r =
+    sheetAt b len
+    then λ t. recordRefused (t .header .count) (recordFault r 0) (given (tt {0}))
+    then λ u. placing t b len r
+
+-- the record of an id taken out: 10 where none has it
+unfoldable pub removeIn : (buffer : List ℕ) (len id : ℕ) → Answer After
+removeIn b len id =
+    sheetAt b len
+    then λ t. demand (hasOf idOf id (t .records)) 10
+    then λ u. given (record { size = len - 16; bytes = removing (counting (t .header .count - 1) (t .header)) (placeOf idOf id (t .records)) len b })
+
+-- what the code's answer says
+abbrev pub toldEdited : Edited → Answer ℕ
+toldEdited (Length n) = given n
+toldEdited (notEdited r) = told r
+
+-- the new length, or the refusal
+unfoldable pub sizeBy : Answer After → Answer ℕ
+sizeBy (given a) = given (a .size)
+sizeBy (refused k p) = refused k p
+
+-- the buffer afterwards: a refusal leaves every byte
+unfoldable pub bytesBy : Answer After → List ℕ → List ℕ
+bytesBy (given a) before = a .bytes
+bytesBy (refused k p) before = before
+
+-- What the contracts of `put` and `remove` say: the answer, and every byte of the buffer as it returns.
+pub record Edits (a : Answer After) (before : List ℕ) (r : Edited) (after : List ℕ) : Type 0 where
+  pub answer : toldEdited r ≡ sizeBy a
+  pub bytes : after ≡ bytesBy a before
