@@ -28,15 +28,13 @@ module _ (n : ℕ) (s : List ℕ) (i before : ℕ) where
   sound-refused more k p e = rw (rest-step n s i more, sym e)
 
   pub sound-turn : i < n → (r : Record) → given r ≡ soundAfter i before (recordPart s i) → soundFrom n s (i + 1) (r .id) ≡ soundFrom n s i before
-  unfolding soundFrom recordsIn
+  unfolding soundFrom recordsIn _then_
   sound-turn more r e = go (recordsIn (i + 1) (r .id) (rest n s (i + 1))) ∙ ap (λ (x : Answer (List Record)). x then λ rs. given tt) (sym step)
     where
       step : recordsIn i before (rest n s i) ≡ (recordsIn (i + 1) (r .id) (rest n s (i + 1)) then λ rs. given (r ∷ rs))
-      unfolding recordsIn _then_
       step = rw (rest-step n s i more, sym e)
 
       go : (x : Answer (List Record)) → (x then λ rs. given (tt {0})) ≡ ((x then λ rs. given (r ∷ rs)) then λ rs. given tt)
-      unfolding _then_
       go (given rs) = refl
       go (refused k p) = refl
 

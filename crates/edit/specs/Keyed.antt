@@ -1,5 +1,5 @@
 -- A list of things that rise in their keys, as a map from keys to things.
-use Prim.Native.Nat.{ℕ, zero, suc}
+use Prim.Native.Nat.{ℕ, zero, suc, _<_}
 use mathlib.Core.Bool.{Bool, true, false, cond, _&&_}
 use mathlib.Core.List.{List, [], _∷_}
 use mathlib.Core.Option.{Option, none, some}
@@ -37,3 +37,34 @@ module _ {A : Type 0} (key : A → ℕ) where
   unfoldable pub outOf : (k : ℕ) → List A → List A
   outOf k [] = []
   outOf k (r ∷ rs) = let rest = outOf k rs in cond (eqb (key r) k) rs (r ∷ rest)
+
+  -- ---- edits
+
+  pub data Edit : Type 0 where
+    put : A → Edit
+    out : (k : ℕ) → Edit
+
+  -- a plain map after an edit: the new thing at its key, or nothing at the key; every other key as before
+  unfoldable pub mapAfter : Edit → (ℕ → Option A) → ℕ → Option A
+  mapAfter (put new) m k = cond (eqb (key new) k) (some new) (m k)
+  mapAfter (out j) m k = cond (eqb j k) none (m k)
+
+  -- and after edits in turn
+  unfoldable pub mapAll : List Edit → (ℕ → Option A) → ℕ → Option A
+  mapAll [] m = m
+  mapAll (e ∷ es) m = mapAll es (mapAfter e m)
+
+  -- the list after an edit, and after edits in turn
+  unfoldable pub listAfter : Edit → List A → List A
+  listAfter (put new) rs = putOf new rs
+  listAfter (out j) rs = outOf j rs
+
+  unfoldable pub listAll : List Edit → List A → List A
+  listAll [] rs = rs
+  listAll (e ∷ es) rs = listAll es (listAfter e rs)
+
+  -- every thing that is put in has a key above 0
+  abbrev pub Keys : List Edit → Type 0
+  Keys [] = Unit {0}
+  Keys (put new ∷ es) = (0 < key new) × Keys es
+  Keys (out j ∷ es) = Keys es

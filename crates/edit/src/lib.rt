@@ -1,4 +1,5 @@
 // A sheet edited where it stands: the first `len` bytes of a lent buffer are the sheet, and an edit gives its new length back.
+mod find;
 mod shift;
 
 use sheet::Header;
@@ -6,6 +7,14 @@ use sheet::HeaderRead;
 use sheet::Outcome;
 use sheet::Record;
 use sheet::Refusal;
+ghost use mathlib.Core.Path.{_≡_};
+ghost use mathlib.Core.Bool.{true, false};
+ghost use Prim.Native.Nat.{_+_, _*_, _≤_};
+ghost use lib.ListN.{length};
+ghost use Rattle.sheet.specs.Refusals.{toldHeader};
+ghost use Rattle.sheet.specs.Record.{recordFault};
+ghost use Rattle.edit.specs.Edit.{headerOf, start, counting, replacing, inserting, removing, putIn, removeIn, Edits};
+ghost use Rattle.edit.specs.Steps.{placeIn, hasIn, Known, Fits, Stands};
 
 // The sheet's length after an edit, or why there was none.
 pub enum Edited {
@@ -26,4 +35,128 @@ pub fn sheet_at(buf: &[u8], len: usize) -> HeaderRead
         return HeaderRead::Refused(Refusal::SheetShort);
     }
     checker::sound_header(&buf[..len])
+}
+
+fn counted(h: Header, count: u16) -> Header
+    ensures { λ r. ⌜ r ≡ counting count h ⌝ }
+{
+    Header {
+        version: h.version,
+        length: h.length,
+        draught: h.draught,
+        wave: h.wave,
+        two_runs: h.two_runs,
+        moment: h.moment,
+        bottom_modulus: h.bottom_modulus,
+        count,
+    }
+}
+
+// A sound record over the sixteen bytes of record i.
+fn replace(buf: &mut [u8], i: u16, r: Record)
+    requires { ⌜ (recordFault r 0 ≡ 0) × (start i + 16 ≤ length (now buf)) ⌝ }
+    ensures { λ _. ⌜ now (buf .exit) ≡ replacing i r (now (buf .entry)) ⌝ }
+{
+    let at = HEADER + RECORD * (i as usize);
+    let end = at + RECORD;
+    record::write_record(r, &mut buf[at..end]);
+}
+
+// A sound record in as record i, under the header h.
+fn insert(buf: &mut [u8], len: usize, h: Header, i: u16, r: Record)
+    requires { ⌜ Fits h i len r (length (now buf)) ⌝ }
+    ensures { λ _. ⌜ now (buf .exit) ≡ inserting h i len r (now (buf .entry)) ⌝ }
+{
+    let at = HEADER + RECORD * (i as usize);
+    shift::open(buf, at, len);
+    replace(buf, i, r);
+    header::write_header(h, buf);
+}
+
+// Record i out, under the header h.
+fn take_out(buf: &mut [u8], len: usize, h: Header, i: u16)
+    requires { ⌜ Stands h i len (length (now buf)) ⌝ }
+    ensures { λ _. ⌜ now (buf .exit) ≡ removing h i len (now (buf .entry)) ⌝ }
+{
+    let at = HEADER + RECORD * (i as usize);
+    shift::close(buf, at, len);
+    let freed = len - RECORD;
+    shift::clear(&mut buf[freed..len]);
+    header::write_header(h, buf);
+}
+
+// A sound record with a new id, which goes in at its place. The header's own test says whether n can go up.
+fn put_new(buf: &mut [u8], len: usize, h: Header, i: u16, r: Record) -> Edited
+    requires { ⌜ Known (now buf) len h × (recordFault r 0 ≡ 0) × (i ≡ placeIn (now buf) (h .count) (r .id)) × (hasIn (now buf) (h .count) (r .id) ≡ false) ⌝ }
+    ensures { λ e. ⌜ Edits (putIn (now (buf .entry)) len r) (now (buf .entry)) e (now (buf .exit)) ⌝ }
+{
+    if buf.len() - len < RECORD {
+        return Edited::Refused(Refusal::NoRoom);
+    }
+    let more = counted(h, h.count + 1);
+    let found = header::header_fault(more);
+    match found {
+        Outcome::Refused(_) => Edited::Refused(Refusal::NoRoom),
+        Outcome::Fine => {
+            insert(buf, len, more, i, r);
+            Edited::Length(len + RECORD)
+        }
+    }
+}
+
+// A sound record, which replaces the one with its id or goes in at its place.
+fn put_sound(buf: &mut [u8], len: usize, h: Header, r: Record) -> Edited
+    requires { ⌜ Known (now buf) len h × (recordFault r 0 ≡ 0) ⌝ }
+    ensures { λ e. ⌜ Edits (putIn (now (buf .entry)) len r) (now (buf .entry)) e (now (buf .exit)) ⌝ }
+{
+    let n = h.count;
+    let id = r.id;
+    let i = find::place_of(buf, n, id);
+    if find::has_at(buf, n, i, id) {
+        replace(buf, i, r);
+        return Edited::Length(len);
+    }
+    put_new(buf, len, h, i, r)
+}
+
+// A record into the sheet: it replaces the one with its id, or goes in at its place in the id order. A refusal changes no byte.
+pub fn put(buf: &mut [u8], len: usize, r: Record) -> Edited
+    ensures { λ e. ⌜ Edits (putIn (now (buf .entry)) len r) (now (buf .entry)) e (now (buf .exit)) ⌝ }
+{
+    let read = sheet_at(buf, len);
+    match read {
+        HeaderRead::Refused(x) => Edited::Refused(x),
+        HeaderRead::Good(h) => {
+            let found = record::record_fault(r, h.count);
+            match found {
+                Outcome::Refused(x) => Edited::Refused(x),
+                Outcome::Fine => put_sound(buf, len, h, r),
+            }
+        }
+    }
+}
+
+fn remove_sound(buf: &mut [u8], len: usize, h: Header, id: u16) -> Edited
+    requires { ⌜ Known (now buf) len h ⌝ }
+    ensures { λ e. ⌜ Edits (removeIn (now (buf .entry)) len id) (now (buf .entry)) e (now (buf .exit)) ⌝ }
+{
+    let n = h.count;
+    let i = find::place_of(buf, n, id);
+    if find::has_at(buf, n, i, id) {
+        let fewer = counted(h, n - 1);
+        take_out(buf, len, fewer, i);
+        return Edited::Length(len - RECORD);
+    }
+    Edited::Refused(Refusal::NoSuchId)
+}
+
+// The record of an id out of the sheet: those after it close the gap, and the sixteen bytes that come free are zeroed. A refusal changes no byte.
+pub fn remove(buf: &mut [u8], len: usize, id: u16) -> Edited
+    ensures { λ e. ⌜ Edits (removeIn (now (buf .entry)) len id) (now (buf .entry)) e (now (buf .exit)) ⌝ }
+{
+    let read = sheet_at(buf, len);
+    match read {
+        HeaderRead::Refused(x) => Edited::Refused(x),
+        HeaderRead::Good(h) => remove_sound(buf, len, h, id),
+    }
 }

@@ -1,0 +1,51 @@
+-- `checker::sound_header` meets its contract.
+-- Assumes nothing.
+use borrow.Author.Needs.{needs}
+use mathlib.Core.Path.{_≡_, sym, ap, _∙_}
+use native.Mathlib.Omega.{arith}
+use denote.Ref.{now}
+use Rattle.sheet.specs.Refusals.{given, toldHeader, toldOutcome}
+use Rattle.checker.specs.Check.{headerFor}
+use Rattle.checker.specs.CheckLaws.{header-fits}
+use Rattle.checker.specs.Unjudged.{room}
+use Rattle.checker.proofs.Unjudged.{header-refused, records-refused, all-sound}
+use Rattle.checker.proofs.sound_header.Statement.{statement}
+use Rattle.checker.proofs.sound_header.Tie as tie
+
+-- the header that was read
+read : (c : tie.After-read2) → given (c .read2 .given .0 .0) ≡ headerFor (now (c .before .before .before .before .args .sheet)) room
+read c = sym (ap toldHeader (c .read2 .given .1)) ∙ c .before .before .header-for .ensures
+
+records-sound-requires : tie.Need-records-sound-requires
+records-sound-requires c κs = omega (arith, header-fits _ _ _ (sym (read (c .before))) .whole)
+
+returns : tie.Need-returns
+returns c =
+    let at-header = c .before .before .before in
+    header-refused (now (at-header .before .before .args .sheet)) _ _ (sym (ap toldHeader (c .before .read .given .1)) ∙ at-header .header-for .ensures)
+
+returns-2 : tie.Need-returns-2
+returns-2 c =
+    let at-records = c .before .before .before in
+    let at-read = at-records .before .before in
+    records-refused (now (at-read .before .before .before .before .args .sheet)) _ (read at-read) _ _ (sym (ap toldOutcome (c .before .found .given .1)) ∙ at-records .records-sound .ensures)
+
+returns-3 : tie.Need-returns-3
+returns-3 c =
+    let at-records = c .before .before in
+    let at-read = at-records .before .before in
+    all-sound (now (at-read .before .before .before .before .args .sheet)) _ (read at-read) (sym (ap toldOutcome (c .enum-told .given .1)) ∙ at-records .records-sound .ensures)
+
+pub sound-header-spec : {M : Type 1} → statement M
+sound-header-spec =
+    tie.close
+    (tie.spec
+    (λ c κs. search needs)
+    (λ c. search needs)
+    (λ c. search needs)
+    records-sound-requires
+    (λ c. search needs)
+    (λ c. search needs)
+    returns
+    returns-2
+    returns-3)

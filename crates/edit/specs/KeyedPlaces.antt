@@ -1,0 +1,90 @@
+-- Putting in and taking out of a list that rises in its keys, by the place of the key.
+-- Assumes nothing.
+use Prim.Native.Nat.{ℕ, zero, suc, _<_, _≤_}
+use mathlib.Core.Path.{_≡_, refl, sym, ap, _∙_}
+use mathlib.Core.Bool.{Bool, true, false, cond}
+use mathlib.Core.List.{List, [], _∷_, _++_, map}
+use native.Mathlib.Omega.{arith}
+use lib.Dec.{ltb, eqb}
+use lib.ListN.{length, take, drop, getD}
+use borrow.Author.Tests.{ltb-true, ltb-false, lt-ltb, le-ltb, eqb-true, eqb-false, eq-eqb, ne-eqb}
+use Rattle.edit.specs.Keyed.{rises, placeOf, hasOf, putOf, outOf}
+
+module _ {A : Type 0} (key : A → ℕ) where
+  pub place-le : (j : ℕ) (rs : List A) → placeOf key j rs ≤ length rs
+  unfolding placeOf
+  place-le j [] = omega arith
+  place-le j (r ∷ rs) = go (place-le j rs) (ltb (key r) j)
+    where
+      go : placeOf key j rs ≤ length rs → (b : Bool) → cond b (suc (placeOf key j rs)) 0 ≤ suc (length rs)
+      go i true = omega arith
+      go i false = omega arith
+
+  pub has-lt : (j : ℕ) (rs : List A) → hasOf key j rs ≡ true → placeOf key j rs < length rs
+  unfolding placeOf hasOf
+  has-lt j [] e = let z : _≡_ {A = ℕ} 0 1 = cc in absurd (omega arith)
+  has-lt j (r ∷ rs) e = go (has-lt j rs) (ltb (key r) j) e
+    where
+      go : (hasOf key j rs ≡ true → placeOf key j rs < length rs) → (b : Bool) → cond b (hasOf key j rs) (eqb (key r) j) ≡ true → cond b (suc (placeOf key j rs)) 0 < suc (length rs)
+      go i true e = omega (arith, i e)
+      go i false e = omega arith
+
+  -- a put, by the place
+  pub put-at : (new : A) (rs : List A)
+      → putOf key new rs ≡ take (placeOf key (key new) rs) rs ++ (new ∷ drop (cond (hasOf key (key new) rs) (suc (placeOf key (key new) rs)) (placeOf key (key new) rs)) rs)
+  unfolding putOf placeOf hasOf
+  put-at new [] = refl
+  put-at new (r ∷ rs) = go (put-at new rs) (ltb (key r) (key new)) (eqb (key r) (key new))
+    where
+      go : putOf key new rs ≡ take (placeOf key (key new) rs) rs ++ (new ∷ drop (cond (hasOf key (key new) rs) (suc (placeOf key (key new) rs)) (placeOf key (key new) rs)) rs)
+          → (s t : Bool)
+          → cond s (r ∷ putOf key new rs) (cond t (new ∷ rs) (new ∷ r ∷ rs))
+          ≡ take (cond s (suc (placeOf key (key new) rs)) 0) (r ∷ rs)
+          ++ (new ∷ drop (cond (cond s (hasOf key (key new) rs) t) (suc (cond s (suc (placeOf key (key new) rs)) 0)) (cond s (suc (placeOf key (key new) rs)) 0)) (r ∷ rs))
+      go i true t = ap (λ (l : List A). r ∷ l) (i ∙ later (hasOf key (key new) rs) (placeOf key (key new) rs))
+        where
+          later : (b : Bool) (k : ℕ) → take k rs ++ (new ∷ drop (cond b (suc k) k) rs) ≡ take k rs ++ (new ∷ drop (cond b (suc (suc k)) (suc k)) (r ∷ rs))
+          later true k = refl
+          later false k = refl
+      go i false true = refl
+      go i false false = refl
+
+  -- a removal, by the place
+  pub out-at : (j : ℕ) (rs : List A) → hasOf key j rs ≡ true → outOf key j rs ≡ take (placeOf key j rs) rs ++ drop (suc (placeOf key j rs)) rs
+  unfolding outOf placeOf hasOf
+  out-at j [] e = let z : _≡_ {A = ℕ} 0 1 = cc in absurd (omega arith)
+  out-at j (r ∷ rs) e = go (out-at j rs) (ltb (key r) j) refl e
+    where
+      go : (hasOf key j rs ≡ true → outOf key j rs ≡ take (placeOf key j rs) rs ++ drop (suc (placeOf key j rs)) rs) → (s : Bool) → ltb (key r) j ≡ s → cond s (hasOf key j rs) (eqb (key r) j) ≡ true
+          → cond (eqb (key r) j) rs (r ∷ outOf key j rs) ≡ take (cond s (suc (placeOf key j rs)) 0) (r ∷ rs) ++ drop (suc (cond s (suc (placeOf key j rs)) 0)) (r ∷ rs)
+      go i true d h = rw (ne-eqb (key r) j (λ q. omega (arith, ltb-true (key r) j d))) (ap (λ (l : List A). r ∷ l) (i h))
+      go i false d h = rw h
+
+  -- what is put in new and taken out again leaves the list as it was
+  pub put-out : (new : A) (rs : List A) → hasOf key (key new) rs ≡ false → outOf key (key new) (putOf key new rs) ≡ rs
+  unfolding putOf outOf hasOf
+  put-out new [] e = rw (eq-eqb (key new) (key new) refl)
+  put-out new (r ∷ rs) e = go (put-out new rs) (ltb (key r) (key new)) refl (eqb (key r) (key new)) refl e
+    where
+      go : (hasOf key (key new) rs ≡ false → outOf key (key new) (putOf key new rs) ≡ rs) → (s : Bool) → ltb (key r) (key new) ≡ s → (t : Bool) → eqb (key r) (key new) ≡ t
+          → cond s (hasOf key (key new) rs) t ≡ false → outOf key (key new) (cond s (r ∷ putOf key new rs) (cond t (new ∷ rs) (new ∷ r ∷ rs))) ≡ r ∷ rs
+      go i true d t f h = rw (ne-eqb (key r) (key new) (λ q. omega (arith, ltb-true (key r) (key new) d))) (ap (λ (l : List A). r ∷ l) (i h))
+      go i false d true f h = absurd (let z : _≡_ {A = ℕ} 0 1 = cc in omega arith)
+      go i false d false f h = rw (eq-eqb (key new) (key new) refl)
+
+-- places and what is there rest on the keys alone
+module _ {A B : Type 0} (f : A → ℕ) (g : B → ℕ) (k : ℕ) where
+  -- two lists with the same keys
+  pub data SameKeys : List A → List B → Type 0 where
+    none : SameKeys [] []
+    next : {a : A} {b : B} {as : List A} {bs : List B} → f a ≡ g b → SameKeys as bs → SameKeys (a ∷ as) (b ∷ bs)
+
+  pub same-place : (as : List A) (bs : List B) → SameKeys as bs → placeOf f k as ≡ placeOf g k bs
+  unfolding placeOf
+  same-place [] [] none = refl
+  same-place (a ∷ as) (b ∷ bs) (next e s) = rw (e, same-place as bs s)
+
+  pub same-has : (as : List A) (bs : List B) → SameKeys as bs → hasOf f k as ≡ hasOf g k bs
+  unfolding hasOf
+  same-has [] [] none = refl
+  same-has (a ∷ as) (b ∷ bs) (next e s) = rw (e, same-has as bs s)
