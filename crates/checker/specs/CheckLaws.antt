@@ -29,7 +29,7 @@ unfolding _then_
 then-given (given a) next b e = (a, refl, e)
 then-given (refused k p) next b e = given-refused (sym e)
 
-demand-given : (t : Bool) (k : ℕ) (u : Unit {0}) → demand t k ≡ given u → t ≡ true
+pub demand-given : (t : Bool) (k : ℕ) (u : Unit {0}) → demand t k ≡ given u → t ≡ true
 unfolding demand
 demand-given true k u e = refl
 demand-given false k u e = given-refused (sym e)

@@ -77,14 +77,14 @@ module _ {A B : Type 0} (f : A → ℕ) (g : B → ℕ) (k : ℕ) where
   -- two lists with the same keys
   pub data SameKeys : List A → List B → Type 0 where
     none : SameKeys [] []
-    next : {a : A} {b : B} {as : List A} {bs : List B} → f a ≡ g b → SameKeys as bs → SameKeys (a ∷ as) (b ∷ bs)
+    next : {x : A} {y : B} {xs : List A} {ys : List B} → f x ≡ g y → SameKeys xs ys → SameKeys (x ∷ xs) (y ∷ ys)
 
-  pub same-place : (as : List A) (bs : List B) → SameKeys as bs → placeOf f k as ≡ placeOf g k bs
+  pub same-place : (xs : List A) (ys : List B) → SameKeys xs ys → placeOf f k xs ≡ placeOf g k ys
   unfolding placeOf
   same-place [] [] none = refl
-  same-place (a ∷ as) (b ∷ bs) (next e s) = rw (e, same-place as bs s)
+  same-place (x ∷ xs) (y ∷ ys) (next e s) = rw (e, same-place xs ys s)
 
-  pub same-has : (as : List A) (bs : List B) → SameKeys as bs → hasOf f k as ≡ hasOf g k bs
+  pub same-has : (xs : List A) (ys : List B) → SameKeys xs ys → hasOf f k xs ≡ hasOf g k ys
   unfolding hasOf
   same-has [] [] none = refl
-  same-has (a ∷ as) (b ∷ bs) (next e s) = rw (e, same-has as bs s)
+  same-has (x ∷ xs) (y ∷ ys) (next e s) = rw (e, same-has xs ys s)

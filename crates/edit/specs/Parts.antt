@@ -4,9 +4,9 @@ use Prim.Native.Nat.{ℕ, zero, suc, _+_, _-_, _*_, _≤_, _<_}
 use mathlib.Core.Path.{_≡_, refl, sym, ap, ap₂, subst, _∙_}
 use mathlib.Core.List.{List, [], _∷_, _++_, append-assoc, append-nil}
 use native.Mathlib.Omega.{arith}
-use native.Mathlib.Nat.{add-zero}
+use native.Mathlib.Nat.{add-zero, zero-add, suc-add}
 use lib.ListN.{length, take, drop, length-append, length-take, length-drop, take-append-drop}
-use lib.Seq.{take-at, drop-at, drop-drop, length-take-le, take-append-le, drop-append-le, take-take}
+use lib.Seq.{take-at, drop-at, drop-drop, length-take-le, take-take, take-add, take-nil}
 use Rattle.checker.specs.Check.{part, recordPart, partsFrom}
 use Rattle.edit.specs.Edit.{start}
 
@@ -57,10 +57,11 @@ parts-wide s i (suc m) l = (
 
 pub parts-split : (s : List ℕ) (i j m : ℕ) → partsFrom s i (j + m) ≡ partsFrom s i j ++ partsFrom s (i + j) m
 unfolding partsFrom
-parts-split s i zero m = ap (λ (k : ℕ). partsFrom s k m) (sym (add-zero i))
+parts-split s i zero m = ap (partsFrom s i) (zero-add m) ∙ ap (λ (k : ℕ). partsFrom s k m) (sym (add-zero i))
 parts-split s i (suc j) m =
     let e : i + 1 + j ≡ i + suc j = omega arith in
-    ap (λ (l : List (List ℕ)). recordPart s i ∷ l) (parts-split s (i + 1) j m ∙ ap (λ (k : ℕ). partsFrom s (i + 1) j ++ partsFrom s k m) e)
+    ap (partsFrom s i) (suc-add j m)
+    ∙ ap (λ (l : List (List ℕ)). recordPart s i ∷ l) (parts-split s (i + 1) j m ∙ ap (λ (k : ℕ). partsFrom s (i + 1) j ++ partsFrom s k m) e)
 
 -- the bytes from record i on, for so many records
 pub cut : (s : List ℕ) (i m : ℕ) → start (i + m) ≤ length s → part s (start i) (start (i + m)) ≡ join (partsFrom s i m)
@@ -74,18 +75,9 @@ cut s i (suc m) l =
     let g : start i + 16 ≡ start (i + 1) = omega arith in
     let x = drop (start i) s in
     ap (λ (k : ℕ). take k x) e
-    ∙ take-sum 16 (16 * m) x
+    ∙ take-add 16 (16 * m) x
     ∙ ap₂ (λ (a b : List ℕ). a ++ b) (sym (sixteen s i))
     (ap (take (16 * m)) (drop-drop 16 (start i) s ∙ ap (λ (k : ℕ). drop k s) g) ∙ ap (λ (k : ℕ). take k (drop (start (i + 1)) s)) (sym f) ∙ cut s (i + 1) m (omega arith))
-  where
-    take-sum : (a b : ℕ) (xs : List ℕ) → take (a + b) xs ≡ take a xs ++ take b (drop a xs)
-    take-sum zero b xs = refl
-    take-sum (suc a) b [] = sym (ap (take b) refl ∙ take-none b)
-      where
-        take-none : (b : ℕ) → take b [] ≡ []
-        take-none zero = refl
-        take-none (suc b) = refl
-    take-sum (suc a) b (x ∷ xs) = ap (λ (l : List ℕ). x ∷ l) (take-sum a b xs)
 
 -- a sheet in its parts: the twelve bytes of the header, n records, and the rest
 pub in-parts : (s : List ℕ) (n : ℕ) → start n ≤ length s → s ≡ take 12 s ++ (join (partsFrom s 0 n) ++ drop (start n) s)
@@ -99,10 +91,10 @@ in-parts s n l =
 
 -- those of a sheet that is put together
 pub joined : (h : List ℕ) (ps : List (List ℕ)) (z : List ℕ) → length h ≡ 12 → Wide ps → partsFrom (h ++ (join ps ++ z)) 0 (length ps) ≡ ps
+unfolding partsFrom join
 joined h ps z e w = go h ps 0 (omega arith) w
   where
     go : (x : List ℕ) (qs : List (List ℕ)) (i : ℕ) → length x ≡ start i → Wide qs → partsFrom (x ++ (join qs ++ z)) i (length qs) ≡ qs
-    unfolding partsFrom join
     go x [] i l u = refl
     go x (q ∷ qs) i l u =
         let whole = x ++ (q ++ join qs ++ z) in
@@ -111,6 +103,12 @@ joined h ps z e w = go h ps 0 (omega arith) w
         let rest = go (x ++ q) qs (i + 1) (omega (arith, length-append x q, u .0)) (u .1) in
         ap₂ (λ (a : List ℕ) (b : List (List ℕ)). a ∷ b) here (ap (λ (s : List ℕ). partsFrom s (i + 1) (length qs)) (sym again) ∙ rest)
 
+-- what is dropped of what was taken
+pub drop-take : (a k : ℕ) (xs : List ℕ) → drop a (take (a + k) xs) ≡ take k (drop a xs)
+drop-take zero k xs = ap (λ (n : ℕ). take n xs) (zero-add k)
+drop-take (suc a) k [] = ap (drop (suc a)) (take-nil (suc a + k)) ∙ sym (take-nil k)
+drop-take (suc a) k (x ∷ xs) = ap (λ (n : ℕ). drop (suc a) (take n (x ∷ xs))) (suc-add a k) ∙ drop-take a k xs
+
 -- records of a sheet rest on no byte past them
 pub parts-within : (s : List ℕ) (len i m : ℕ) → start (i + m) ≤ len → partsFrom (take len s) i m ≡ partsFrom s i m
 unfolding partsFrom
@@ -118,15 +116,6 @@ parts-within s len i zero l = refl
 parts-within s len i (suc m) l =
     ap₂ (λ (a : List ℕ) (b : List (List ℕ)). a ∷ b) (sixteen (take len s) i ∙ inside ∙ sym (sixteen s i)) (parts-within s len (i + 1) m (omega arith))
   where
-    drop-take : (a k : ℕ) (xs : List ℕ) → drop a (take (a + k) xs) ≡ take k (drop a xs)
-    drop-take zero k xs = refl
-    drop-take (suc a) k [] = sym (take-none k)
-      where
-        take-none : (b : ℕ) → take b [] ≡ []
-        take-none zero = refl
-        take-none (suc b) = refl
-    drop-take (suc a) k (x ∷ xs) = drop-take a k xs
-
     inside : take 16 (drop (start i) (take len s)) ≡ take 16 (drop (start i) s)
     inside =
         let e : start i + (len - start i) ≡ len = omega arith in

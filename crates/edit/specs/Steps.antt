@@ -54,7 +54,7 @@ pub record Known (b : List ℕ) (len : ℕ) (h : Header) : Type 0 where
 -- header and record are sound, and there is room for one record more
 pub record Fits (h : Header) (i len : ℕ) (r : Record) (size : ℕ) : Type 0 where
   pub header : headerFault h 0 ≡ 0
-  pub record : recordFault r 0 ≡ 0
+  pub sound : recordFault r 0 ≡ 0
   pub inside : start i ≤ len
   pub room : len + 16 ≤ size
 

@@ -40,14 +40,21 @@ pub fn sheet_at(buf: &[u8], len: usize) -> HeaderRead
 fn counted(h: Header, count: u16) -> Header
     ensures { λ r. ⌜ r ≡ counting count h ⌝ }
 {
+    let version = h.version;
+    let length = h.length;
+    let draught = h.draught;
+    let wave = h.wave;
+    let two_runs = h.two_runs;
+    let moment = h.moment;
+    let bottom_modulus = h.bottom_modulus;
     Header {
-        version: h.version,
-        length: h.length,
-        draught: h.draught,
-        wave: h.wave,
-        two_runs: h.two_runs,
-        moment: h.moment,
-        bottom_modulus: h.bottom_modulus,
+        version,
+        length,
+        draught,
+        wave,
+        two_runs,
+        moment,
+        bottom_modulus,
         count,
     }
 }

@@ -4,26 +4,26 @@ ghost use Prim.Native.Nat.{_+_, _-_, _≤_};
 ghost use lib.ListN.{length, replicate};
 ghost use Rattle.edit.specs.Steps.{opened, closed};
 
-// The bytes from a up to e go sixteen places up, the last first.
-pub(crate) fn open(buf: &mut [u8], a: usize, e: usize)
-    requires { ⌜ (a ≤ e) × (e + 16 ≤ length (now buf)) ⌝ }
-    ensures { λ _. ⌜ now (buf .exit) ≡ opened (now (buf .entry)) a e ⌝ }
+// The bytes from `at` up to `end` go sixteen places up, the last first.
+pub(crate) fn open(buf: &mut [u8], at: usize, end: usize)
+    requires { ⌜ (at ≤ end) × (end + 16 ≤ length (now buf)) ⌝ }
+    ensures { λ _. ⌜ now (buf .exit) ≡ opened (now (buf .entry)) at end ⌝ }
 {
-    let mut k = e;
-    while a < k {
+    let mut k = end;
+    while at < k {
         k -= 1;
         let b = buf[k];
         buf[k + 16] = b;
     }
 }
 
-// The bytes from a + 16 up to e go sixteen places down, the first first.
-pub(crate) fn close(buf: &mut [u8], a: usize, e: usize)
-    requires { ⌜ (a + 16 ≤ e) × (e ≤ length (now buf)) ⌝ }
-    ensures { λ _. ⌜ now (buf .exit) ≡ closed (now (buf .entry)) a (e - 16) ⌝ }
+// The bytes from `at` + 16 up to `end` go sixteen places down, the first first.
+pub(crate) fn close(buf: &mut [u8], at: usize, end: usize)
+    requires { ⌜ (at + 16 ≤ end) × (end ≤ length (now buf)) ⌝ }
+    ensures { λ _. ⌜ now (buf .exit) ≡ closed (now (buf .entry)) at (end - 16) ⌝ }
 {
-    let mut k = a;
-    while k < e - 16 {
+    let mut k = at;
+    while k < end - 16 {
         let b = buf[k + 16];
         buf[k] = b;
         k += 1;

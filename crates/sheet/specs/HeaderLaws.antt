@@ -46,7 +46,7 @@ header-in n =
 -- ---- a header with no fault
 
 module _ (h : Header) (spare : ℕ) (e : headerFault h spare ≡ 0) where
-  header-allowed : Allowed headerLines (headerValues h spare)
+  pub header-allowed : Allowed headerLines (headerValues h spare)
   unfolding headerFault
   header-allowed = none-all 0 headerLines (headerValues h spare) e
 

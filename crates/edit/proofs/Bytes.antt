@@ -1,0 +1,96 @@
+-- What the steps that write leave in the buffer.
+-- Assumes nothing.
+use Prim.Native.Nat.{ℕ, _+_, _-_, _≤_}
+use mathlib.Core.Path.{_≡_, refl, sym, ap, ap₂, _∙_}
+use mathlib.Core.List.{List, [], _++_, append-assoc, append-nil}
+use native.Mathlib.Omega.{arith}
+use lib.ListN.{length, take, drop, replicate, length-append, length-take, length-drop, drop-of-length-le}
+use lib.Seq.{take-at, drop-at, take-append-le, drop-append-le, take-append-add, take-take, drop-drop, length-take-le}
+use borrow.Author.Tests.{le-ltb, eq-eqb}
+use borrow.Rule.Slice.PartMut.{putMid}
+use Rattle.sheet.specs.declared.Header.{Header}
+use Rattle.sheet.specs.declared.Record.{Record}
+use Rattle.sheet.specs.Header.{headerFault, headerBytes, writeHeader}
+use Rattle.sheet.specs.Record.{recordFault, recordBytes, writeRecord}
+use Rattle.checker.specs.Check.{part}
+use Rattle.edit.specs.Edit.{start, replacing, inserting, removing}
+use Rattle.edit.specs.Steps.{opened, without, closed, Fits, Stands}
+use Rattle.edit.specs.Parts.{drop-take}
+
+-- a part, the other way round
+part-is : (b : List ℕ) (a e : ℕ) → a ≤ e → part b a e ≡ drop a (take e b)
+part-is b a e l =
+    let m : a + (e - a) ≡ e = omega arith in
+    sym (ap (λ (k : ℕ). drop a (take k b)) (sym m) ∙ drop-take a (e - a) b)
+
+-- the record's sixteen bytes come back into their place
+pub replaced : (b v : List ℕ) (i : ℕ) (r : Record) → recordFault r 0 ≡ 0 → start i + 16 ≤ length b → v ≡ writeRecord r (take (start i + 16 - start i) (drop (start i) b)) .bytes
+    → putMid (start i) (start i + 16 - start i) b v ≡ replacing i r b
+unfolding writeRecord replacing
+replaced b v i r z l w =
+    let d : start i + 16 - start i ≡ 16 = omega arith in
+    let o = take (start i + 16 - start i) (drop (start i) b) in
+    let n : length o ≡ 16 = ap (λ (k : ℕ). length (take k (drop (start i) b))) d ∙ length-take-le 16 (drop (start i) b) (omega (arith, length-drop (start i) b)) in
+    let long : 16 ≤ length o = omega arith in
+    let short : length o ≤ 16 = omega arith in
+    let end : drop 16 o ≡ [] = drop-of-length-le o short in
+    let own : v ≡ recordBytes r = w ∙ rw (le-ltb (length o) 16 long, eq-eqb (recordFault r 0) 0 z, end) (append-nil (recordBytes r)) in
+    ap₂ (λ (x : List ℕ) (k : ℕ). take (start i) b ++ (x ++ drop k (drop (start i) b))) own d
+    ∙ ap (λ (x : List ℕ). take (start i) b ++ (recordBytes r ++ x)) (drop-drop 16 (start i) b)
+
+-- the header goes over the first twelve bytes of a buffer whose first a are known
+headed : (h : Header) (x y : List ℕ) → headerFault h 0 ≡ 0 → 12 ≤ length x → writeHeader h (x ++ y) .bytes ≡ headerBytes h ++ (drop 12 x ++ y)
+unfolding writeHeader
+headed h x y z l =
+    let m : 12 ≤ length (x ++ y) = omega (arith, length-append x y) in
+    rw (le-ltb (length (x ++ y)) 12 m, eq-eqb (headerFault h 0) 0 z) (ap (_++_ (headerBytes h)) (drop-append-le 12 x y l))
+
+module _ (b : List ℕ) (h : Header) (i len : ℕ) where
+  abbrev a : ℕ
+  a = start i
+
+  -- what stands between the header and the place
+  before : a ≤ len → drop 12 (take a b) ≡ part b 12 a
+  before l = sym (part-is b 12 a (omega arith))
+
+  pub inserted : (r : Record) → Fits h i len r (length b) → (o p q : List ℕ) → o ≡ opened b a len → p ≡ replacing i r o → q ≡ writeHeader h p .bytes → q ≡ inserting h i len r b
+  unfolding opened replacing inserting
+  inserted r f o p q eo ep eq =
+      let n : length (take a b) ≡ a = length-take-le a b (omega (arith, f .inside, f .room)) in
+      let m : length (take (a + 16) b) ≡ a + 16 = length-take-le (a + 16) b (omega (arith, f .inside, f .room)) in
+      let after = drop a (take len b) ++ drop (len + 16) b in
+      let low : take a o ≡ take a b = ap (take a) eo ∙ take-append-le a (take (a + 16) b) after (omega arith) ∙ take-take a (a + 16) b (omega arith) in
+      let high : drop (a + 16) o ≡ after = ap (drop (a + 16)) eo ∙ drop-at (take (a + 16) b) after (a + 16) m in
+      let whole : p ≡ take a b ++ (recordBytes r ++ after) = ep ∙ ap₂ (λ (x y : List ℕ). x ++ (recordBytes r ++ y)) low high in
+      eq
+      ∙ ap (λ (x : List ℕ). writeHeader h x .bytes) whole
+      ∙ headed h (take a b) (recordBytes r ++ after) (f .header) (omega arith)
+      ∙ ap₂ (λ (x y : List ℕ). headerBytes h ++ (x ++ (recordBytes r ++ (y ++ drop (len + 16) b)))) (before (f .inside)) (sym (part-is b a len (f .inside)))
+
+  pub removed : Stands h i len (length b) → (o v q : List ℕ) → o ≡ closed b a (len - 16) → v ≡ replicate 16 0 → q ≡ writeHeader h (putMid (len - 16) (len - (len - 16)) o v) .bytes
+      → q ≡ removing h i len b
+  unfolding closed removing
+  removed f o v q eo ev eq =
+      let k = len - 16 in
+      let n : length (take a b) ≡ a = length-take-le a b (omega (arith, f .inside, f .whole)) in
+      let m : length (without a b) ≡ length b - 16 = simp (length-append, length-take, length-drop) (omega (arith, f .inside, f .whole)) in
+      let p : length (take k (without a b)) ≡ k = length-take-le k (without a b) (omega (arith, f .inside, f .whole)) in
+      let sum : length (take a b) + (k - a) ≡ k = omega (arith, f .inside) in
+      let gap : k - a ≡ len - (a + 16) = omega (arith, f .inside) in
+      let shut : take k (without a b) ≡ take a b ++ part b (a + 16) len =
+      ap (λ (x : ℕ). take x (without a b)) (sym sum) ∙ take-append-add (take a b) (drop (a + 16) b) (k - a) ∙ ap (λ (x : ℕ). take a b ++ take x (drop (a + 16) b)) gap in
+      let low : take k o ≡ take a b ++ part b (a + 16) len = ap (take k) eo ∙ take-at (take k (without a b)) (drop k b) k p ∙ shut in
+      let end : k + (len - k) ≡ len = omega (arith, f .inside) in
+      let high : drop (len - k) (drop k o) ≡ drop len b =
+      ap (λ (x : List ℕ). drop (len - k) (drop k x)) eo
+      ∙ ap (drop (len - k)) (drop-at (take k (without a b)) (drop k b) k p)
+      ∙ drop-drop (len - k) k b
+      ∙ ap (λ (x : ℕ). drop x b) end in
+      let whole : putMid k (len - k) o v ≡ take a b ++ (part b (a + 16) len ++ (replicate 16 0 ++ drop len b)) =
+      ap₂ (λ (x y : List ℕ). x ++ (v ++ y)) low high
+      ∙ ap (λ (x : List ℕ). take a b ++ part b (a + 16) len ++ (x ++ drop len b)) ev
+      ∙ append-assoc (take a b) (part b (a + 16) len) (replicate 16 0 ++ drop len b) in
+      eq
+      ∙ ap (λ (x : List ℕ). writeHeader h x .bytes) whole
+      ∙ headed h (take a b) (part b (a + 16) len ++ (replicate 16 0 ++ drop len b)) (f .header) (omega arith)
+      ∙ ap (λ (x : List ℕ). headerBytes h ++ (x ++ (part b (a + 16) len ++ (replicate 16 0 ++ drop len b)))) (before (omega (arith, f .inside)))

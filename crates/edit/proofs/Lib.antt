@@ -1,0 +1,4 @@
+mod Shifts
+mod Search
+mod Bytes
+mod Answers
