@@ -6,3 +6,4 @@ pub mod Steps
 pub mod Parts
 pub mod Taken
 pub mod HeaderCount
+pub mod Rebuilt
