@@ -7,3 +7,4 @@ pub mod Parts
 pub mod Taken
 pub mod HeaderCount
 pub mod Rebuilt
+pub mod Outcomes

@@ -123,10 +123,10 @@ module _ (b : List ℕ) (len : ℕ) (t : Sheet) (k : Taken b len t) (i : ℕ) wh
   n = t .header .count
 
   -- the first twelve bytes
-  head : length (take 12 b) ≡ 12
+  pub head : length (take 12 b) ≡ 12
   head = length-take-le 12 b (omega (arith, k .fits, k .whole))
 
-  head-read : readHeader (take 12 b) ≡ given (t .header)
+  pub head-read : readHeader (take 12 b) ≡ given (t .header)
   head-read =
       let e : 12 + 16 * n ≡ len = sym (k .whole) in
       let s : take len b ≡ take 12 b ++ take (16 * n) (drop 12 b) = ap (λ (m : ℕ). take m b) (sym e) ∙ take-add 12 (16 * n) b in

@@ -1,0 +1,176 @@
+-- What an edit of a sheet that is not turned away comes to: the cases in which it is done, and the sheet that it leaves.
+-- Assumes nothing.
+use Prim.Native.Nat.{ℕ, suc, _+_, _-_, _*_, _≤_, _<_}
+use mathlib.Core.Path.{_≡_, refl, sym, ap, ap₂, subst, _∙_}
+use mathlib.Core.Bool.{Bool, true, false, cond, _&&_}
+use mathlib.Core.List.{List, [], _∷_, _++_}
+use native.Mathlib.Omega.{arith}
+use lib.ListN.{length, take, drop, replicate, length-append, length-take, length-drop}
+use lib.Seq.{length-take-le}
+use lib.Dec.{leb, ltb}
+use borrow.Author.Tests.{leb-true, ltb-true}
+use Rattle.sheet.specs.declared.Header.{Header}
+use Rattle.sheet.specs.declared.Record.{Record}
+use Rattle.sheet.specs.Lines.{counts}
+use Rattle.sheet.specs.Refusals.{Answer, given, refused, recordRefused}
+use Rattle.sheet.specs.RefusalLaws.{given-same, given-refused, by-none}
+use Rattle.sheet.specs.Header.{headerBytes}
+use Rattle.sheet.specs.Record.{recordFault, recordBytes}
+use Rattle.sheet.specs.RecordExactly.{record-id}
+use Rattle.checker.specs.Check.{_then_, demand, partsFrom, Sheet}
+use Rattle.checker.specs.CheckLaws.{then-given, demand-given}
+use Rattle.edit.specs.Keyed.{rises, placeOf, hasOf, putOf, outOf}
+use Rattle.edit.specs.KeyedLaws.{put-rises, out-rises}
+use Rattle.edit.specs.KeyedPlaces.{place-le, has-lt, put-at, out-at}
+use Rattle.edit.specs.Edit.{sheetAt, start, idOf, counting, replacing, inserting, removing, After, hasRoom, placing, putIn, removeIn}
+use Rattle.edit.specs.HeaderCount.{counting-sound}
+use Rattle.edit.specs.Taken.{nothing, reads, Taken, taken-at}
+use Rattle.edit.specs.Rebuilt.{header-length, record-length, header-back, record-back, head, head-read, rebuilt, inserted-bytes, replaced-bytes, removed-bytes}
+
+-- a sheet that holds these records, which its header counts
+abbrev pub holding : Header → List Record → Sheet
+holding h rs = record { header = counting (length rs) h; records = rs }
+
+-- ---- the cases in which an edit is done
+
+module _ (b : List ℕ) (len : ℕ) (t : Sheet) where
+  abbrev n : ℕ
+  n = t .header .count
+
+  -- a record put in: it has no fault, and replaces the one with its id, or goes in at its place
+  pub data Put (r : Record) (a : After) : Type 0 where
+    replaces : hasOf idOf (r .id) (t .records) ≡ true → a ≡ record { size = len; bytes = replacing (placeOf idOf (r .id) (t .records)) r b } → Put r a
+    inserts : hasOf idOf (r .id) (t .records) ≡ false → len + 16 ≤ length b → n < counts .high
+        → a ≡ record { size = len + 16; bytes = inserting (counting (n + 1) (t .header)) (placeOf idOf (r .id) (t .records)) len r b } → Put r a
+
+  -- a record taken out: one has the id
+  pub record Removed (id : ℕ) (a : After) : Type 0 where
+    pub there : hasOf idOf id (t .records) ≡ true
+    pub after : a ≡ record { size = len - 16; bytes = removing (counting (n - 1) (t .header)) (placeOf idOf id (t .records)) len b }
+
+  both : (x y : Bool) → (x && y) ≡ true → (x ≡ true) × (y ≡ true)
+  both true y e = (refl, e)
+  both false y e = (e, cc)
+
+  placed : (r : Record) (a : After) → placing t b len r ≡ given a → Put r a
+  unfolding placing
+  placed r a e = go (hasOf idOf (r .id) (t .records)) refl e
+    where
+      i : ℕ
+      i = placeOf idOf (r .id) (t .records)
+
+      go : (has : Bool) → hasOf idOf (r .id) (t .records) ≡ has
+          → cond has (given (record { size = len; bytes = replacing i r b }))
+              (demand (hasRoom n len (length b)) 11 then λ u. given (record { size = len + 16; bytes = inserting (counting (n + 1) (t .header)) i len r b }))
+          ≡ given a → Put r a
+      go true f g = replaces f (sym (given-same g))
+      go false f g =
+          let d = then-given (demand (hasRoom n len (length b)) 11) _ a g in
+          let m = both (leb (len + 16) (length b)) (ltb n (counts .high)) (demand-given (hasRoom n len (length b)) 11 (d .0) (d .1)) in
+          inserts f (leb-true (len + 16) (length b) (m .0)) (ltb-true n (counts .high) (m .1)) (sym (given-same (d .2)))
+
+  module _ (found : sheetAt b len ≡ given t) where
+    pub put-done : (r : Record) (a : After) → putIn b len r ≡ given a → (recordFault r 0 ≡ 0) × Put r a
+    unfolding putIn
+    put-done r a e =
+        let s = then-given (sheetAt b len) _ a e in
+        let same : s .0 ≡ t = given-same (sym (s .1) ∙ found) in
+        let f = then-given (recordRefused (s .0 .header .count) (recordFault r 0) (given (tt {0}))) _ a (s .2) in
+        let m = s .0 .header .count in
+        (by-none 6 m 7 (λ k. 32 * m + k) (recordFault r 0) (tt {0}) (f .0) (f .1) .0, placed r a (ap (λ (u : Sheet). placing u b len r) (sym same) ∙ f .2))
+
+    pub remove-done : (id : ℕ) (a : After) → removeIn b len id ≡ given a → Removed id a
+    unfolding removeIn
+    remove-done id a e =
+        let s = then-given (sheetAt b len) _ a e in
+        let same : s .0 ≡ t = given-same (sym (s .1) ∙ found) in
+        let d = then-given (demand (hasOf idOf id (s .0 .records)) 10) _ a (s .2) in
+        record {
+          there = ap (λ (u : Sheet). hasOf idOf id (u .records)) (sym same) ∙ demand-given (hasOf idOf id (s .0 .records)) 10 (d .0) (d .1);
+          after = sym (given-same (d .2))
+              ∙ ap (λ (u : Sheet). record { size = len - 16; bytes = removing (counting (u .header .count - 1) (u .header)) (placeOf idOf id (u .records)) len b }) same;
+        }
+
+-- ---- the sheet that it leaves
+
+module _ (b : List ℕ) (len : ℕ) (t : Sheet) (found : sheetAt b len ≡ given t) where
+  k : Taken b len t
+  k = taken-at b len t found
+
+  abbrev rs : List Record
+  rs = t .records
+
+  abbrev h : Header
+  h = t .header
+
+  -- a sheet holds as many records as its header counts
+  pub holds-its-own : t ≡ holding h rs
+  holds-its-own = ap (λ (m : ℕ). record { header = counting m h; records = rs }) (sym (k .number))
+
+  -- the header and the records of a sheet of so many bytes, in other words
+  in-words : (s : List ℕ) (a : After) (g : Header) (qs us : List Record) → a .bytes ≡ s → a .size ≡ start (g .count) → sheetAt s (start (g .count)) ≡ given (record { header = g; records = qs }) → qs ≡ us
+      → g ≡ counting (length us) h → sheetAt (a .bytes) (a .size) ≡ given (holding h us)
+  in-words s a g qs us eb es f er eg = ap₂ sheetAt eb es ∙ f ∙ ap₂ (λ (x : Header) (y : List Record). given (record { header = x; records = y })) eg er
+
+  module _ (r : Record) (z : recordFault r 0 ≡ 0) where
+    abbrev i : ℕ
+    i = placeOf idOf (r .id) rs
+
+    inside : i ≤ h .count
+    inside = omega (arith, place-le idOf (r .id) rs, k .number)
+
+    rising : rises idOf 0 (putOf idOf r rs) ≡ true
+    rising = put-rises idOf 0 r rs (k .order) (record-id r z .0)
+
+    put-held : (a : After) → Put b len t r a → sheetAt (a .bytes) (a .size) ≡ given (holding h (putOf idOf r rs))
+    put-held a (replaces has e) =
+        let next : suc i ≡ i + 1 = omega arith in
+        let m : i < h .count = omega (arith, has-lt idOf (r .id) rs has, k .number) in
+        let put : putOf idOf r rs ≡ take i rs ++ ((r ∷ []) ++ drop (i + 1) rs) = put-at idOf r rs ∙ rw has (ap (λ (j : ℕ). take i rs ++ (r ∷ drop j rs)) next) in
+        let many : length (putOf idOf r rs) ≡ h .count =
+            ap length put ∙ omega (arith, length-append (take i rs) (r ∷ drop (i + 1) rs), length-take-le i rs (omega (arith, k .number)), length-drop (i + 1) rs, k .number) in
+        in-words _ a h _ (putOf idOf r rs)
+        (ap (λ (x : After). x .bytes) e ∙ replaced-bytes b len t k i inside m r)
+        (ap (λ (x : After). x .size) e ∙ k .whole)
+        (rebuilt b len t k i inside (i + 1) (omega arith) (take 12 b) h (recordBytes r ∷ []) (r ∷ []) (drop len b) (head b len t k i) (head-read b len t k i) (record-length r, tt)
+        (reads (record-back r z) nothing) (omega arith) (ap (rises idOf 0) (sym put) ∙ rising))
+        (sym put)
+        (ap (λ (x : ℕ). counting x h) (sym many))
+    put-held a (inserts new fits few e) =
+        let g = counting (h .count + 1) h in
+        let sound = counting-sound h (h .count + 1) (k .sound) (omega arith) in
+        let put : putOf idOf r rs ≡ take i rs ++ ((r ∷ []) ++ drop i rs) = put-at idOf r rs ∙ rw new in
+        let many : length (putOf idOf r rs) ≡ h .count + 1 =
+            ap length put ∙ omega (arith, length-append (take i rs) (r ∷ drop i rs), length-take-le i rs (omega (arith, k .number, inside)), length-drop i rs, k .number, inside) in
+        in-words _ a g _ (putOf idOf r rs)
+        (ap (λ (x : After). x .bytes) e ∙ inserted-bytes b len t k i inside g r)
+        (ap (λ (x : After). x .size) e ∙ omega (arith, k .whole))
+        (rebuilt b len t k i inside i inside (headerBytes g) g (recordBytes r ∷ []) (r ∷ []) (drop (len + 16) b) (header-length g) (header-back g sound) (record-length r, tt)
+        (reads (record-back r z) nothing) (omega (arith, inside)) (ap (rises idOf 0) (sym put) ∙ rising))
+        (sym put)
+        (ap (λ (x : ℕ). counting x h) (sym many))
+
+  -- after a put: the sheet is not turned away, its header counts its records, and these are the old ones with the new one put in
+  pub put-sheet : (r : Record) (a : After) → putIn b len r ≡ given a → sheetAt (a .bytes) (a .size) ≡ given (holding h (putOf idOf r rs))
+  put-sheet r a e = let d = put-done b len t found r a e in put-held r (d .0) a (d .1)
+
+  -- after a removal: likewise, with that one taken out
+  pub remove-sheet : (id : ℕ) (a : After) → removeIn b len id ≡ given a → sheetAt (a .bytes) (a .size) ≡ given (holding h (outOf idOf id rs))
+  remove-sheet id a e =
+      let d = remove-done b len t found id a e in
+      let j = placeOf idOf id rs in
+      let next : suc j ≡ j + 1 = omega arith in
+      let m : j < h .count = omega (arith, has-lt idOf id rs (d .there), k .number) in
+      let g = counting (h .count - 1) h in
+      let sound = counting-sound h (h .count - 1) (k .sound) (omega (arith, k .few)) in
+      let within : j ≤ h .count = omega arith in
+      let out : outOf idOf id rs ≡ take j rs ++ ([] ++ drop (j + 1) rs) = out-at idOf id rs (d .there) ∙ ap (λ (x : ℕ). take j rs ++ drop x rs) next in
+      let many : length (outOf idOf id rs) ≡ h .count - 1 =
+          ap length out ∙ omega (arith, length-append (take j rs) (drop (j + 1) rs), length-take-le j rs (omega (arith, k .number)), length-drop (j + 1) rs, k .number) in
+      in-words _ a g _ (outOf idOf id rs)
+      (ap (λ (x : After). x .bytes) (d .after) ∙ removed-bytes b len t k j within m g)
+      (ap (λ (x : After). x .size) (d .after) ∙ omega (arith, k .whole))
+      (rebuilt b len t k j within (j + 1) (omega arith) (headerBytes g) g [] [] (replicate 16 0 ++ drop len b) (header-length g) (header-back g sound) tt nothing (omega arith)
+      (ap (rises idOf 0) (sym out) ∙ out-rises idOf 0 id rs (k .order)))
+      (sym out)
+      (ap (λ (x : ℕ). counting x h) (sym many))
