@@ -1,0 +1,5 @@
+pub mod Fields
+pub mod From
+pub mod Held
+pub mod Only
+pub mod Back
