@@ -13,13 +13,16 @@ use Rattle.sheet.specs.Exactly.{Cases, byFault}
 use Rattle.numbers.specs.Held.{firstOf, earlierOf}
 use Rattle.numbers.proofs.First.{first-left, first-right, first-none}
 
--- what the one of two refusals with the lower place says
-pub told-lower : (r s : Refusal) → told (cond (ltb (placeOf r) (placeOf s)) r s) ≡ earlierOf (told r) (numberOf s) (placeOf s)
-told-lower r s = go (ltb (placeOf r) (placeOf s))
-  where
-    go : (t : Bool) → told {A = Unit {0}} (cond t r s) ≡ cond t (told r) (told s)
-    go true = refl
-    go false = refl
+-- what was found stands earlier, or not, by the two places
+module _ (r s : Refusal) where
+  abbrev told-earlier : Answer (Unit {0})
+  told-earlier = earlierOf (told r) (numberOf s) (placeOf s)
+
+  pub found-earlier : placeOf r < placeOf s → told r ≡ told-earlier
+  found-earlier l = rw (lt-ltb (placeOf r) (placeOf s) l)
+
+  pub found-later : placeOf s ≤ placeOf r → told s ≡ told-earlier
+  found-later l = rw (le-ltb (placeOf r) (placeOf s) l)
 
 -- what was looked for in place of word that all is well
 abbrev pub carrying : {A : Type 0} → A → Answer (Unit {0}) → Answer A

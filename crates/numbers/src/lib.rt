@@ -14,11 +14,11 @@ use sheet::RecordRead;
 use sheet::Refusal;
 ghost use mathlib.Core.Path.{_≡_};
 ghost use mathlib.Core.Bool.{cond};
-ghost use lib.Dec.{ltb, eqb};
+ghost use lib.Dec.{eqb};
 ghost use Rattle.sheet.specs.Refusals.{numberOf, placeOf, toldOutcome, toldHeader, toldRecord};
 ghost use Rattle.numbers.specs.Fields.{headerNumbers, plateNumbers, memberNumbers, recordNumbers};
 ghost use Rattle.numbers.specs.From.{headerFrom, recordFrom};
-ghost use Rattle.numbers.specs.Held.{earlierOf, headerHeld, plateHeld, memberHeld, recordHeld, headerApart, plateApart, memberApart, recordApart};
+ghost use Rattle.numbers.specs.Held.{earlierOf, headerHeld, plateHeld, memberHeld, recordHeld, plateApart, recordApart};
 
 pub fn header_numbers(h: Header) -> [u32; 8]
     ensures { λ r. ⌜ r ≡ headerNumbers h ⌝ }
@@ -111,13 +111,6 @@ pub fn record_numbers(r: Record) -> [u32; 13]
     }
 }
 
-// The one of two refusals with the lower place.
-fn lower(a: Refusal, b: Refusal) -> Refusal
-    ensures { λ r. ⌜ r ≡ cond (ltb (placeOf a) (placeOf b)) a b ⌝ }
-{
-    if a.place() < b.place() { a } else { b }
-}
-
 // What was found at fault, or the refusal of a field that was tested by itself, 0 being none, where that stands earlier: the place grows with the field, and
 // that of a first field is below all others.
 fn earlier(found: Outcome, field: u8, here: Refusal) -> Outcome
@@ -128,7 +121,12 @@ fn earlier(found: Outcome, field: u8, here: Refusal) -> Outcome
     }
     match found {
         Outcome::Fine => Outcome::Refused(here),
-        Outcome::Refused(r) => Outcome::Refused(lower(r, here)),
+        Outcome::Refused(r) => {
+            if r.place() < here.place() {
+                return Outcome::Refused(r);
+            }
+            Outcome::Refused(here)
+        }
     }
 }
 
@@ -155,20 +153,14 @@ fn header_held(f: [u32; 8]) -> Header
     }
 }
 
-// The field of a header that is at fault although what it was held as is not, or 0: runs.
-fn header_apart(f: [u32; 8]) -> u8
-    ensures { λ r. ⌜ r ≡ headerApart f ⌝ }
-{
-    layout::fault_unless(f[4], 0, 1, 5, 0)
-}
-
 // The header that numbers are, or why they are none.
 pub fn header_from(f: [u32; 8]) -> HeaderRead
     ensures { λ r. ⌜ toldHeader r ≡ headerFrom f ⌝ }
 {
     let h = header_held(f);
     let found = header::header_fault(h);
-    let field = header_apart(f);
+    // runs: what it is held as is never at fault
+    let field = layout::fault_unless(f[4], 0, 1, 5, 0);
     let place = field as u32;
     let fault = earlier(found, field, Refusal::HeaderField(place));
     match fault {
@@ -262,20 +254,14 @@ fn plate_apart(f: [u32; 13]) -> u8
     layout::fault_unless(f[8], 0, 1, 9, past)
 }
 
-// The same of a member: σ1.
-fn member_apart(f: [u32; 13]) -> u8
-    ensures { λ r. ⌜ r ≡ memberApart f ⌝ }
-{
-    layout::fault_unless(f[9], 0, 255, 10, 0)
-}
-
 fn record_apart(f: [u32; 13]) -> u8
     ensures { λ r. ⌜ r ≡ recordApart f ⌝ }
 {
     if f[0] < 5 {
         return plate_apart(f);
     }
-    member_apart(f)
+    // of a member: σ1
+    layout::fault_unless(f[9], 0, 255, 10, 0)
 }
 
 // The record that numbers are, as record i of a sheet, or why they are none.

@@ -9,7 +9,7 @@ returns : tie.Need-returns
 returns c = rw (lt-ltb _ _ (c .before .if1 .taken)) (c .plate-apart .ensures)
 
 returns-2 : tie.Need-returns-2
-returns-2 c = rw (le-ltb _ _ (c .before .if1 .left)) (c .member-apart .ensures)
+returns-2 c = rw (le-ltb _ _ (c .before .if1 .left)) (c .fault-unless .ensures)
 
 pub record-apart-spec : {M : Type 1} → statement M
 record-apart-spec =
@@ -18,5 +18,6 @@ record-apart-spec =
     (λ c. search needs)
     (λ c κs. search needs)
     returns
+    (λ c. search needs)
     (λ c κs. search needs)
     returns-2)
