@@ -3,3 +3,4 @@ pub mod From
 pub mod Held
 pub mod Only
 pub mod Back
+pub mod Exactly
