@@ -16,7 +16,7 @@ use Rattle.sheet.specs.declared.Body.{Body}
 use Rattle.sheet.specs.declared.Body.the-variants.{Plate as isPlate, Member as isMember}
 use Rattle.sheet.specs.declared.Record.{Record}
 use Rattle.sheet.specs.Lines.{none, headerLines}
-use Rattle.sheet.specs.Refusals.{Answer, given, refused, headerRefused, recordRefused}
+use Rattle.sheet.specs.Refusals.{given, refused, headerRefused}
 use Rattle.sheet.specs.RefusalLaws.{by-none, at-none}
 use Rattle.sheet.specs.Header.{headerAt, headerFault}
 use Rattle.sheet.specs.Record.{plateRecord, memberRecord, plateLinesOf, memberLinesOf, plateFault, memberFault, recordFault}

@@ -1,7 +1,7 @@
 -- There and back across the boundary: numbers that are written are read again, and numbers that are read are written to the same bytes.
 -- Assumes nothing.
 use Prim.Native.Nat.{ℕ, _≤_}
-use mathlib.Core.Path.{_≡_, sym, ap, _∙_, subst}
+use mathlib.Core.Path.{_≡_, sym, ap, _∙_}
 use mathlib.Core.List.{List}
 use native.Mathlib.Omega.{arith}
 use lib.ListN.{length, take}
@@ -11,8 +11,7 @@ use Rattle.sheet.specs.declared.Header.{Header}
 use Rattle.sheet.specs.declared.Body.{Body}
 use Rattle.sheet.specs.declared.Body.the-variants.{Plate as isPlate, Member as isMember}
 use Rattle.sheet.specs.declared.Record.{Record}
-use Rattle.sheet.specs.Refusals.{given, refused}
-use Rattle.sheet.specs.RefusalLaws.{at-none}
+use Rattle.sheet.specs.Refusals.{given}
 use Rattle.sheet.specs.Header.{headerAt, headerFault, readHeader, headerBytes, writeHeader}
 use Rattle.sheet.specs.Record.{plateFault, memberFault, recordFault, readRecord, recordBytes, writeRecord}
 use Rattle.sheet.specs.HeaderLaws.{flag-read}
@@ -23,7 +22,7 @@ use Rattle.sheet.specs.RecordExactly.{recordCases}
 use Rattle.sheet.specs.HeaderBack.{header-read-again, header-written-again}
 use Rattle.sheet.specs.RecordBack.{record-read-again, record-read-fine, record-written-again}
 use Rattle.numbers.specs.Fields.{headerNumbers, recordNumbers}
-use Rattle.numbers.specs.From.{numbersFrom, headerNumbersFault, headerFrom, recordOfNumbers, recordNumbersFault, recordFrom}
+use Rattle.numbers.specs.From.{numbersFrom, headerNumbersFault, recordOfNumbers, recordNumbersFault}
 use Rattle.numbers.specs.Back.{header-sound, record-sound}
 use Rattle.yard.specs.Fields.{numbered}
 use Rattle.yard.specs.Writing.{writeHeaderNumbers, writeRecordNumbers}
