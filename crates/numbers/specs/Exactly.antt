@@ -35,10 +35,11 @@ module _ (ns : List ℕ) where
   unfolding headerFrom headerNumbersFault
   header-from-given h = fields-given headerCases headerLines headerFields refl (headerAt ns) h
 
-  -- a record's numbers as its fields, and the lines that they answer to
+  -- a record's numbers as its fields
   abbrev pub recordFields : List ℕ
   recordFields = cond (plateNumbered ns) (plateFields ns) (numbersFrom 0 13 ns)
 
+  -- and the lines that they answer to
   abbrev pub recordLines : List Line
   recordLines = cond (plateNumbered ns) (plateLinesOf ns) (memberLinesOf ns)
 

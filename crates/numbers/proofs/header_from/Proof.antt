@@ -6,7 +6,7 @@ use Rattle.sheet.specs.declared.Outcome.{Outcome}
 use Rattle.sheet.specs.Refusals.{toldOutcome}
 use Rattle.numbers.specs.From.{headerFrom}
 use Rattle.numbers.proofs.Places.{carrying}
-use Rattle.numbers.proofs.Taken.{header-taken}
+use Rattle.numbers.proofs.Taken.{header-by-held}
 use Rattle.numbers.proofs.header_from.Statement.{statement}
 use Rattle.numbers.proofs.header_from.Tie as tie
 
@@ -15,7 +15,7 @@ found c =
     let apart = c .before in
     let fault = apart .before in
     let kept = fault .before in
-    header-taken (kept .before .args .t1) (kept .header-held .result) (apart .fault-unless .result) (kept .header-held .ensures) (apart .fault-unless .ensures)
+    header-by-held (kept .before .args .t1) (kept .header-held .result) (apart .fault-unless .result) (kept .header-held .ensures) (apart .fault-unless .ensures)
     (fault .header-fault .ensures) (c .earlier .ensures)
 
 returns : tie.Need-returns

@@ -6,7 +6,7 @@ use Rattle.sheet.specs.declared.Outcome.{Outcome}
 use Rattle.sheet.specs.Refusals.{toldOutcome}
 use Rattle.numbers.specs.From.{recordFrom}
 use Rattle.numbers.proofs.Places.{carrying}
-use Rattle.numbers.proofs.Taken.{record-taken}
+use Rattle.numbers.proofs.Taken.{record-by-held}
 use Rattle.numbers.proofs.record_from.Statement.{statement}
 use Rattle.numbers.proofs.record_from.Tie as tie
 
@@ -17,7 +17,7 @@ found c =
     let fault = apart .before in
     let kept = fault .before in
     let a = kept .before .args in
-    record-taken (a .i) (a .f) (kept .record-held .result) (apart .record-apart .result) (kept .record-held .ensures) (apart .record-apart .ensures)
+    record-by-held (a .i) (a .f) (kept .record-held .result) (apart .record-apart .result) (kept .record-held .ensures) (apart .record-apart .ensures)
     (fault .record-fault .ensures) (c .earlier .ensures)
 
 returns : tie.Need-returns
