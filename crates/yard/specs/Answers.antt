@@ -22,8 +22,9 @@ use Rattle.checker.specs.Entry.{verdictLines, verdictWidths, entryAt, entryIn, 
 use Rattle.checker.specs.Check.{_then_, sheetIn, failures, verdicts, Totals, answerOf}
 use Rattle.checker.specs.CheckLaws.{answer-sheet}
 use Rattle.checker.specs.Bounds.{Row, Refusable, row, most, fault-told as fault-row, by-test, then-told, read-header-told as read-header-row, record-told as record-row, sheet-told, sheet-counts}
+use Rattle.numbers.specs.From.{numbersFrom, headerNumbersFault, plateNumbered, recordOfNumbers, plateFields, recordNumbersFault}
 use Rattle.yard.specs.PackedLaws.{Told, Answered}
-use Rattle.yard.specs.Writing.{numbersFrom, headerNumbersFault, writeHeaderNumbers, plateNumbered, plateFields, recordFrom, recordNumbersFault, writeRecordNumbers}
+use Rattle.yard.specs.Writing.{writeHeaderNumbers, writeRecordNumbers}
 
 -- a row of the table has a number, and its place is far below the unit of numbers
 row-told : {A : Type 0} (x : Answer A) → Refusable x → Told x
@@ -68,7 +69,7 @@ write-header-told ns o =
 pub write-record-told : (ns o : List ℕ) → Told (writeRecordNumbers ns o .answer)
 unfolding writeRecordNumbers recordNumbersFault
 write-record-told ns o =
-    written-told (recordCases 0) (recordNumbersFault ns) (recordBytes (recordFrom ns)) o
+    written-told (recordCases 0) (recordNumbersFault ns) (recordBytes (recordOfNumbers ns)) o
     (fault-row (recordCases 0) (recordNumbersFault ns) (tt {0}) (row 6 0 (omega arith) (omega arith) (omega arith))
     (row 7 (32 * 0 + recordNumbersFault ns) (omega arith) (omega arith) (omega (arith, go (plateNumbered ns)))))
   where

@@ -1,15 +1,7 @@
--- Fields as numbers in layout order, as they cross to C: those of a verdict, a header and a record.
+-- Fields as numbers in layout order, as they cross to C: an answer with such numbers, and those of a verdict.
 use Prim.Native.Nat.{ℕ}
-use mathlib.Core.Bool.{cond}
-use mathlib.Core.List.{List, [], _∷_, _++_}
-use Rattle.sheet.specs.declared.Header.{Header}
-use Rattle.sheet.specs.declared.Plate.{Plate}
-use Rattle.sheet.specs.declared.Member.{Member}
-use Rattle.sheet.specs.declared.Body.{Body}
-use Rattle.sheet.specs.declared.Body.the-variants.{Plate as isPlate, Member as isMember}
-use Rattle.sheet.specs.declared.Record.{Record}
+use mathlib.Core.List.{List, [], _∷_}
 use Rattle.sheet.specs.Refusals.{Answer, given, refused}
-use Rattle.sheet.specs.Record.{plateValues, memberValues}
 use Rattle.checker.specs.declared.Entry.{Entry}
 
 -- an answer whose content is given as numbers
@@ -20,23 +12,3 @@ numbered numbers (refused k p) = refused k p
 -- a verdict: id, rule, required
 abbrev pub entryNumbers : Entry → List ℕ
 entryNumbers e = e .id ∷ e .rule ∷ e .required ∷ []
-
--- a header: version, L, D0, H, runs, M, ZB, n
-abbrev pub headerNumbers : Header → List ℕ
-headerNumbers h =
-    h .version ∷ h .length .0 ∷ h .draught .0 ∷ h .wave .0 ∷ cond (h .«two_runs») 1 0 ∷ h .moment ∷ h .«bottom_modulus» ∷ h .count ∷ []
-
--- a plate: kind, id, K, z, S, T, b1, b2, ballast, zL, cargo pressure, and two that are 0
-abbrev pub plateNumbers : (kind id : ℕ) → Plate → List ℕ
-plateNumbers kind id p = plateValues kind id p 0 ++ 0 ∷ []
-
--- a member: kind, id, z, S, l, T, βb, βs, η, σ1, W, A, K
-abbrev pub memberNumbers : (kind id : ℕ) → Member → List ℕ
-memberNumbers kind id m = memberValues kind id m
-
-abbrev pub bodyNumbers : (kind id : ℕ) → Body → List ℕ
-bodyNumbers kind id (isPlate p) = plateNumbers kind id p
-bodyNumbers kind id (isMember m) = memberNumbers kind id m
-
-abbrev pub recordNumbers : Record → List ℕ
-recordNumbers r = bodyNumbers (r .kind) (r .id) (r .body)

@@ -1,7 +1,6 @@
 pub mod Packed
 pub mod Fields
 pub mod Writing
-pub mod Held
 pub mod PackedLaws
 pub mod Only
 pub mod Back

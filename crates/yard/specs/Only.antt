@@ -7,8 +7,9 @@ use Rattle.sheet.specs.Refusals.{Answer, Wrote as WroteBy}
 use Rattle.sheet.specs.Header.{readHeader}
 use Rattle.sheet.specs.Record.{readRecord}
 use Rattle.checker.specs.Entry.{readEntry}
+use Rattle.numbers.specs.Fields.{headerNumbers, recordNumbers}
 use Rattle.yard.specs.Packed.{Checks, Reads, Wrote}
-use Rattle.yard.specs.Fields.{numbered, entryNumbers, headerNumbers, recordNumbers}
+use Rattle.yard.specs.Fields.{numbered, entryNumbers}
 use Rattle.yard.specs.Writing.{writeHeaderNumbers, writeRecordNumbers}
 
 pub check-only : (s out : List ℕ) (q r : ℕ) (x y : List ℕ) → Checks s out q x → Checks s out r y → (q ≡ r) × (x ≡ y)

@@ -3,7 +3,7 @@
 use borrow.Author.Needs.{needs}
 use mathlib.Core.Path.{ap, sym, _∙_, refl}
 use Rattle.sheet.specs.Refusals.{toldHeader}
-use Rattle.yard.specs.Fields.{headerNumbers}
+use Rattle.numbers.specs.Fields.{headerNumbers}
 use Rattle.yard.proofs.Reading.{reads-as}
 use Rattle.yard.proofs.yard_read_header.Statement.{statement}
 use Rattle.yard.proofs.yard_read_header.Tie as tie

@@ -3,7 +3,7 @@
 use borrow.Author.Needs.{needs}
 use mathlib.Core.Path.{ap, sym, _∙_, refl}
 use Rattle.sheet.specs.Refusals.{toldRecord}
-use Rattle.yard.specs.Fields.{recordNumbers}
+use Rattle.numbers.specs.Fields.{recordNumbers}
 use Rattle.yard.proofs.Reading.{reads-as}
 use Rattle.yard.proofs.yard_read_record.Statement.{statement}
 use Rattle.yard.proofs.yard_read_record.Tie as tie

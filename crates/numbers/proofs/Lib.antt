@@ -1,0 +1,5 @@
+pub mod First
+pub mod Kept
+pub mod Numbers
+pub mod Places
+pub mod Taken

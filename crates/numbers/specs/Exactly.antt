@@ -1,0 +1,70 @@
+-- Each answer about numbers is given exactly when its case of the table holds and none before it does.
+-- Assumes nothing.
+use Prim.Native.Nat.{ℕ, _+_, _*_}
+use mathlib.Core.Path.{_≡_, refl, ap}
+use mathlib.Core.Bool.{Bool, true, false, cond}
+use mathlib.Core.List.{List, [], _∷_, _++_}
+use lib.ListN.{length}
+use Rattle.layout.specs.Line.{Line, Allowed, faultFrom}
+use Rattle.layout.specs.LineLaws.{FirstFault}
+use Rattle.sheet.specs.declared.Header.{Header}
+use Rattle.sheet.specs.declared.Record.{Record}
+use Rattle.sheet.specs.Lines.{headerLines}
+use Rattle.sheet.specs.Refusals.{given, refused, recordRefused}
+use Rattle.sheet.specs.Header.{headerAt}
+use Rattle.sheet.specs.Record.{plateLinesOf, memberLinesOf}
+use Rattle.sheet.specs.Exactly.{Exactly, LaterFault, byFields, exactly-of, fields-first, fields-later, fields-given}
+use Rattle.sheet.specs.HeaderExactly.{headerCases}
+use Rattle.sheet.specs.RecordExactly.{recordCases}
+use Rattle.numbers.specs.From.{numbersFrom, headerNumbersFault, headerFrom, plateNumbered, recordOfNumbers, plateFields, recordNumbersFault, recordFrom}
+
+module _ (ns : List ℕ) where
+  -- a header's numbers as its fields
+  abbrev pub headerFields : List ℕ
+  headerFields = numbersFrom 0 8 ns ++ 0 ∷ []
+
+  pub header-from-2 : (p : ℕ) → Exactly (headerFrom ns ≡ refused 2 p) (FirstFault 0 headerLines headerFields × (p ≡ 0))
+  unfolding headerFrom headerNumbersFault
+  header-from-2 p = fields-first headerCases headerLines headerFields refl (headerAt ns) p
+
+  pub header-from-3 : (p : ℕ) → Exactly (headerFrom ns ≡ refused 3 p) (LaterFault (λ k. k) headerLines headerFields p)
+  unfolding headerFrom headerNumbersFault
+  header-from-3 p = fields-later headerCases headerLines headerFields refl (headerAt ns) p
+
+  pub header-from-given : (h : Header) → Exactly (headerFrom ns ≡ given h) (Allowed headerLines headerFields × (headerAt ns ≡ h))
+  unfolding headerFrom headerNumbersFault
+  header-from-given h = fields-given headerCases headerLines headerFields refl (headerAt ns) h
+
+  -- a record's numbers as its fields
+  abbrev pub recordFields : List ℕ
+  recordFields = cond (plateNumbered ns) (plateFields ns) (numbersFrom 0 13 ns)
+
+  -- and the lines that they answer to
+  abbrev pub recordLines : List Line
+  recordLines = cond (plateNumbered ns) (plateLinesOf ns) (memberLinesOf ns)
+
+  same : length recordFields ≡ length recordLines
+  same = go (plateNumbered ns)
+    where
+      go : (t : Bool) → length (cond t (plateFields ns) (numbersFrom 0 13 ns)) ≡ length (cond t (plateLinesOf ns) (memberLinesOf ns))
+      go true = refl
+      go false = refl
+
+  module _ (i : ℕ) where
+    by-fields : recordFrom i ns ≡ byFields (recordCases i) recordLines recordFields (recordOfNumbers ns)
+    unfolding recordFrom recordNumbersFault
+    by-fields = ap (λ (f : ℕ). recordRefused i f (given (recordOfNumbers ns))) (go (plateNumbered ns))
+      where
+        go : (t : Bool) → cond t (faultFrom 1 (plateLinesOf ns) (plateFields ns)) (faultFrom 1 (memberLinesOf ns) (numbersFrom 0 13 ns))
+            ≡ faultFrom 1 (cond t (plateLinesOf ns) (memberLinesOf ns)) (cond t (plateFields ns) (numbersFrom 0 13 ns))
+        go true = refl
+        go false = refl
+
+    pub record-from-6 : (p : ℕ) → Exactly (recordFrom i ns ≡ refused 6 p) (FirstFault 0 recordLines recordFields × (p ≡ i))
+    record-from-6 p = exactly-of by-fields (fields-first (recordCases i) recordLines recordFields same (recordOfNumbers ns) p)
+
+    pub record-from-7 : (p : ℕ) → Exactly (recordFrom i ns ≡ refused 7 p) (LaterFault (λ k. 32 * i + k) recordLines recordFields p)
+    record-from-7 p = exactly-of by-fields (fields-later (recordCases i) recordLines recordFields same (recordOfNumbers ns) p)
+
+    pub record-from-given : (r : Record) → Exactly (recordFrom i ns ≡ given r) (Allowed recordLines recordFields × (recordOfNumbers ns ≡ r))
+    record-from-given r = exactly-of by-fields (fields-given (recordCases i) recordLines recordFields same (recordOfNumbers ns) r)
