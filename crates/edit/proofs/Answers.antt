@@ -17,13 +17,14 @@ use Rattle.sheet.specs.Refusals.{Answer, given, refused, numberOf, placeOf as p
 use Rattle.sheet.specs.RefusalLaws.{at-none, by-none, given-refused, given-same, refused-number, refused-place}
 use Rattle.sheet.specs.Header.{headerFault}
 use Rattle.sheet.specs.Record.{recordFault}
+use Rattle.numbers.specs.From.{recordFrom}
 use Rattle.checker.specs.Check.{_then_, demand, Sheet}
 use Rattle.checker.specs.CheckLaws.{then-given}
 use Rattle.checker.specs.Unjudged.{soundHeader}
 use Rattle.edit.specs.declared.Edited.the-variants.{Length, Refused as notEdited}
 use Rattle.edit.specs.Keyed.{placeOf, hasOf}
 use Rattle.edit.specs.KeyedPlaces.{place-le, has-lt}
-use Rattle.edit.specs.Edit.{sheetAt, headerOf, start, idOf, counting, replacing, inserting, removing, After, hasRoom, placing, putIn, removeIn, sizeBy, bytesBy, Edits}
+use Rattle.edit.specs.Edit.{sheetAt, headerOf, start, idOf, counting, replacing, inserting, removing, After, hasRoom, placing, putIn, putNumbersIn, removeIn, sizeBy, bytesBy, Edits}
 use Rattle.edit.specs.Steps.{placeIn, hasIn, Known}
 use Rattle.edit.specs.HeaderCount.{counting-sound, counting-few}
 use Rattle.edit.specs.Taken.{Taken, taken-at, place-same, has-same}
@@ -94,6 +95,10 @@ module _ (b : List ℕ) (len : ℕ) where
   unfolding putIn _then_
   put-refused r x e = refused-edits (putIn b len r) b x (rw (sheet-refused b len (numberOf x) (placeIn-table x) e))
 
+  pub numbers-turned : (ns : List ℕ) (x : Refusal) → told x ≡ headerOf b len → Edits (putNumbersIn b len ns) b (notEdited x) b
+  unfolding putNumbersIn _then_
+  numbers-turned ns x e = refused-edits (putNumbersIn b len ns) b x (rw (sym e))
+
   pub remove-refused : (id : ℕ) (x : Refusal) → told x ≡ headerOf b len → Edits (removeIn b len id) b (notEdited x) b
   unfolding removeIn _then_
   remove-refused id x e = refused-edits (removeIn b len id) b x (rw (sheet-refused b len (numberOf x) (placeIn-table x) e))
@@ -147,6 +152,21 @@ module _ (b : List ℕ) (len : ℕ) where
           let counted : g ≡ counting (t .header .count - 1) (t .header) = f ∙ ap (λ (x : Header). counting (x .count - 1) x) (k .header) in
           let bytes : removing (counting (t .header .count - 1) (t .header)) i len b ≡ after = sym (w ∙ ap₂ (λ (x : Header) (y : ℕ). removing x y len b) counted place-is) in
           given-edits (removeIn b len id) b after (len - 16) (rw (k .found, sym has-is ∙ e) (ap (λ (x : List ℕ). given (record { size = len - 16; bytes = x })) bytes))
+
+    -- ---- numbers
+
+    module _ (ns : List ℕ) where
+      numbers-are : (x : Answer Record) → recordFrom n ns ≡ x → putNumbersIn b len ns ≡ (x then λ r. putIn b len r)
+      unfolding putNumbersIn headerOf _then_
+      numbers-are x e = rw (k .found) (ap (λ (m : ℕ). recordFrom m ns then λ r. putIn b len r) same-count ∙ ap (λ (y : Answer Record). y then λ r. putIn b len r) e)
+
+      pub numbers-refused : (x : Refusal) → told x ≡ recordFrom n ns → Edits (putNumbersIn b len ns) b (notEdited x) b
+      unfolding _then_
+      numbers-refused x e = refused-edits (putNumbersIn b len ns) b x (numbers-are (told x) (sym e))
+
+      pub numbers-taken : (r : Record) → given r ≡ recordFrom n ns → putNumbersIn b len ns ≡ putIn b len r
+      unfolding _then_
+      numbers-taken r e = numbers-are (given r) (sym e)
 
     -- ---- a new record
 

@@ -11,6 +11,7 @@ use Rattle.sheet.specs.Lines.{counts}
 use Rattle.sheet.specs.Refusals.{Answer, given, refused, told, recordRefused}
 use Rattle.sheet.specs.Header.{headerBytes}
 use Rattle.sheet.specs.Record.{recordFault, recordBytes}
+use Rattle.numbers.specs.From.{recordFrom}
 use Rattle.checker.specs.Check.{_then_, demand, part, Sheet}
 use Rattle.checker.specs.Unjudged.{soundSheet}
 use Rattle.edit.specs.declared.Edited.{Edited}
@@ -89,6 +90,10 @@ putIn b len r =
     sheetAt b len
     then λ t. recordRefused (t .header .count) (recordFault r 0) (given (tt {0}))
     then λ u. placing t b len r
+
+-- the record that numbers are, as record n of the sheet, put in
+unfoldable pub putNumbersIn : (buffer : List ℕ) (len : ℕ) (ns : List ℕ) → Answer After
+putNumbersIn b len ns = headerOf b len then λ h. recordFrom (h .count) ns then λ r. putIn b len r
 
 -- the record of an id taken out: 10 where none has it
 unfoldable pub removeIn : (buffer : List ℕ) (len id : ℕ) → Answer After

@@ -8,3 +8,5 @@ pub mod Taken
 pub mod HeaderCount
 pub mod Rebuilt
 pub mod Outcomes
+pub mod Only
+pub mod Sequences

@@ -61,7 +61,7 @@ module _ (b : List ℕ) (len : ℕ) (t : Sheet) where
 
       go : (has : Bool) → hasOf idOf (r .id) (t .records) ≡ has
           → cond has (given (record { size = len; bytes = replacing i r b }))
-              (demand (hasRoom n len (length b)) 11 then λ u. given (record { size = len + 16; bytes = inserting (counting (n + 1) (t .header)) i len r b }))
+          (demand (hasRoom n len (length b)) 11 then λ u. given (record { size = len + 16; bytes = inserting (counting (n + 1) (t .header)) i len r b }))
           ≡ given a → Put r a
       go true f g = replaces f (sym (given-same g))
       go false f g =
@@ -128,7 +128,7 @@ module _ (b : List ℕ) (len : ℕ) (t : Sheet) (found : sheetAt b len ≡ given
         let m : i < h .count = omega (arith, has-lt idOf (r .id) rs has, k .number) in
         let put : putOf idOf r rs ≡ take i rs ++ ((r ∷ []) ++ drop (i + 1) rs) = put-at idOf r rs ∙ rw has (ap (λ (j : ℕ). take i rs ++ (r ∷ drop j rs)) next) in
         let many : length (putOf idOf r rs) ≡ h .count =
-            ap length put ∙ omega (arith, length-append (take i rs) (r ∷ drop (i + 1) rs), length-take-le i rs (omega (arith, k .number)), length-drop (i + 1) rs, k .number) in
+        ap length put ∙ omega (arith, length-append (take i rs) (r ∷ drop (i + 1) rs), length-take-le i rs (omega (arith, k .number)), length-drop (i + 1) rs, k .number) in
         in-words _ a h _ (putOf idOf r rs)
         (ap (λ (x : After). x .bytes) e ∙ replaced-bytes b len t k i inside m r)
         (ap (λ (x : After). x .size) e ∙ k .whole)
@@ -141,7 +141,7 @@ module _ (b : List ℕ) (len : ℕ) (t : Sheet) (found : sheetAt b len ≡ given
         let sound = counting-sound h (h .count + 1) (k .sound) (omega arith) in
         let put : putOf idOf r rs ≡ take i rs ++ ((r ∷ []) ++ drop i rs) = put-at idOf r rs ∙ rw new in
         let many : length (putOf idOf r rs) ≡ h .count + 1 =
-            ap length put ∙ omega (arith, length-append (take i rs) (r ∷ drop i rs), length-take-le i rs (omega (arith, k .number, inside)), length-drop i rs, k .number, inside) in
+        ap length put ∙ omega (arith, length-append (take i rs) (r ∷ drop i rs), length-take-le i rs (omega (arith, k .number, inside)), length-drop i rs, k .number, inside) in
         in-words _ a g _ (putOf idOf r rs)
         (ap (λ (x : After). x .bytes) e ∙ inserted-bytes b len t k i inside g r)
         (ap (λ (x : After). x .size) e ∙ omega (arith, k .whole))
@@ -166,7 +166,7 @@ module _ (b : List ℕ) (len : ℕ) (t : Sheet) (found : sheetAt b len ≡ given
       let within : j ≤ h .count = omega arith in
       let out : outOf idOf id rs ≡ take j rs ++ ([] ++ drop (j + 1) rs) = out-at idOf id rs (d .there) ∙ ap (λ (x : ℕ). take j rs ++ drop x rs) next in
       let many : length (outOf idOf id rs) ≡ h .count - 1 =
-          ap length out ∙ omega (arith, length-append (take j rs) (drop (j + 1) rs), length-take-le j rs (omega (arith, k .number)), length-drop (j + 1) rs, k .number) in
+      ap length out ∙ omega (arith, length-append (take j rs) (drop (j + 1) rs), length-take-le j rs (omega (arith, k .number)), length-drop (j + 1) rs, k .number) in
       in-words _ a g _ (outOf idOf id rs)
       (ap (λ (x : After). x .bytes) (d .after) ∙ removed-bytes b len t k j within m g)
       (ap (λ (x : After). x .size) (d .after) ∙ omega (arith, k .whole))

@@ -199,7 +199,7 @@ module _ (b : List ℕ) (len : ℕ) (t : Sheet) (k : Taken b len t) (i : ℕ) wh
         let e : start i + 16 ≡ start (i + 1) = omega arith in
         let f : start (i + 1 + (n - (i + 1))) ≡ len = omega (arith, k .whole) in
         let rest : drop (start i + 16) b ≡ join (partsFrom b (i + 1) (n - (i + 1))) ++ drop len b =
-            ap (λ (m : ℕ). drop m b) e ∙ back-cut b (i + 1) (n - (i + 1)) (omega (arith, k .fits)) ∙ ap (λ (m : ℕ). join (partsFrom b (i + 1) (n - (i + 1))) ++ drop m b) f in
+        ap (λ (m : ℕ). drop m b) e ∙ back-cut b (i + 1) (n - (i + 1)) (omega (arith, k .fits)) ∙ ap (λ (m : ℕ). join (partsFrom b (i + 1) (n - (i + 1))) ++ drop m b) f in
         ap₂ (λ (u v : List ℕ). u ++ (recordBytes r ++ v)) (front-cut b i (omega (arith, k .fits, k .whole))) rest
         ∙ regroup (take 12 b) (join (partsFrom b 0 i)) (recordBytes r) (join (partsFrom b (i + 1) (n - (i + 1)))) (drop len b)
         ∙ ap (λ (u : List ℕ). take 12 b ++ (u ++ drop len b)) (sym (join-append (partsFrom b 0 i) (recordBytes r ∷ partsFrom b (i + 1) (n - (i + 1)))))

@@ -6,6 +6,7 @@ use sheet::Header;
 use sheet::HeaderRead;
 use sheet::Outcome;
 use sheet::Record;
+use sheet::RecordRead;
 use sheet::Refusal;
 ghost use mathlib.Core.Path.{_≡_};
 ghost use mathlib.Core.Bool.{true, false};
@@ -13,7 +14,7 @@ ghost use Prim.Native.Nat.{_+_, _*_, _≤_};
 ghost use lib.ListN.{length};
 ghost use Rattle.sheet.specs.Refusals.{toldHeader};
 ghost use Rattle.sheet.specs.Record.{recordFault};
-ghost use Rattle.edit.specs.Edit.{headerOf, start, counting, replacing, inserting, removing, putIn, removeIn, Edits};
+ghost use Rattle.edit.specs.Edit.{headerOf, start, counting, replacing, inserting, removing, putIn, putNumbersIn, removeIn, Edits};
 ghost use Rattle.edit.specs.Steps.{placeIn, hasIn, Known, Fits, Stands};
 
 // The sheet's length after an edit, or why there was none.
@@ -138,6 +139,23 @@ pub fn put(buf: &mut [u8], len: usize, r: Record) -> Edited
             match found {
                 Outcome::Refused(x) => Edited::Refused(x),
                 Outcome::Fine => put_sound(buf, len, h, r),
+            }
+        }
+    }
+}
+
+// The same of the record that thirteen numbers are; one that its field does not allow is refused at that field, however great it is.
+pub fn put_numbers(buf: &mut [u8], len: usize, f: [u32; 13]) -> Edited
+    ensures { λ e. ⌜ Edits (putNumbersIn (now (buf .entry)) len f) (now (buf .entry)) e (now (buf .exit)) ⌝ }
+{
+    let read = sheet_at(buf, len);
+    match read {
+        HeaderRead::Refused(x) => Edited::Refused(x),
+        HeaderRead::Good(h) => {
+            let taken = numbers::record_from(f, h.count);
+            match taken {
+                RecordRead::Refused(x) => Edited::Refused(x),
+                RecordRead::Good(r) => put(buf, len, r),
             }
         }
     }
