@@ -5,10 +5,13 @@
 mod chance;
 mod draft;
 mod edge;
+mod edits;
 mod record;
 mod spoil;
 mod vessel;
 
+use crate::edit::Edit;
+use crate::edit_stream::Lent;
 use crate::form::{HEADER_BYTES, RECORD_BYTES};
 use crate::limits::{ID_HIGHEST, N_HIGHEST};
 use crate::stream::LONGEST_SHEET;
@@ -85,6 +88,12 @@ pub fn sheets(seed: u64) -> impl Iterator<Item = Vec<u8>> {
     let mut chance = Chance::new(seed);
     let mut edges = Edges::new();
     std::iter::repeat_with(move || one(&mut chance, &mut edges))
+}
+
+/// Case after case of edits, without end.
+pub fn edit_cases(seed: u64) -> impl Iterator<Item = (Lent, Vec<Edit>)> {
+    let mut chance = Chance::new(seed);
+    std::iter::repeat_with(move || edits::case(&mut chance))
 }
 
 fn one(chance: &mut Chance, edges: &mut Edges) -> Vec<u8> {
