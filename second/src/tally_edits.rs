@@ -7,7 +7,7 @@ use crate::limits::N_HIGHEST;
 use std::collections::BTreeMap;
 
 /// A row that must come up does so at least so often.
-pub const ENOUGH: usize = 50;
+pub const ENOUGH: usize = 30;
 
 /// The rows that must come up, in the order of the table.
 pub const ROWS: [&str; 15] = [

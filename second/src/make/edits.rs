@@ -3,29 +3,37 @@
 
 use super::chance::Chance;
 use super::draft::Draft;
-use super::{noise, record, sound, spoil};
+use super::faults::Faults;
+use super::spoil;
+use super::whole::{noise, sound};
 use crate::edit::Edit;
 use crate::edit_stream::{Lent, LARGEST_BUFFER};
-use crate::form::{Form, RECORD_NUMBERS};
-use crate::limits::{in_record, ID_HIGHEST, N_HIGHEST};
+use crate::limits::{ID_HIGHEST, N_HIGHEST};
 use std::collections::BTreeSet;
 
-/// Kinds that no record has; the wider ones have the low bits of a kind.
-const NO_KINDS: [u32; 9] = [0, 9, 10, 15, 16 + 2, 256 + 5, 300, 65_536 + 1, u32::MAX];
-
-/// A case: what is lent, and the edits in turn.
-pub fn case(chance: &mut Chance) -> (Lent, Vec<Edit>) {
-    match chance.below(1000) {
-        0 => in_the_largest_buffer(chance),
-        1..15 => full(chance),
-        15..270 => on_a_spoilt_sheet(chance),
-        270..350 => with_a_wrong_length(chance),
-        350..370 => on_noise(chance),
-        _ => on_a_sound_sheet(chance),
-    }
+/// What the edits of a case begin with. The draft is sound even where the sheet
+/// as lent is not.
+struct Ground {
+    lent: Lent,
+    draft: Draft,
+    edits: i128,
 }
 
-/// The bytes and as many more of no meaning.
+/// A case: what is lent, and the edits in turn.
+pub fn case(chance: &mut Chance, faults: &mut Faults) -> (Lent, Vec<Edit>) {
+    let ground = match chance.below(1000) {
+        0 => in_the_largest_buffer(chance),
+        1..15 => full(chance),
+        15..270 => spoilt(chance),
+        270..350 => with_a_wrong_length(chance),
+        350..370 => only_noise(chance),
+        _ => small(chance),
+    };
+    let edits = edits(chance, faults, &ground);
+    (ground.lent, edits)
+}
+
+/// The bytes of a sheet, and as many more of no meaning.
 fn lend(chance: &mut Chance, mut bytes: Vec<u8>, more: usize) -> Lent {
     let length = bytes.len();
     bytes.extend((0..more).map(|_| chance.byte()));
@@ -42,27 +50,47 @@ fn room(chance: &mut Chance) -> usize {
     *chance.of(&[0, 1, 15, 16, 16, 17, 31, 32, 33, 48, 64, any, any])
 }
 
-fn on_a_sound_sheet(chance: &mut Chance) -> (Lent, Vec<Edit>) {
+/// Where the sheet is turned away each edit gets the same refusal.
+fn few(chance: &mut Chance) -> i128 {
+    *chance.of(&[0, 1, 1, 1, 2, 2, 3])
+}
+
+fn small(chance: &mut Chance) -> Ground {
     let n = *chance.of(&[0, 1, 1, 2, 2, 3, 3, 4, 5, 6, 8, 10, 12]);
+    let draft = sound(chance, n);
     let more = room(chance);
-    let count = chance.between(8, 12);
-    edited(chance, n, more, count)
+    Ground {
+        lent: lend(chance, draft.bytes(), more),
+        draft,
+        edits: chance.between(8, 12),
+    }
 }
 
-/// Few, since each answer to them is as long as the longest sheet.
-fn full(chance: &mut Chance) -> (Lent, Vec<Edit>) {
+/// Not often, since each answer is as long as the longest sheet.
+fn full(chance: &mut Chance) -> Ground {
     let n = N_HIGHEST - chance.of(&[0, 0, 0, 1]);
+    let draft = sound(chance, n);
     let more = *chance.of(&[0, 15, 16, 16, 17, 17, 32, 33, 48]);
-    edited(chance, n, more, 8)
+    Ground {
+        lent: lend(chance, draft.bytes(), more),
+        draft,
+        edits: 8,
+    }
 }
 
-fn in_the_largest_buffer(chance: &mut Chance) -> (Lent, Vec<Edit>) {
+fn in_the_largest_buffer(chance: &mut Chance) -> Ground {
     let n = chance.between(0, 12);
-    let more = LARGEST_BUFFER - 12 - 16 * n as usize;
-    edited(chance, n, more, 2)
+    let draft = sound(chance, n);
+    let bytes = draft.bytes();
+    let more = LARGEST_BUFFER - bytes.len();
+    Ground {
+        lent: lend(chance, bytes, more),
+        draft,
+        edits: 2,
+    }
 }
 
-fn on_a_spoilt_sheet(chance: &mut Chance) -> (Lent, Vec<Edit>) {
+fn spoilt(chance: &mut Chance) -> Ground {
     let n = chance.between(1, 6);
     let draft = sound(chance, n);
     let mut spoilt = draft.clone();
@@ -76,13 +104,16 @@ fn on_a_spoilt_sheet(chance: &mut Chance) -> (Lent, Vec<Edit>) {
         spoil::bytes(chance, &mut bytes);
     }
     let more = room(chance);
-    let lent = lend(chance, bytes, more);
-    some_edits(chance, lent, &draft)
+    Ground {
+        lent: lend(chance, bytes, more),
+        draft,
+        edits: few(chance),
+    }
 }
 
-/// The sheet is sound; its length is stated past the buffer, under a header's or
+/// A sound sheet whose length is stated past the buffer, under a header's or
 /// beside the right one.
-fn with_a_wrong_length(chance: &mut Chance) -> (Lent, Vec<Edit>) {
+fn with_a_wrong_length(chance: &mut Chance) -> Ground {
     let n = chance.between(0, 4);
     let draft = sound(chance, n);
     let more = room(chance);
@@ -94,43 +125,36 @@ fn with_a_wrong_length(chance: &mut Chance) -> (Lent, Vec<Edit>) {
         2 => *chance.of(&[right - 1, right.saturating_sub(16)]),
         3 => *chance.of(&[right + 1, right + 16]),
         _ => {
-            // A buffer that ends within the sheet, stated whole or as short as it is.
+            // The buffer ends within the sheet, which is stated whole or so short.
             lent.buffer.truncate(chance.below(right));
             *chance.of(&[right, lent.buffer.len()])
         }
     };
-    some_edits(chance, lent, &draft)
+    Ground {
+        lent,
+        draft,
+        edits: few(chance),
+    }
 }
 
-fn on_noise(chance: &mut Chance) -> (Lent, Vec<Edit>) {
+fn only_noise(chance: &mut Chance) -> Ground {
     let bytes = noise(chance);
     let more = room(chance);
-    let lent = lend(chance, bytes, more);
-    let draft = sound(chance, 0);
-    some_edits(chance, lent, &draft)
+    Ground {
+        lent: lend(chance, bytes, more),
+        draft: sound(chance, 0),
+        edits: few(chance),
+    }
 }
 
-/// Few edits: where the sheet is turned away, each gets the same refusal.
-fn some_edits(chance: &mut Chance, lent: Lent, draft: &Draft) -> (Lent, Vec<Edit>) {
-    let count = *chance.of(&[0, 1, 1, 1, 2, 2, 3]);
-    let edits = edits(chance, lent.clone(), draft, count);
-    (lent, edits)
-}
-
-fn edited(chance: &mut Chance, n: i128, more: usize, count: i128) -> (Lent, Vec<Edit>) {
-    let draft = sound(chance, n);
-    let lent = lend(chance, draft.bytes(), more);
-    let edits = edits(chance, lent.clone(), &draft, count);
-    (lent, edits)
-}
-
-/// Edits of the draft as it is lent. They are done as they are made, so that each
-/// knows which ids are there.
-fn edits(chance: &mut Chance, mut lent: Lent, draft: &Draft, count: i128) -> Vec<Edit> {
+/// The edits are done as they are made, so that each knows which ids are there.
+fn edits(chance: &mut Chance, faults: &mut Faults, ground: &Ground) -> Vec<Edit> {
+    let Ground { draft, .. } = ground;
+    let mut lent = ground.lent.clone();
     let mut ids: BTreeSet<i128> = draft.records.iter().map(|form| form.get("id")).collect();
     let mut last = chance.between(1, ID_HIGHEST);
     let mut edits = Vec::new();
-    for _ in 0..count {
+    for _ in 0..ground.edits {
         // A full sheet is there for the ids that it has no room for.
         let crowded = ids.len() as i128 >= N_HIGHEST - 1 && !chance.one_in(4);
         let id = match chance.below(8) {
@@ -140,9 +164,9 @@ fn edits(chance: &mut Chance, mut lent: Lent, draft: &Draft, count: i128) -> Vec
             2..5 => there(chance, &ids),
             _ => not_there(chance, &ids),
         };
-        let put = chance.below(5) < if ids.contains(&id) { 2 } else { 4 };
-        let edit = if put {
-            Edit::Put(numbers(chance, &draft.header, id))
+        let puts = if ids.contains(&id) { 2 } else { 4 };
+        let edit = if chance.below(5) < puts {
+            Edit::Put(faults.numbers(chance, &draft.header, id))
         } else {
             Edit::Remove(removed(chance, id))
         };
@@ -192,49 +216,5 @@ fn removed(chance: &mut Chance, id: i128) -> u32 {
         0 => *chance.of(&[0, 1001, 1023, 1024, 65_535, 65_536, u32::MAX]),
         1 => id + chance.of(&[1 << 10, 1 << 16, 1 << 31]),
         _ => id,
-    }
-}
-
-/// A record of this id as numbers: sound, or with a fault or two.
-fn numbers(chance: &mut Chance, header: &Form, id: i128) -> [u32; RECORD_NUMBERS] {
-    let form = record::record(chance, header, id);
-    let mut numbers = [0; RECORD_NUMBERS];
-    for (number, value) in numbers.iter_mut().zip(&form.values) {
-        *number = *value as u32;
-    }
-    if chance.one_in(5) {
-        for _ in 0..*chance.of(&[1, 1, 1, 2]) {
-            spoil_numbers(chance, &form, &mut numbers);
-        }
-    }
-    numbers
-}
-
-/// Another kind, a number past a plate's cargo, or one field at or past an end of
-/// its values, far past it, or with bits above its own.
-fn spoil_numbers(chance: &mut Chance, form: &Form, numbers: &mut [u32; RECORD_NUMBERS]) {
-    let any_kind = chance.between(1, 8) as u32;
-    let index = chance.below(form.layout.len());
-    let (name, width) = form.layout[index];
-    match chance.below(8) {
-        0 => numbers[0] = *chance.of(&NO_KINDS),
-        1 => numbers[0] = any_kind,
-        _ if name == "zero" => {
-            // The two add up to 0 in 32 bits where the first is the greatest.
-            let [first, second] =
-                *chance.of(&[[1, 0], [0, 1], [u32::MAX, 1], [1 << 20, 0], [0, u32::MAX]]);
-            numbers[index..].copy_from_slice(&[first, second]);
-        }
-        2 => numbers[index] = *chance.of(&[1 << 16, 1 << 31, u32::MAX]),
-        3 => {
-            let above = *chance.of(&[1 << width, 1 << 16, 1 << 31]);
-            numbers[index] = numbers[index].wrapping_add(above);
-        }
-        _ => {
-            let allowed = in_record(form, name);
-            let (lowest, highest) = (allowed.lowest(), allowed.highest());
-            let wanted = *chance.of(&[lowest, lowest - 1, highest, highest + 1, highest + 1]);
-            numbers[index] = wanted.max(0) as u32;
-        }
     }
 }
