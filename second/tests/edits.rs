@@ -8,7 +8,6 @@ use second::edit_stream::Lent;
 use second::form::{Form, HEADER_BYTES, RECORD_BYTES};
 use second::limits::in_record;
 use second::make::edit_cases;
-use second::refusal::Refusal;
 use std::collections::BTreeMap;
 
 /// What the room behind a sheet holds before it is used.
@@ -434,15 +433,4 @@ fn any_edits_leave_what_a_plain_map_holds() {
         }
     }
     assert!(done.iter().all(|count| *count > 100), "{done:?}");
-}
-
-#[test]
-fn a_refusal_leaves_the_length_as_it_was() {
-    let mut lent = lend(&v(&[10]), 0);
-    let before = lent.clone();
-    assert_eq!(
-        lent.edit(&put(&with_id(&plate(2), 11))),
-        Err(Refusal::new(11, 0))
-    );
-    assert_eq!(lent, before);
 }
