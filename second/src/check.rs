@@ -61,7 +61,7 @@ pub fn judge(header: &Header, record: &Record) -> Verdict {
 }
 
 /// Reads the whole sheet or refuses it; the steps stand in the order of the table.
-fn read_all(sheet: &[u8], output_bytes: usize) -> Result<(Header, Vec<Record>), Refusal> {
+pub fn read_all(sheet: &[u8], output_bytes: usize) -> Result<(Header, Vec<Record>), Refusal> {
     let header = read_header(sheet)?;
     let n = header.n as usize;
     if sheet.len() != HEADER_BYTES + RECORD_BYTES * n {

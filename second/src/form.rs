@@ -56,6 +56,9 @@ pub const HEADER_BYTES: usize = 12;
 pub const RECORD_BYTES: usize = 16;
 pub const VERDICT_BYTES: usize = 4;
 
+/// A record given as numbers has as many as the longer layout has fields.
+pub const RECORD_NUMBERS: usize = MEMBER.len();
+
 /// The layout a record of this kind has; none for a kind that does not exist.
 pub fn record_layout(kind: i128) -> Option<Layout> {
     match kind {

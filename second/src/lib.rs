@@ -12,6 +12,8 @@
 
 pub mod bits;
 pub mod check;
+pub mod edit;
+pub mod edit_stream;
 pub mod form;
 pub mod limits;
 pub mod loads;
@@ -22,3 +24,4 @@ pub mod rules;
 pub mod sheet;
 pub mod stream;
 pub mod tally;
+pub mod tally_edits;

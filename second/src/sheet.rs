@@ -1,7 +1,7 @@
 //! What a sheet says once its fields are known to be allowed: the header, and
 //! records that carry plate data or member data, never both.
 
-use crate::form::{record_layout, Form, HEADER, HEADER_BYTES};
+use crate::form::{record_layout, Form, HEADER, HEADER_BYTES, MEMBER, PLATE, RECORD_NUMBERS};
 use crate::limits::{first_fault, in_header, in_record, VERSION};
 use crate::refusal::Refusal;
 
@@ -66,6 +66,21 @@ impl Header {
             n: form.get("n"),
         }
     }
+
+    /// The form it was taken from.
+    pub fn form(&self) -> Form {
+        let fields = [
+            ("version", VERSION),
+            ("L", self.L),
+            ("D0", self.D0),
+            ("H", self.H),
+            ("runs", i128::from(self.two_runs)),
+            ("M", self.M),
+            ("ZB", self.ZB),
+            ("n", self.n),
+        ];
+        Form::filled(HEADER, &fields)
+    }
 }
 
 impl Record {
@@ -110,6 +125,46 @@ impl Record {
             Record::Member(member) => member.id,
         }
     }
+
+    /// The form it was taken from.
+    pub fn form(&self) -> Form {
+        match self {
+            Record::Plate(plate) => Form::filled(
+                PLATE,
+                &[
+                    ("kind", plate.kind),
+                    ("id", plate.id),
+                    ("K", plate.K),
+                    ("z", plate.z),
+                    ("S", plate.S),
+                    ("T", plate.T),
+                    ("b1", plate.b1),
+                    ("b2", plate.b2),
+                    ("ballast", i128::from(plate.ballast)),
+                    ("zL", plate.zL),
+                    ("cargo", plate.cargo),
+                ],
+            ),
+            Record::Member(member) => Form::filled(
+                MEMBER,
+                &[
+                    ("kind", member.kind),
+                    ("id", member.id),
+                    ("z", member.z),
+                    ("S", member.S),
+                    ("l", member.l),
+                    ("T", member.T),
+                    ("beta_b", member.beta_b),
+                    ("beta_s", member.beta_s),
+                    ("eta", member.eta),
+                    ("sigma1", member.sigma1),
+                    ("W", member.W),
+                    ("A", member.A),
+                    ("K", member.K),
+                ],
+            ),
+        }
+    }
 }
 
 /// Reads the header at the start of `sheet`: refusals 1, 2 and 3.
@@ -127,6 +182,14 @@ pub fn read_header(sheet: &[u8]) -> Result<Header, Refusal> {
     }
 }
 
+/// A form of one of the eight kinds as record number `index` (from 0): refusal 7.
+fn allowed_record(form: &Form, index: usize) -> Result<Record, Refusal> {
+    match first_fault(form, |name| in_record(form, name)) {
+        Some(field) => Err(Refusal::new(7, 32 * index + field)),
+        None => Ok(Record::of(form)),
+    }
+}
+
 /// Reads record number `index` (from 0) out of its 16 bytes: refusals 6 and 7.
 pub fn read_record(bytes: &[u8], index: usize) -> Result<Record, Refusal> {
     // The kind comes first because it says which layout the rest has.
@@ -134,9 +197,19 @@ pub fn read_record(bytes: &[u8], index: usize) -> Result<Record, Refusal> {
     let Some(layout) = record_layout(kind) else {
         return Err(Refusal::new(6, index));
     };
-    let form = Form::unpack(layout, bytes);
-    match first_fault(&form, |name| in_record(&form, name)) {
-        Some(field) => Err(Refusal::new(7, 32 * index + field)),
-        None => Ok(Record::of(&form)),
-    }
+    allowed_record(&Form::unpack(layout, bytes), index)
+}
+
+/// The record that numbers in layout order are, wider than their fields at times,
+/// as record number `index` (from 0): refusals 6 and 7.
+pub fn record_of_numbers(numbers: &[u32; RECORD_NUMBERS], index: usize) -> Result<Record, Refusal> {
+    let mut values = numbers.map(i128::from).to_vec();
+    let Some(layout) = record_layout(values[0]) else {
+        return Err(Refusal::new(6, index));
+    };
+    // What is left over past the last field counts to it: a plate's last two
+    // numbers stand for its zero bits, and their sum is 0 only if both are.
+    let left_over: i128 = values.drain(layout.len()..).sum();
+    values[layout.len() - 1] += left_over;
+    allowed_record(&Form { layout, values }, index)
 }

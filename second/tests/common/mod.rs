@@ -2,7 +2,7 @@
 //! Each test file takes what it needs of these.
 #![allow(dead_code)]
 
-use second::form::{Form, HEADER, MEMBER, PLATE};
+use second::form::{Form, HEADER, MEMBER, PLATE, RECORD_NUMBERS};
 use second::rules::demands;
 use second::sheet::{Header, Record};
 
@@ -78,4 +78,13 @@ pub fn sheet(header: &Form, records: &[Form]) -> Vec<u8> {
         bytes.extend(record.pack());
     }
     bytes
+}
+
+/// The record as an edit takes it: its fields in layout order, then zeros.
+pub fn numbers(record: &Form) -> [u32; RECORD_NUMBERS] {
+    let mut numbers = [0; RECORD_NUMBERS];
+    for (number, value) in numbers.iter_mut().zip(&record.values) {
+        *number = *value as u32;
+    }
+    numbers
 }

@@ -1,0 +1,436 @@
+//! "Edit a sheet where it stands", sentence by sentence.
+
+mod common;
+
+use common::{member, numbers, plate, sheet, vessel_v, with};
+use second::edit::{edit, read_sheet, Edit};
+use second::edit_stream::Lent;
+use second::form::{Form, HEADER_BYTES, RECORD_BYTES};
+use second::limits::in_record;
+use second::make::edit_cases;
+use std::collections::BTreeMap;
+
+/// What the room behind a sheet holds before it is used.
+const LENT: u8 = 0xee;
+
+fn lend(sheet: &[u8], room: usize) -> Lent {
+    let mut buffer = sheet.to_vec();
+    buffer.resize(sheet.len() + room, LENT);
+    let length = sheet.len();
+    Lent { buffer, length }
+}
+
+fn put(record: &Form) -> Edit {
+    Edit::Put(numbers(record))
+}
+
+fn with_id(record: &Form, id: i128) -> Form {
+    with(record, &[("id", id)])
+}
+
+/// Vessel V with plates and members of these ids in turn.
+fn records(ids: &[i128]) -> Vec<Form> {
+    let kinds = [plate(2), member(5), plate(3), member(6)];
+    let pairs = ids.iter().zip(kinds.iter().cycle());
+    pairs.map(|(id, record)| with_id(record, *id)).collect()
+}
+
+fn v(ids: &[i128]) -> Vec<u8> {
+    sheet(&vessel_v(), &records(ids))
+}
+
+/// The refusal of an edit, which changes no byte and gives no new length.
+fn refused(lent: &Lent, change: &Edit) -> Option<(usize, usize)> {
+    let mut after = lent.clone();
+    let refusal = after.edit(change).err()?;
+    assert_eq!(after, *lent, "a refused edit leaves everything as lent");
+    Some((refusal.number, refusal.place))
+}
+
+fn both_edits() -> [Edit; 2] {
+    [put(&with_id(&plate(2), 20)), Edit::Remove(20)]
+}
+
+#[test]
+fn a_replacement_changes_its_own_sixteen_bytes_only() {
+    let ids = [10, 20, 30, 1000];
+    for (index, id) in ids.iter().enumerate() {
+        for new in [with_id(&member(7), *id), with_id(&plate(1), *id)] {
+            for room in [0, 5, 16, 40] {
+                let before = lend(&v(&ids), room);
+                let mut after = before.clone();
+                assert_eq!(after.edit(&put(&new)), Ok(before.length));
+                let mut expected = before.clone();
+                let start = HEADER_BYTES + RECORD_BYTES * index;
+                expected.buffer[start..start + RECORD_BYTES].copy_from_slice(&new.pack());
+                assert_eq!(after, expected);
+                assert_ne!(after, before);
+            }
+        }
+    }
+}
+
+#[test]
+fn an_insertion_goes_in_at_its_place() {
+    let ids = [10, 20, 30];
+    for (new, index) in [(1, 0), (9, 0), (11, 1), (29, 2), (31, 3), (1000, 3)] {
+        let mut all = records(&ids);
+        let record = with_id(&member(8), new);
+        all.insert(index, record.clone());
+        let expected = lend(&sheet(&vessel_v(), &all), 9);
+        let mut lent = lend(&v(&ids), RECORD_BYTES + 9);
+        assert_eq!(lent.edit(&put(&record)), Ok(12 + 16 * 4));
+        assert_eq!(lent, expected, "id {new}");
+    }
+    let mut lent = lend(&v(&[]), 16);
+    assert_eq!(lent.edit(&put(&plate(4))), Ok(28));
+    assert_eq!(lent.buffer, sheet(&vessel_v(), &[plate(4)]));
+}
+
+#[test]
+fn a_removal_closes_the_gap_and_zeroes_what_it_frees() {
+    let ids = [10, 20, 30];
+    for index in 0..3 {
+        let mut left = records(&ids);
+        left.remove(index);
+        let mut expected = sheet(&vessel_v(), &left);
+        expected.extend([0; RECORD_BYTES]);
+        expected.extend([LENT; 9]);
+        let mut lent = lend(&v(&ids), 9);
+        let outcome = lent.edit(&Edit::Remove(ids[index] as u32));
+        assert_eq!(outcome, Ok(12 + 16 * 2));
+        assert_eq!(lent.buffer, expected);
+    }
+    let mut lent = lend(&v(&[7]), 0);
+    assert_eq!(lent.edit(&Edit::Remove(7)), Ok(12));
+    assert_eq!(lent.buffer, [v(&[]), vec![0; 16]].concat());
+}
+
+/// Also where the sheet fills its buffer, as the freed bytes are used again.
+#[test]
+fn the_next_insertion_uses_the_freed_bytes() {
+    let mut lent = lend(&v(&[10, 20, 30]), 0);
+    let new = with_id(&plate(2), 40);
+    assert_eq!(refused(&lent, &put(&new)), Some((11, 0)));
+    assert_eq!(lent.edit(&Edit::Remove(10)), Ok(12 + 16 * 2));
+    assert_eq!(lent.edit(&put(&new)), Ok(12 + 16 * 3));
+    let mut left = records(&[10, 20, 30]);
+    left.remove(0);
+    left.push(new);
+    assert_eq!(lent.buffer, sheet(&vessel_v(), &left));
+}
+
+#[test]
+fn put_then_remove_restores_the_sheet() {
+    for new in [5, 15, 35] {
+        let before = lend(&v(&[10, 20, 30]), 30);
+        let mut after = before.clone();
+        after.edit(&put(&with_id(&plate(2), new))).expect("room");
+        assert_eq!(after.edit(&Edit::Remove(new as u32)), Ok(before.length));
+        let mut expected = before.clone();
+        expected.buffer[before.length..before.length + RECORD_BYTES].fill(0);
+        assert_eq!(after, expected);
+    }
+}
+
+#[test]
+fn remove_then_put_restores_the_sheet() {
+    let ids = [10, 20, 30];
+    for record in records(&ids) {
+        let before = lend(&v(&ids), 3);
+        let mut after = before.clone();
+        let id = record.get("id") as u32;
+        after.edit(&Edit::Remove(id)).expect("it is there");
+        assert_eq!(after.edit(&put(&record)), Ok(before.length));
+        assert_eq!(after, before);
+    }
+}
+
+#[test]
+fn number_1_when_the_stated_length_exceeds_the_buffer() {
+    let whole = v(&[10, 20]);
+    for edit in both_edits() {
+        for past in [1, 16, 1 << 20] {
+            let mut lent = lend(&whole, 4);
+            lent.length = lent.buffer.len() + past;
+            assert_eq!(refused(&lent, &edit), Some((1, 0)));
+            // First of all: before the version is looked at.
+            lent.buffer[0] = 0xff;
+            assert_eq!(refused(&lent, &edit), Some((1, 0)));
+        }
+        // A sound sheet beside a length that the buffer has not.
+        let mut lent = lend(&whole, 0);
+        lent.buffer.pop();
+        assert_eq!(refused(&lent, &edit), Some((1, 0)));
+        let nothing = lend(&[], 0);
+        assert_eq!(refused(&nothing, &edit), Some((1, 0)));
+    }
+}
+
+#[test]
+fn number_1_when_the_stated_length_is_under_twelve() {
+    for edit in both_edits() {
+        for length in 0..12 {
+            let mut lent = lend(&v(&[]), 16);
+            lent.length = length;
+            assert_eq!(refused(&lent, &edit), Some((1, 0)));
+        }
+    }
+}
+
+/// The table's own on the sheet, for both edits, before anything is said of the
+/// new record, of an id that is not there or of the room. Of 5 nothing is said.
+#[test]
+fn the_sheet_is_turned_away_first() {
+    let changed = |index: usize, field: (&str, i128)| {
+        let mut all = records(&[10, 20, 30]);
+        all[index] = with(&all[index], &[field]);
+        sheet(&vessel_v(), &all)
+    };
+    let header = |field: (&str, i128)| sheet(&with(&vessel_v(), &[field]), &records(&[10]));
+    let mut long = v(&[10, 20]);
+    long.push(0);
+    let faults = [
+        (header(("version", 2)), (2, 0)),
+        (header(("L", 3999)), (3, 2)),
+        (header(("zero", 1)), (3, 9)),
+        (long, (4, 0)),
+        (v(&[10, 20])[..28].to_vec(), (4, 0)),
+        (changed(2, ("kind", 9)), (6, 2)),
+        (changed(1, ("T", 0)), (7, 32 + 6)),
+        (changed(2, ("zero", 1)), (7, 64 + 12)),
+        (changed(1, ("id", 10)), (8, 1)),
+        (changed(2, ("id", 20)), (8, 2)),
+    ];
+    let edits = [
+        put(&with_id(&plate(2), 10)),
+        put(&with_id(&plate(2), 999)),
+        Edit::Put([u32::MAX; 13]),
+        Edit::Put([1; 13]),
+        Edit::Remove(10),
+        Edit::Remove(999),
+    ];
+    for (bytes, refusal) in faults {
+        for edit in &edits {
+            for room in [0, 16] {
+                assert_eq!(refused(&lend(&bytes, room), edit), Some(refusal));
+            }
+        }
+    }
+}
+
+/// Bytes past the stated length are no part of the sheet.
+#[test]
+fn only_the_stated_length_is_read() {
+    let mut lent = lend(&v(&[10, 20]), 0);
+    lent.length = 28;
+    assert_eq!(refused(&lent, &both_edits()[0]), Some((4, 0)));
+    lent.buffer[..HEADER_BYTES].copy_from_slice(&v(&[10])[..HEADER_BYTES]);
+    assert_eq!(refused(&lent, &Edit::Remove(20)), Some((10, 0)));
+    let mut expected = v(&[10]);
+    expected.extend(with_id(&plate(4), 20).pack());
+    expected[..HEADER_BYTES].copy_from_slice(&v(&[10, 20])[..HEADER_BYTES]);
+    assert_eq!(lent.edit(&put(&with_id(&plate(4), 20))), Ok(44));
+    assert_eq!(lent.buffer, expected);
+}
+
+#[test]
+fn number_6_has_n_as_its_record() {
+    for n in [0, 1, 2, 5, 400] {
+        let ids: Vec<i128> = (1..=n).collect();
+        let lent = lend(&v(&ids), 16);
+        for kind in [0, 9, 15, 16, 17, 300, 65_537, u32::MAX] {
+            // At an id that is there and at one that is not: always n.
+            for id in [1, 500] {
+                let mut new = numbers(&with_id(&plate(2), id));
+                new[0] = kind;
+                assert_eq!(refused(&lent, &Edit::Put(new)), Some((6, n as usize)));
+            }
+        }
+    }
+}
+
+/// Each field of each kind one past each end of its values, and far past it.
+#[test]
+fn number_7_has_n_as_its_record() {
+    let lent = lend(&v(&[10, 20, 30]), 16);
+    let ballasted = |kind| with(&plate(kind), &[("z", 5), ("ballast", 1), ("zL", 9)]);
+    let mut forms: Vec<Form> = (1..=4).map(plate).collect();
+    forms.extend((1..=4).map(ballasted));
+    forms.extend((5..=8).map(member));
+    for form in forms {
+        let form = with_id(&form, 20);
+        for (index, (name, width)) in form.layout.iter().enumerate().skip(1) {
+            let allowed = in_record(&form, name);
+            let mut outside = vec![allowed.highest() + 1, 1 << width, 1 << 31];
+            outside.push(i128::from(u32::MAX));
+            outside.push(form.get(name) + (1 << 20));
+            if allowed.lowest() > 0 {
+                outside.push(allowed.lowest() - 1);
+            }
+            for value in outside {
+                let mut new = numbers(&form);
+                new[index] = value as u32;
+                let place = 32 * 3 + index + 1;
+                assert_eq!(
+                    refused(&lent, &Edit::Put(new)),
+                    Some((7, place)),
+                    "{name} {value}"
+                );
+            }
+        }
+    }
+}
+
+#[test]
+fn a_plate_has_nothing_past_its_cargo() {
+    let lent = lend(&v(&[10, 20]), 16);
+    for kind in 1..=4 {
+        for id in [10, 15] {
+            for past in [[1, 0], [0, 1], [u32::MAX, 1], [0, u32::MAX], [1 << 20, 0]] {
+                let mut new = numbers(&with_id(&plate(kind), id));
+                new[11..].copy_from_slice(&past);
+                assert_eq!(refused(&lent, &Edit::Put(new)), Some((7, 64 + 12)));
+            }
+        }
+    }
+}
+
+#[test]
+fn the_first_faulty_field_of_the_new_record_is_named() {
+    let lent = lend(&v(&[]), 16);
+    let mut new = numbers(&with(&plate(2), &[("S", 99), ("cargo", 1)]));
+    new[12] = 7;
+    assert_eq!(refused(&lent, &Edit::Put(new)), Some((7, 5)));
+    new[0] = 0;
+    assert_eq!(refused(&lent, &Edit::Put(new)), Some((6, 0)));
+    // The ranges rest on the numbers as they are given.
+    let under = with(&plate(2), &[("z", 200), ("ballast", 1), ("zL", 199)]);
+    assert_eq!(refused(&lent, &put(&under)), Some((7, 10)));
+    let mut no_flag = numbers(&under);
+    no_flag[8] = 257;
+    assert_eq!(refused(&lent, &Edit::Put(no_flag)), Some((7, 9)));
+}
+
+#[test]
+fn number_10_id_not_there() {
+    let lent = lend(&v(&[10, 20, 30]), 16);
+    let far = [20 + 1024, 20 + 65_536, 20 + (1 << 31), u32::MAX];
+    for id in [0, 1, 9, 11, 29, 31, 1000, 1001].into_iter().chain(far) {
+        assert_eq!(refused(&lent, &Edit::Remove(id)), Some((10, 0)));
+    }
+    assert_eq!(refused(&lent, &Edit::Remove(20)), None);
+    assert_eq!(refused(&lend(&v(&[]), 0), &Edit::Remove(1)), Some((10, 0)));
+}
+
+#[test]
+fn number_11_exactly_when_the_buffer_has_no_room() {
+    for ids in [&[][..], &[10], &[10, 20, 30]] {
+        for room in 0..40 {
+            let lent = lend(&v(ids), room);
+            let expected = (room < 16).then_some((11, 0));
+            for id in [5, 15, 500] {
+                assert_eq!(refused(&lent, &put(&with_id(&plate(2), id))), expected);
+            }
+            // Never on a replacement.
+            for id in ids {
+                assert_eq!(refused(&lent, &put(&with_id(&plate(2), *id))), None);
+            }
+        }
+    }
+}
+
+#[test]
+fn number_11_exactly_when_n_stands_at_its_highest() {
+    for n in [398, 399, 400] {
+        let ids: Vec<i128> = (2..n + 2).collect();
+        let expected = (n == 400).then_some((11, 0));
+        for room in [16, 17, 100] {
+            let lent = lend(&v(&ids), room);
+            for id in [1, 500, 1000] {
+                assert_eq!(refused(&lent, &put(&with_id(&plate(2), id))), expected);
+            }
+            for id in [2, 200, n + 1] {
+                assert_eq!(refused(&lent, &put(&with_id(&plate(2), id))), None);
+            }
+        }
+    }
+    let ids: Vec<i128> = (2..402).collect();
+    let mut lent = lend(&v(&ids), 16);
+    assert_eq!(lent.edit(&Edit::Remove(401)), Ok(12 + 16 * 399));
+    assert_eq!(lent.edit(&put(&plate(2))), Ok(12 + 16 * 400));
+    assert_eq!(
+        refused(&lent, &put(&with_id(&plate(2), 401))),
+        Some((11, 0))
+    );
+}
+
+#[test]
+fn the_new_record_is_turned_away_before_the_room() {
+    let lent = lend(&v(&[10]), 0);
+    let new = with(&plate(2), &[("id", 5), ("T", 0)]);
+    assert_eq!(refused(&lent, &put(&new)), Some((7, 32 + 6)));
+    let new = with(&plate(2), &[("id", 5), ("kind", 9)]);
+    assert_eq!(refused(&lent, &put(&new)), Some((6, 1)));
+    assert_eq!(refused(&lent, &put(&with_id(&plate(2), 5))), Some((11, 0)));
+}
+
+/// Beside a map of packed records: after any edits the sheet holds what the map
+/// holds, and a sheet that passed every refusal still does.
+#[test]
+fn any_edits_leave_what_a_plain_map_holds() {
+    let mut done = [0; 3];
+    for (lent, edits) in edit_cases(12).take(500) {
+        let Lent { mut buffer, length } = lent;
+        let mut length = length;
+        if read_sheet(&buffer, length).is_err() {
+            continue;
+        }
+        let header = buffer[..HEADER_BYTES].to_vec();
+        let mut map: BTreeMap<u32, Vec<u8>> = BTreeMap::new();
+        for record in buffer[HEADER_BYTES..length].chunks(RECORD_BYTES) {
+            let id = u32::from(record[0] & 0xf) << 6 | u32::from(record[1] >> 2);
+            map.insert(id, record.to_vec());
+        }
+        for change in edits {
+            let before = buffer.clone();
+            let outcome = edit(&mut buffer, length, &change);
+            let Ok(new_length) = outcome else {
+                assert_eq!(buffer, before);
+                continue;
+            };
+            match &change {
+                Edit::Put(numbers) => {
+                    let values = numbers.map(i128::from);
+                    let fields = if numbers[0] <= 4 { 12 } else { 13 };
+                    let form = if numbers[0] <= 4 { plate(1) } else { member(5) };
+                    let layout = form.layout;
+                    let values = values[..fields].to_vec();
+                    let packed = Form { layout, values }.pack();
+                    let old = map.insert(numbers[1], packed);
+                    done[usize::from(old.is_some())] += 1;
+                }
+                Edit::Remove(id) => {
+                    map.remove(id).expect("it is there");
+                    done[2] += 1;
+                }
+            }
+            assert_eq!(new_length, HEADER_BYTES + RECORD_BYTES * map.len());
+            assert_eq!(
+                buffer[HEADER_BYTES..new_length],
+                map.values().cloned().collect::<Vec<_>>().concat()
+            );
+            let (read, _) = read_sheet(&buffer, new_length).expect("still sound");
+            assert_eq!(read.n as usize, map.len());
+            // Of the header only the count's nine bits differ, of the rest only
+            // the bytes that the longer of the two sheets takes.
+            assert_eq!(buffer[..10], header[..10]);
+            assert_eq!(buffer[10] & 0xf0, header[10] & 0xf0);
+            let longer = length.max(new_length);
+            assert_eq!(buffer[longer..], before[longer..]);
+            assert!(buffer[new_length..longer].iter().all(|byte| *byte == 0));
+            length = new_length;
+        }
+    }
+    assert!(done.iter().all(|count| *count > 100), "{done:?}");
+}
