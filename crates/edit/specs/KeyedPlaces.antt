@@ -72,6 +72,28 @@ module _ {A : Type 0} (key : A → ℕ) where
       go i false d true f h = absurd (let z : _≡_ {A = ℕ} 0 1 = cc in omega arith)
       go i false d false f h = rw (eq-eqb (key new) (key new) refl)
 
+  -- what is put in is there, at the place that was its key's
+  pub put-has : (new : A) (rs : List A) → hasOf key (key new) (putOf key new rs) ≡ true
+  unfolding putOf hasOf
+  put-has new [] = rw (le-ltb (key new) (key new) (omega arith), eq-eqb (key new) (key new) refl)
+  put-has new (r ∷ rs) = go (put-has new rs) (ltb (key r) (key new)) refl (eqb (key r) (key new))
+    where
+      go : hasOf key (key new) (putOf key new rs) ≡ true → (s : Bool) → ltb (key r) (key new) ≡ s → (t : Bool) → hasOf key (key new) (cond s (r ∷ putOf key new rs) (cond t (new ∷ rs) (new ∷ r ∷ rs))) ≡ true
+      go h true d t = rw (d, h)
+      go h false d true = rw (le-ltb (key new) (key new) (omega arith), eq-eqb (key new) (key new) refl)
+      go h false d false = rw (le-ltb (key new) (key new) (omega arith), eq-eqb (key new) (key new) refl)
+
+  pub put-place : (new : A) (rs : List A) → placeOf key (key new) (putOf key new rs) ≡ placeOf key (key new) rs
+  unfolding putOf placeOf
+  put-place new [] = rw (le-ltb (key new) (key new) (omega arith))
+  put-place new (r ∷ rs) = go (put-place new rs) (ltb (key r) (key new)) refl (eqb (key r) (key new))
+    where
+      go : placeOf key (key new) (putOf key new rs) ≡ placeOf key (key new) rs → (s : Bool) → ltb (key r) (key new) ≡ s → (t : Bool)
+          → placeOf key (key new) (cond s (r ∷ putOf key new rs) (cond t (new ∷ rs) (new ∷ r ∷ rs))) ≡ cond s (suc (placeOf key (key new) rs)) 0
+      go h true d t = rw (d, h)
+      go h false d true = rw (le-ltb (key new) (key new) (omega arith))
+      go h false d false = rw (le-ltb (key new) (key new) (omega arith))
+
 -- places and what is there rest on the keys alone
 module _ {A B : Type 0} (f : A → ℕ) (g : B → ℕ) (k : ℕ) where
   -- two lists with the same keys

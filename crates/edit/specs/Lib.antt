@@ -10,3 +10,5 @@ pub mod Rebuilt
 pub mod Outcomes
 pub mod Only
 pub mod Sequences
+pub mod Touched
+pub mod BackAgain
