@@ -94,6 +94,39 @@ module _ {A : Type 0} (key : A → ℕ) where
       go h false d true = rw (le-ltb (key new) (key new) (omega arith))
       go h false d false = rw (le-ltb (key new) (key new) (omega arith))
 
+  -- ---- the others stay
+
+  -- x is the i-th of a list, from 0
+  abbrev pub At : List A → ℕ → A → Type 0
+  At [] i x = ⊥
+  At (y ∷ ys) zero x = y ≡ x
+  At (y ∷ ys) (suc i) x = At ys i x
+
+  pub put-keeps : (new : A) (rs : List A) (i : ℕ) (q : A) → (key q ≡ key new → ⊥) → At rs i q → (j : ℕ) × At (putOf key new rs) j q
+  unfolding putOf
+  put-keeps new [] i q n a = absurd a
+  put-keeps new (r ∷ rs) i q n a = go (put-keeps new rs) (ltb (key r) (key new)) (eqb (key r) (key new)) refl i a
+    where
+      go : ((i : ℕ) (q : A) → (key q ≡ key new → ⊥) → At rs i q → (j : ℕ) × At (putOf key new rs) j q) → (s t : Bool) → eqb (key r) (key new) ≡ t → (i : ℕ) → At (r ∷ rs) i q
+          → (j : ℕ) × At (cond s (r ∷ putOf key new rs) (cond t (new ∷ rs) (new ∷ r ∷ rs))) j q
+      go rest true t e zero b = (0, b)
+      go rest true t e (suc i) b = let c = rest i q n b in (suc (c .0), c .1)
+      go rest false true e zero b = absurd (n (ap key (sym b) ∙ eqb-true (key r) (key new) e))
+      go rest false true e (suc i) b = (suc i, b)
+      go rest false false e i b = (suc i, b)
+
+  pub out-keeps : (k : ℕ) (rs : List A) (i : ℕ) (q : A) → (key q ≡ k → ⊥) → At rs i q → (j : ℕ) × At (outOf key k rs) j q
+  unfolding outOf
+  out-keeps k [] i q n a = absurd a
+  out-keeps k (r ∷ rs) i q n a = go (out-keeps k rs) (eqb (key r) k) refl i a
+    where
+      go : ((i : ℕ) (q : A) → (key q ≡ k → ⊥) → At rs i q → (j : ℕ) × At (outOf key k rs) j q) → (t : Bool) → eqb (key r) k ≡ t → (i : ℕ) → At (r ∷ rs) i q
+          → (j : ℕ) × At (cond t rs (r ∷ outOf key k rs)) j q
+      go rest true e zero b = absurd (n (ap key (sym b) ∙ eqb-true (key r) k e))
+      go rest true e (suc i) b = (i, b)
+      go rest false e zero b = (0, b)
+      go rest false e (suc i) b = let c = rest i q n b in (suc (c .0), c .1)
+
 -- places and what is there rest on the keys alone
 module _ {A B : Type 0} (f : A → ℕ) (g : B → ℕ) (k : ℕ) where
   -- two lists with the same keys

@@ -12,3 +12,4 @@ pub mod Only
 pub mod Sequences
 pub mod Touched
 pub mod BackAgain
+pub mod Verdicts

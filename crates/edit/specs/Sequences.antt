@@ -47,7 +47,7 @@ doneAll (e ∷ es) a = doneBy (editIn e a) e (doneAll es (afterBy (editIn e a) a
 -- ---- the law
 
 -- one edit that is done
-one-edit : (a : After) (t : Sheet) → sheetAt (a .bytes) (a .size) ≡ given t → (e : Edit idOf) (x : After) → editIn e a ≡ given x
+pub one-edit : (a : After) (t : Sheet) → sheetAt (a .bytes) (a .size) ≡ given t → (e : Edit idOf) (x : After) → editIn e a ≡ given x
     → sheetAt (x .bytes) (x .size) ≡ given (holding (t .header) (listAfter idOf e (t .records)))
 unfolding listAfter
 one-edit a t f (put r) x g = put-sheet (a .bytes) (a .size) t f r x g
