@@ -9,6 +9,7 @@ use lib.Dec.{ltb, eqb}
 use lib.ListN.{length, take, drop, getD}
 use borrow.Author.Tests.{ltb-true, ltb-false, lt-ltb, le-ltb, eqb-true, eqb-false, eq-eqb, ne-eqb}
 use Rattle.edit.specs.Keyed.{rises, placeOf, hasOf, putOf, outOf}
+use Rattle.edit.specs.KeyedLaws.{rises-head}
 
 module _ {A : Type 0} (key : A → ℕ) where
   pub place-le : (j : ℕ) (rs : List A) → placeOf key j rs ≤ length rs
@@ -126,6 +127,39 @@ module _ {A : Type 0} (key : A → ℕ) where
       go rest true e (suc i) b = (i, b)
       go rest false e zero b = (0, b)
       go rest false e (suc i) b = let c = rest i q n b in (suc (c .0), c .1)
+
+  -- ---- who is there
+
+  -- one of the list has the key k
+  abbrev pub Present : (k : ℕ) → List A → Type 0
+  Present k rs = (i : ℕ) × (q : A) × At rs i q × (key q ≡ k)
+
+  pub has-present : (k : ℕ) (rs : List A) → hasOf key k rs ≡ true → Present k rs
+  unfolding hasOf
+  has-present k [] e = absurd (let z : _≡_ {A = ℕ} 0 1 = cc in omega arith)
+  has-present k (r ∷ rs) e = go (has-present k rs) (ltb (key r) k) e
+    where
+      go : (hasOf key k rs ≡ true → Present k rs) → (s : Bool) → cond s (hasOf key k rs) (eqb (key r) k) ≡ true → Present k (r ∷ rs)
+      go rest true f = let p = rest f in (suc (p .0), p .1, p .2, p .3)
+      go rest false f = (0, r, refl, eqb-true (key r) k f)
+
+  -- all of a rising list are above what stands before
+  above : (rs : List A) (before i : ℕ) (q : A) → rises key before rs ≡ true → At rs i q → before < key q
+  above [] before i q f a = absurd a
+  above (r ∷ rs) before zero q f a = omega (arith, rises-head key before r rs f .0, ap key a)
+  above (r ∷ rs) before (suc i) q f a = let m = rises-head key before r rs f in omega (arith, m .0, above rs (key r) i q (m .1) a)
+
+  pub present-has : (k before : ℕ) (rs : List A) → rises key before rs ≡ true → Present k rs → hasOf key k rs ≡ true
+  unfolding rises hasOf
+  present-has k before [] e p = absurd (p .2)
+  present-has k before (r ∷ rs) e p = go (present-has k (key r) rs) (p .0) (p .1) (p .2) (p .3)
+    where
+      h : (before < key r) × (rises key (key r) rs ≡ true)
+      h = rises-head key before r rs e
+
+      go : (rises key (key r) rs ≡ true → Present k rs → hasOf key k rs ≡ true) → (i : ℕ) (q : A) → At (r ∷ rs) i q → key q ≡ k → cond (ltb (key r) k) (hasOf key k rs) (eqb (key r) k) ≡ true
+      go rest zero q a f = rw (le-ltb (key r) k (omega (arith, ap key a, f)), eq-eqb (key r) k (ap key a ∙ f))
+      go rest (suc i) q a f = rw (lt-ltb (key r) k (omega (arith, above rs (key r) i q (h .1) a, f))) (rest (h .1) (i, q, a, f))
 
 -- places and what is there rest on the keys alone
 module _ {A B : Type 0} (f : A → ℕ) (g : B → ℕ) (k : ℕ) where

@@ -13,3 +13,4 @@ pub mod Sequences
 pub mod Touched
 pub mod BackAgain
 pub mod Verdicts
+pub mod Rows
