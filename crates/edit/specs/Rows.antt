@@ -17,10 +17,12 @@ use Rattle.sheet.specs.Lines.{counts}
 use Rattle.sheet.specs.Refusals.{Answer, given, refused, recordRefused}
 use Rattle.sheet.specs.RefusalLaws.{given-refused, given-same, refused-number, refused-place}
 use Rattle.sheet.specs.Header.{readHeader}
-use Rattle.sheet.specs.HeaderExactly.{header-read-1}
+use Rattle.sheet.specs.HeaderLaws.{header-ranges}
+use Rattle.sheet.specs.HeaderBack.{header-read-fine}
+use Rattle.sheet.specs.HeaderExactly.{header-read-1, header-read-others}
 use Rattle.sheet.specs.Record.{recordFault, readRecord}
 use Rattle.sheet.specs.Exactly.{Exactly, LaterFault}
-use Rattle.sheet.specs.RecordExactly.{belongs, linesOf, valuesOf, record-read-1, record-fault-6, record-fault-7, record-fault-given, record-fault-others}
+use Rattle.sheet.specs.RecordExactly.{belongs, linesOf, valuesOf, record-read-1, record-read-others, record-fault-6, record-fault-7, record-fault-given, record-fault-others}
 use Rattle.checker.specs.Check.{_then_, demand, headerFor, partsFrom, soundAfter, recordsIn, Sheet, sheetIn}
 use Rattle.checker.specs.CheckLaws.{then-given, demand-given, header-fits}
 use Rattle.checker.specs.Unjudged.{room, soundSheet}
@@ -176,44 +178,63 @@ module _ (b : List ℕ) (len : ℕ) (r : Record) (k p : ℕ) where
   pub put-refused-exactly : Exactly (putIn b len r ≡ refused k p) (PutRow b len r k p)
   put-refused-exactly = (forth, back)
 
--- ---- 1
+-- ---- what is not given
 
--- an answer that is not refusal 1
-abbrev NotOne : {A : Type 0} → Answer A → Type 0
-NotOne x = (p : ℕ) → x ≡ refused 1 p → ⊥
+-- an answer that is not refusal m
+abbrev Not : {A : Type 0} → ℕ → Answer A → Type 0
+Not m x = (p : ℕ) → x ≡ refused m p → ⊥
 
-then-not : {A B : Type 0} (x : Answer A) (next : A → Answer B) → NotOne x → ((a : A) → x ≡ given a → NotOne (next a)) → NotOne (x then next)
+then-not : {A B : Type 0} (m : ℕ) (x : Answer A) (next : A → Answer B) → Not m x → ((a : A) → x ≡ given a → Not m (next a)) → Not m (x then next)
 unfolding _then_
-then-not (given a) next f g = g a refl
-then-not (refused k q) next f g = λ p e. f p (refused-as e)
+then-not m (given a) next f g = g a refl
+then-not m (refused k q) next f g = λ p e. f p (refused-as e)
 
-demand-not : (t : Bool) (k : ℕ) → (k ≡ 1 → ⊥) → NotOne (demand t k)
+demand-not : (m : ℕ) (t : Bool) (k : ℕ) → (t ≡ false → k ≡ m → ⊥) → Not m (demand t k)
 unfolding demand
-demand-not true k n p e = given-refused e
-demand-not false k n p e = n (refused-number e)
+demand-not m true k n p e = given-refused e
+demand-not m false k n p e = n refl (refused-number e)
 
-records-not : (i before : ℕ) (ps : List (List ℕ)) → Wide ps → NotOne (recordsIn i before ps)
+-- a number that no record of sixteen bytes is refused with
+records-not : (m : ℕ) → (m ≡ 8 → ⊥) → ((i : ℕ) (b : List ℕ) → 16 ≤ length b → Not m (readRecord i b)) → (i before : ℕ) (ps : List (List ℕ)) → Wide ps → Not m (recordsIn i before ps)
 unfolding recordsIn soundAfter
-records-not i before [] w = λ p e. given-refused e
-records-not i before (b ∷ ps) w =
-    then-not (soundAfter i before b) _
-    (then-not (readRecord i b) _ (λ p e. omega (arith, record-read-1 i b p .0 e .0, w .0)) (λ r e. in-order r (ltb before (r .id))))
-    (λ r e. then-not (recordsIn (i + 1) (r .id) ps) _ (records-not (i + 1) (r .id) ps (w .1)) (λ rs f p g. given-refused g))
+records-not m n f i before [] w = λ p e. given-refused e
+records-not m n f i before (b ∷ ps) w =
+    then-not m (soundAfter i before b) _
+    (then-not m (readRecord i b) _ (f i b (omega (arith, w .0))) (λ r e. in-order r (ltb before (r .id))))
+    (λ r e. then-not m (recordsIn (i + 1) (r .id) ps) _ (records-not m n f (i + 1) (r .id) ps (w .1)) (λ rs g p h. given-refused h))
   where
-    in-order : (r : Record) (t : Bool) → NotOne (cond t (given r) (refused 8 i))
+    in-order : (r : Record) (t : Bool) → Not m (cond t (given r) (refused 8 i))
     in-order r true p e = given-refused e
-    in-order r false p e = absurd (let z : _≡_ {A = ℕ} 8 1 = refused-number e in omega arith)
+    in-order r false p e = n (sym (refused-number e))
 
--- a sheet of twelve bytes or more is never refused with 1
-long-not : (s : List ℕ) → 12 ≤ length s → NotOne (soundSheet s)
-unfolding soundSheet sheetIn headerFor
+-- nor a sheet whose header is not
+sheet-not : (m : ℕ) (s : List ℕ) → (m ≡ 8 → ⊥) → ((i : ℕ) (b : List ℕ) → 16 ≤ length b → Not m (readRecord i b)) → Not m (headerFor s room) → Not m (soundSheet s)
+unfolding soundSheet sheetIn
+sheet-not m s n f g =
+    then-not m (headerFor s room) _ g
+    (λ h e. then-not m (recordsIn 0 0 (partsFrom s 0 (h .count))) _
+    (records-not m n f 0 0 (partsFrom s 0 (h .count)) (parts-wide s 0 (h .count) (omega (arith, header-fits s room h e .whole)))) (λ rs u p v. given-refused v))
+
+header-not : (m : ℕ) (s : List ℕ) → (m ≡ 4 → ⊥) → Not m (readHeader s) → ((h : Header) → readHeader s ≡ given h → leb (4 * h .count) room ≡ false → m ≡ 5 → ⊥) → Not m (headerFor s room)
+unfolding headerFor
+header-not m s n f g =
+    then-not m (readHeader s) _ f
+    (λ h e. then-not m (demand (eqb (length s) (12 + 16 * h .count)) 4) _ (demand-not m _ 4 (λ x z. n (sym z)))
+    (λ u w. then-not m (demand (leb (4 * h .count) room) 5) _ (demand-not m _ 5 (λ x z. g h e x (sym z))) (λ v y p q. given-refused q)))
+
+-- a sheet of twelve bytes or more is not refused with 1
+long-not : (s : List ℕ) → 12 ≤ length s → Not 1 (soundSheet s)
 long-not s l =
-    then-not (headerFor s room) _
-    (then-not (readHeader s) _ (λ p e. omega (arith, header-read-1 s p .0 e .0))
-    (λ h e. then-not (demand (eqb (length s) (12 + 16 * h .count)) 4) _ (demand-not _ 4 (λ z. omega arith))
-    (λ u f. then-not (demand (leb (4 * h .count) room) 5) _ (demand-not _ 5 (λ z. omega arith)) (λ v g p q. given-refused q))))
-    (λ h e. then-not (recordsIn 0 0 (partsFrom s 0 (h .count))) _
-    (records-not 0 0 (partsFrom s 0 (h .count)) (parts-wide s 0 (h .count) (omega (arith, header-fits s room h e .whole)))) (λ rs f p g. given-refused g))
+    sheet-not 1 s (λ z. omega arith) (λ i b m p e. omega (arith, record-read-1 i b p .0 e .0)) (header-not 1 s (λ z. omega arith) (λ p e. omega (arith, header-read-1 s p .0 e .0)) (λ h e x z. omega arith))
+
+-- and 5 is never given: the table's own is taken without it
+pub never-5 : (s : List ℕ) → Not 5 (soundSheet s)
+never-5 s =
+    sheet-not 5 s (λ z. omega arith) (λ i b m p. record-read-others i b 5 p (λ z. omega arith) (λ z. omega arith) (λ z. omega arith))
+    (header-not 5 s (λ z. omega arith) (λ p. header-read-others s 5 p (λ z. omega arith) (λ z. omega arith) (λ z. omega arith))
+    (λ h e x z. omega (arith, leb-false (4 * h .count) room x, header-ranges h 0 (header-read-fine s h e) .count-high)))
+
+-- ---- 1
 
 -- the stated length is over the buffer, or under the header
 pub data Short (b : List ℕ) (len : ℕ) : Type 0 where
