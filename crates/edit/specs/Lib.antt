@@ -1,16 +1,6 @@
-pub mod Keyed
-pub mod KeyedLaws
-pub mod KeyedPlaces
 pub mod Edit
 pub mod Steps
 pub mod Parts
 pub mod Taken
 pub mod HeaderCount
-pub mod Rebuilt
-pub mod Outcomes
 pub mod Only
-pub mod Sequences
-pub mod Touched
-pub mod BackAgain
-pub mod Verdicts
-pub mod Rows

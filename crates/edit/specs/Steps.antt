@@ -12,7 +12,7 @@ use Rattle.sheet.specs.Header.{headerFault}
 use Rattle.sheet.specs.Record.{recordFault}
 use Rattle.sheet.specs.RecordLaws.{rawAt}
 use Rattle.checker.specs.Check.{partsFrom, Sheet}
-use Rattle.edit.specs.Keyed.{placeOf, hasOf}
+use Rattle.keyed.specs.Keyed.{placeOf, hasOf}
 use Rattle.edit.specs.Edit.{sheetAt, start}
 
 -- ---- bytes that move by sixteen

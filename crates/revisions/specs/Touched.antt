@@ -12,8 +12,8 @@ use Rattle.sheet.specs.declared.Record.{Record}
 use Rattle.sheet.specs.Header.{headerBytes}
 use Rattle.sheet.specs.Record.{recordBytes}
 use Rattle.checker.specs.Check.{part}
 use Rattle.edit.specs.Edit.{start, replacing, inserting, removing}
-use Rattle.edit.specs.Rebuilt.{header-length, record-length}
+use Rattle.revisions.specs.Rebuilt.{header-length, record-length}
 
 -- ---- parts of a list that is put together
 

@@ -8,8 +8,8 @@ use native.Mathlib.Omega.{arith}
 use lib.Dec.{ltb, eqb}
 use lib.ListN.{length, take, drop, getD}
 use borrow.Author.Tests.{ltb-true, ltb-false, lt-ltb, le-ltb, eqb-true, eqb-false, eq-eqb, ne-eqb}
-use Rattle.edit.specs.Keyed.{rises, placeOf, hasOf, putOf, outOf}
-use Rattle.edit.specs.KeyedLaws.{rises-head}
+use Rattle.keyed.specs.Keyed.{rises, placeOf, hasOf, putOf, outOf}
+use Rattle.keyed.specs.MapLaws.{rises-head}
 
 module _ {A : Type 0} (key : A → ℕ) where
   pub place-le : (j : ℕ) (rs : List A) → placeOf key j rs ≤ length rs

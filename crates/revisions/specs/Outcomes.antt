@@ -19,13 +19,13 @@ use Rattle.sheet.specs.Record.{recordFault, recordBytes}
 use Rattle.sheet.specs.RecordExactly.{record-id}
 use Rattle.checker.specs.Check.{_then_, demand, partsFrom, Sheet}
 use Rattle.checker.specs.CheckLaws.{then-given, demand-given}
-use Rattle.edit.specs.Keyed.{rises, placeOf, hasOf, putOf, outOf}
-use Rattle.edit.specs.KeyedLaws.{put-rises, out-rises}
-use Rattle.edit.specs.KeyedPlaces.{place-le, has-lt, put-at, out-at}
+use Rattle.keyed.specs.Keyed.{rises, placeOf, hasOf, putOf, outOf}
+use Rattle.keyed.specs.MapLaws.{put-rises, out-rises}
+use Rattle.keyed.specs.Places.{place-le, has-lt, put-at, out-at}
 use Rattle.edit.specs.Edit.{sheetAt, start, idOf, counting, replacing, inserting, removing, After, hasRoom, placing, putIn, removeIn}
 use Rattle.edit.specs.HeaderCount.{counting-sound}
 use Rattle.edit.specs.Taken.{nothing, reads, Taken, taken-at}
-use Rattle.edit.specs.Rebuilt.{header-length, record-length, header-back, record-back, head, head-read, rebuilt, inserted-bytes, replaced-bytes, removed-bytes}
+use Rattle.revisions.specs.Rebuilt.{header-length, record-length, header-back, record-back, head, head-read, rebuilt, inserted-bytes, replaced-bytes, removed-bytes}
 
 -- a sheet that holds these records, which its header counts
 abbrev pub holding : Header → List Record → Sheet

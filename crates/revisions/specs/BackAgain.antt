@@ -15,13 +15,13 @@ use Rattle.sheet.specs.Refusals.{given}
 use Rattle.sheet.specs.Header.{headerFault, headerBytes, readHeader, writeHeader}
 use Rattle.sheet.specs.HeaderBack.{header-written-onto}
 use Rattle.checker.specs.Check.{_then_, demand, part, Sheet}
-use Rattle.edit.specs.Keyed.{placeOf, hasOf, putOf}
-use Rattle.edit.specs.KeyedPlaces.{place-le, put-at, put-has, put-place}
+use Rattle.keyed.specs.Keyed.{placeOf, hasOf, putOf}
+use Rattle.keyed.specs.Places.{place-le, put-at, put-has, put-place}
 use Rattle.edit.specs.Edit.{sheetAt, start, idOf, counting, inserting, removing, After, putIn, removeIn}
 use Rattle.edit.specs.Taken.{Taken, taken-at}
-use Rattle.edit.specs.Rebuilt.{head, head-read}
-use Rattle.edit.specs.Outcomes.{holding, Put, replaces, inserts, put-done, put-sheet}
-use Rattle.edit.specs.Touched.{inserted-before, inserted-moved, inserted-rest}
+use Rattle.revisions.specs.Rebuilt.{head, head-read}
+use Rattle.revisions.specs.Outcomes.{holding, Put, replaces, inserts, put-done, put-sheet}
+use Rattle.revisions.specs.Touched.{inserted-before, inserted-moved, inserted-rest}
 
 -- a header that was read of twelve bytes is written as those
 header-same : (x : List ℕ) (h : Header) → length x ≡ 12 → Fit (bytes 12) x → readHeader x ≡ given h → headerFault h 0 ≡ 0 → headerBytes h ≡ x

@@ -11,11 +11,11 @@ use Rattle.sheet.specs.declared.Record.{Record}
 use Rattle.sheet.specs.Refusals.{Answer, given, refused}
 use Rattle.sheet.specs.RecordExactly.{record-id}
 use Rattle.checker.specs.Check.{Sheet}
-use Rattle.edit.specs.Keyed.{rises, lookup, putOf, outOf, Edit, put, out, mapAll, listAfter, listAll, Keys}
-use Rattle.edit.specs.KeyedLaws.{edits}
+use Rattle.keyed.specs.Keyed.{rises, lookup, putOf, outOf, Edit, put, out, mapAll, listAfter, listAll, Keys}
+use Rattle.keyed.specs.MapLaws.{edits}
 use Rattle.edit.specs.Edit.{sheetAt, idOf, counting, After, putIn, removeIn}
 use Rattle.edit.specs.Taken.{taken-at}
-use Rattle.edit.specs.Outcomes.{holding, holds-its-own, put-done, put-sheet, remove-sheet}
+use Rattle.revisions.specs.Outcomes.{holding, holds-its-own, put-done, put-sheet, remove-sheet}
 
 -- ---- edits of a buffer
 

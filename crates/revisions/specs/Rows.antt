@@ -26,11 +26,11 @@ use Rattle.sheet.specs.RecordExactly.{belongs, linesOf, valuesOf, record-read-1
 use Rattle.checker.specs.Check.{_then_, demand, headerFor, partsFrom, soundAfter, recordsIn, Sheet, sheetIn}
 use Rattle.checker.specs.CheckLaws.{then-given, demand-given, header-fits}
 use Rattle.checker.specs.Unjudged.{room, soundSheet}
-use Rattle.edit.specs.Keyed.{hasOf}
-use Rattle.edit.specs.KeyedPlaces.{Present, has-present, present-has}
+use Rattle.keyed.specs.Keyed.{hasOf}
+use Rattle.keyed.specs.Places.{Present, has-present, present-has}
 use Rattle.edit.specs.Edit.{sheetAt, idOf, After, hasRoom, placing, putIn, removeIn}
 use Rattle.edit.specs.Parts.{Wide, parts-wide}
 use Rattle.edit.specs.Taken.{taken-at}
 
 -- ---- the cases
 

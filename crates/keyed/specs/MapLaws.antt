@@ -9,7 +9,7 @@ use native.Mathlib.Omega.{arith}
 use lib.Dec.{ltb, eqb}
 use lib.ListN.{length, take, drop}
 use borrow.Author.Tests.{ltb-true, ltb-false, lt-ltb, eqb-true, eqb-false, eq-eqb, ne-eqb}
-use Rattle.edit.specs.Keyed.{rises, lookup, putOf, outOf, Edit, put, out, mapAfter, mapAll, listAfter, listAll, Keys}
+use Rattle.keyed.specs.Keyed.{rises, lookup, putOf, outOf, Edit, put, out, mapAfter, mapAll, listAfter, listAll, Keys}
 
 module _ {A : Type 0} (key : A → ℕ) where
   both : (a b : Bool) → (a && b) ≡ true → (a ≡ true) × (b ≡ true)

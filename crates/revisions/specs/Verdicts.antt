@@ -21,13 +21,13 @@ use Rattle.checker.specs.Entry.{entryBytes}
 use Rattle.checker.specs.Check.{_then_, demand, headerFor, recordPart, recordOf, partsFrom, Sheet, sheetIn, entryOf, outputOf}
 use Rattle.checker.specs.CheckLaws.{then-given, sheet-whole, verdict-at}
 use Rattle.checker.specs.Unjudged.{room, soundSheet}
-use Rattle.edit.specs.Keyed.{Edit, put, out, putOf, outOf, listAfter}
-use Rattle.edit.specs.KeyedPlaces.{At, put-keeps, out-keeps}
+use Rattle.keyed.specs.Keyed.{Edit, put, out, putOf, outOf, listAfter}
+use Rattle.keyed.specs.Places.{At, put-keeps, out-keeps}
 use Rattle.edit.specs.Edit.{sheetAt, idOf, counting, After}
 use Rattle.edit.specs.Parts.{parts-within}
 use Rattle.edit.specs.Taken.{Reads, nothing, reads, Taken, taken-at}
-use Rattle.edit.specs.Outcomes.{holding}
-use Rattle.edit.specs.Sequences.{editIn, one-edit}
+use Rattle.revisions.specs.Outcomes.{holding}
+use Rattle.revisions.specs.Sequences.{editIn, one-edit}
 
 -- ---- what a verdict rests on
 
