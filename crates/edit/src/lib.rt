@@ -65,9 +65,9 @@ fn replace(buf: &mut [u8], i: u16, r: Record)
     requires { ⌜ (recordFault r 0 ≡ 0) × (start i + 16 ≤ length (now buf)) ⌝ }
     ensures { λ _. ⌜ now (buf .exit) ≡ replacing i r (now (buf .entry)) ⌝ }
 {
-    let at = HEADER + RECORD * (i as usize);
-    let end = at + RECORD;
-    record::write_record(r, &mut buf[at..end]);
+    let first = HEADER + RECORD * (i as usize);
+    let past = first + RECORD;
+    record::write_record(r, &mut buf[first..past]);
 }
 
 // A sound record in as record i, under the header h.
@@ -89,7 +89,7 @@ fn take_out(buf: &mut [u8], len: usize, h: Header, i: u16)
     let at = HEADER + RECORD * (i as usize);
     shift::close(buf, at, len);
     let freed = len - RECORD;
-    shift::clear(&mut buf[freed..len]);
+    shift::clear(buf, freed, len);
     header::write_header(h, buf);
 }
 
