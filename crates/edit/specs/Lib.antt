@@ -3,4 +3,5 @@ pub mod Steps
 pub mod Parts
 pub mod Taken
 pub mod HeaderCount
+pub mod Done
 pub mod Only

@@ -118,7 +118,7 @@ fn put_sound(buf: &mut [u8], len: usize, h: Header, r: Record) -> Edited
     ensures { λ e. ⌜ Edits (putIn (now (buf .entry)) len r) (now (buf .entry)) e (now (buf .exit)) ⌝ }
 {
     let n = h.count;
-    let id = r.id;
+    let id = r.id as u32;
     let i = find::place_of(buf, n, id);
     if find::has_at(buf, n, i, id) {
         replace(buf, i, r);
@@ -161,7 +161,7 @@ pub fn put_numbers(buf: &mut [u8], len: usize, f: [u32; 13]) -> Edited
     }
 }
 
-fn remove_sound(buf: &mut [u8], len: usize, h: Header, id: u16) -> Edited
+fn remove_sound(buf: &mut [u8], len: usize, h: Header, id: u32) -> Edited
     requires { ⌜ Known (now buf) len h ⌝ }
     ensures { λ e. ⌜ Edits (removeIn (now (buf .entry)) len id) (now (buf .entry)) e (now (buf .exit)) ⌝ }
 {
@@ -176,7 +176,7 @@ fn remove_sound(buf: &mut [u8], len: usize, h: Header, id: u16) -> Edited
 }
 
 // The record of an id out of the sheet: those after it close the gap, and the sixteen bytes that come free are zeroed. A refusal changes no byte.
-pub fn remove(buf: &mut [u8], len: usize, id: u16) -> Edited
+pub fn remove(buf: &mut [u8], len: usize, id: u32) -> Edited
     ensures { λ e. ⌜ Edits (removeIn (now (buf .entry)) len id) (now (buf .entry)) e (now (buf .exit)) ⌝ }
 {
     let read = sheet_at(buf, len);

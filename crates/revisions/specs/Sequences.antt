@@ -15,7 +15,8 @@ use Rattle.keyed.specs.Keyed.{rises, lookup, putOf, outOf, Edit, put, out, mapA
 use Rattle.keyed.specs.MapLaws.{edits}
 use Rattle.edit.specs.Edit.{sheetAt, idOf, counting, After, putIn, removeIn}
 use Rattle.edit.specs.Taken.{taken-at}
-use Rattle.revisions.specs.Outcomes.{holding, holds-its-own, put-done, put-sheet, remove-sheet}
+use Rattle.edit.specs.Done.{put-done}
+use Rattle.revisions.specs.Outcomes.{holding, holds-its-own, put-sheet, remove-sheet}
 
 -- ---- edits of a buffer
 
