@@ -94,12 +94,12 @@ fn with_byte(x: Number, byte: u8) -> Number
         Number::None => Number::None,
         Number::Value(n) => {
             if byte < 48 {
-                return Number::None;
+                Number::None
+            } else if 57 < byte {
+                Number::None
+            } else {
+                Number::Value(with_digit(n, (byte - 48) as u32))
             }
-            if 57 < byte {
-                return Number::None;
-            }
-            Number::Value(with_digit(n, (byte - 48) as u32))
         }
     }
 }

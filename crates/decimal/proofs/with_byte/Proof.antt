@@ -13,27 +13,27 @@ use Rattle.decimal.proofs.with_byte.Tie as tie
 
 returns : tie.Need-returns
 returns c =
-    let a = c .before .before .before .before .args in
-    let x = c .before .before .x .given in
-    sym (ap (λ (y : Number). behind y (a .byte)) (x .1) ∙ behind-low (x .0 .0) (a .byte) (c .if1 .taken))
+    let a = c .before .before .args in
+    sym (ap (λ (y : Number). behind y (a .byte)) (c .enum-told .given .1) ∙ behind-none (a .byte))
 
 returns-2 : tie.Need-returns-2
 returns-2 c =
-    let a = c .before .before .before .before .before .args in
-    let x = c .before .before .before .x .given in
-    sym (ap (λ (y : Number). behind y (a .byte)) (x .1) ∙ behind-high (x .0 .0) (a .byte) (c .if2 .taken))
+    let a = c .before .before .before .before .args in
+    let x = c .before .before .x .given in
+    sym (ap (λ (y : Number). behind y (a .byte)) (x .1) ∙ behind-low (x .0 .0) (a .byte) (omega (arith, c .if1 .taken)))
 
 returns-3 : tie.Need-returns-3
 returns-3 c =
-    let a = c .before .before .args in
-    sym (ap (λ (y : Number). behind y (a .byte)) (c .enum-told .given .1) ∙ behind-none (a .byte))
+    let a = c .before .before .before .before .before .args in
+    let x = c .before .before .before .x .given in
+    sym (ap (λ (y : Number). behind y (a .byte)) (x .1) ∙ behind-high (x .0 .0) (a .byte) (omega (arith, c .if2 .taken)))
 
 returns-4 : tie.Need-returns-4
 returns-4 c =
     let a = c .before .before .before .before .before .before .args in
     let x = c .before .before .before .before .x .given in
     ap Value (c .with-digit .ensures)
-    ∙ sym (ap (λ (y : Number). behind y (a .byte)) (x .1) ∙ behind-digit (x .0 .0) (a .byte) (c .before .before .if1 .left) (c .before .if2 .left))
+    ∙ sym (ap (λ (y : Number). behind y (a .byte)) (x .1) ∙ behind-digit (x .0 .0) (a .byte) (omega (arith, c .before .before .if1 .left)) (omega (arith, c .before .if2 .left)))
 
 pub with-byte-spec : {M : Type 1} → statement M
 with-byte-spec =
@@ -41,9 +41,9 @@ with-byte-spec =
     (tie.spec
     (λ c. search needs)
     (λ c. search needs)
-    returns
-    returns-2
     (λ c. search needs)
     (λ c κs. search needs)
+    returns
+    returns-2
     returns-3
     returns-4)
