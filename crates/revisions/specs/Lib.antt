@@ -5,3 +5,5 @@ pub mod Touched
 pub mod BackAgain
 pub mod Verdicts
 pub mod Rows
+pub mod RowLaws
+pub mod Example
