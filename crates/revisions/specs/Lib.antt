@@ -6,4 +6,5 @@ pub mod BackAgain
 pub mod Verdicts
 pub mod Rows
 pub mod RowLaws
+pub mod Numbers
 pub mod Example

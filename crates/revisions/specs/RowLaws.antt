@@ -35,7 +35,7 @@ use Rattle.revisions.specs.Rows.{SheetRow, over, own, Full, buffer, coun
 
 -- ---- the sheet's own
 
-sheet-row : (b : List ℕ) (len k p : ℕ) → Exactly (sheetAt b len ≡ refused k p) (SheetRow b len k p)
+pub sheet-row : (b : List ℕ) (len k p : ℕ) → Exactly (sheetAt b len ≡ refused k p) (SheetRow b len k p)
 unfolding sheetAt _then_ demand
 sheet-row b len k p = (forth (decLt (length b) len), back)
   where
@@ -54,7 +54,7 @@ sheet-row b len k p = (forth (decLt (length b) len), back)
 -- ---- a put
 
 -- the same refusal of something else
-refused-as : {A B : Type 0} {l q k p : ℕ} → _≡_ {A = Answer A} (refused l q) (refused k p) → _≡_ {A = Answer B} (refused l q) (refused k p)
+pub refused-as : {A B : Type 0} {l q k p : ℕ} → _≡_ {A = Answer A} (refused l q) (refused k p) → _≡_ {A = Answer B} (refused l q) (refused k p)
 refused-as e = ap₂ refused (refused-number e) (refused-place e)
 
 never : (x : Bool) → x ≡ true → x ≡ false → ⊥
