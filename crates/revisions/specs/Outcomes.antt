@@ -17,6 +17,7 @@ use Rattle.sheet.specs.RefusalLaws.{given-same, given-refused, by-none}
 use Rattle.sheet.specs.Header.{headerBytes}
 use Rattle.sheet.specs.Record.{recordFault, recordBytes}
 use Rattle.sheet.specs.RecordExactly.{record-id}
+use Rattle.sheet.specs.OwnBytes.{header-bytes-length, record-bytes-length, header-bytes-read, record-bytes-read}
 use Rattle.checker.specs.Check.{_then_, demand, partsFrom, Sheet}
 use Rattle.checker.specs.CheckLaws.{then-given, demand-given}
 use Rattle.keyed.specs.Keyed.{rises, placeOf, hasOf, putOf, outOf}
@@ -26,7 +27,7 @@ use Rattle.edit.specs.Edit.{sheetAt, start, idOf, counting, replacing, insertin
 use Rattle.edit.specs.Done.{Put, replaces, inserts, put-done, remove-done}
 use Rattle.edit.specs.HeaderCount.{counting-sound}
 use Rattle.edit.specs.Taken.{nothing, reads, Taken, taken-at}
-use Rattle.revisions.specs.Rebuilt.{header-length, record-length, header-back, record-back, head, head-read, rebuilt, inserted-bytes, replaced-bytes, removed-bytes}
+use Rattle.revisions.specs.Rebuilt.{head, head-read, rebuilt, inserted-bytes, replaced-bytes, removed-bytes}
 
 -- a sheet that holds these records, which its header counts
 abbrev pub holding : Header → List Record → Sheet
@@ -73,8 +74,8 @@ module _ (b : List ℕ) (len : ℕ) (t : Sheet) (found : sheetAt b len ≡ given
         in-words _ a h _ (putOf idOf r rs)
         (ap (λ (x : After). x .bytes) e ∙ replaced-bytes b len t k i inside m r)
         (ap (λ (x : After). x .size) e ∙ k .whole)
-        (rebuilt b len t k i inside (i + 1) (omega arith) (take 12 b) h (recordBytes r ∷ []) (r ∷ []) (drop len b) (head b len t k i) (head-read b len t k i) (record-length r, tt)
-        (reads (record-back r z) nothing) (omega arith) (ap (rises idOf 0) (sym put) ∙ rising))
+        (rebuilt b len t k i inside (i + 1) (omega arith) (take 12 b) h (recordBytes r ∷ []) (r ∷ []) (drop len b) (head b len t k i) (head-read b len t k i) (record-bytes-length r, tt)
+        (reads (record-bytes-read 0 r z) nothing) (omega arith) (ap (rises idOf 0) (sym put) ∙ rising))
         (sym put)
         (ap (λ (x : ℕ). counting x h) (sym many))
     put-held a (inserts new fits few e) =
@@ -86,8 +87,8 @@ module _ (b : List ℕ) (len : ℕ) (t : Sheet) (found : sheetAt b len ≡ given
         in-words _ a g _ (putOf idOf r rs)
         (ap (λ (x : After). x .bytes) e ∙ inserted-bytes b len t k i inside g r)
         (ap (λ (x : After). x .size) e ∙ omega (arith, k .whole))
-        (rebuilt b len t k i inside i inside (headerBytes g) g (recordBytes r ∷ []) (r ∷ []) (drop (len + 16) b) (header-length g) (header-back g sound) (record-length r, tt)
-        (reads (record-back r z) nothing) (omega (arith, inside)) (ap (rises idOf 0) (sym put) ∙ rising))
+        (rebuilt b len t k i inside i inside (headerBytes g) g (recordBytes r ∷ []) (r ∷ []) (drop (len + 16) b) (header-bytes-length g) (header-bytes-read g sound) (record-bytes-length r, tt)
+        (reads (record-bytes-read 0 r z) nothing) (omega (arith, inside)) (ap (rises idOf 0) (sym put) ∙ rising))
         (sym put)
         (ap (λ (x : ℕ). counting x h) (sym many))
 
@@ -111,7 +112,7 @@ module _ (b : List ℕ) (len : ℕ) (t : Sheet) (found : sheetAt b len ≡ given
       in-words _ a g _ (outOf idOf id rs)
       (ap (λ (x : After). x .bytes) (d .after) ∙ removed-bytes b len t k j within m g)
       (ap (λ (x : After). x .size) (d .after) ∙ omega (arith, k .whole))
-      (rebuilt b len t k j within (j + 1) (omega arith) (headerBytes g) g [] [] (replicate 16 0 ++ drop len b) (header-length g) (header-back g sound) tt nothing (omega arith)
+      (rebuilt b len t k j within (j + 1) (omega arith) (headerBytes g) g [] [] (replicate 16 0 ++ drop len b) (header-bytes-length g) (header-bytes-read g sound) tt nothing (omega arith)
       (ap (rises idOf 0) (sym out) ∙ out-rises idOf 0 id rs (k .order)))
       (sym out)
       (ap (λ (x : ℕ). counting x h) (sym many))
