@@ -4,16 +4,16 @@ use Prim.Native.Nat.{ℕ}
 use mathlib.Core.Path.{_≡_, refl}
 use mathlib.Core.Bool.{false}
 use mathlib.Core.List.{List, [], _∷_, _++_}
-use lib.ListN.{take, set, replicate}
+use lib.ListN.{set, replicate}
 use Rattle.keyed.specs.Keyed.{placeOf, hasOf}
 use Rattle.sheet.specs.declared.Record.{Record}
 use Rattle.sheet.specs.declared.Body.the-variants.{Plate as isPlate}
 use Rattle.sheet.specs.Refusals.{given, refused}
 use Rattle.sheet.specs.Header.{headerIn, readHeader}
-use Rattle.sheet.specs.Record.{plateFault, memberFault, recordIn, readRecord}
+use Rattle.sheet.specs.Record.{plateFault, recordIn, readRecord}
 use Rattle.checker.specs.Check.{_then_, demand, headerFor, partsFrom, soundAfter, recordsIn, sheetIn}
 use Rattle.checker.specs.Unjudged.{soundSheet}
-use Rattle.edit.specs.Edit.{sheetAt, replacing, inserting, removing, placing, putIn, removeIn, sizeBy}
+use Rattle.edit.specs.Edit.{sheetAt, replacing, inserting, removing, placing, putIn, removeIn}
 
 -- V's header, with a count of one, two and three
 abbrev vessel : ℕ → List ℕ

@@ -3,17 +3,15 @@
 use Prim.Native.Nat.{ℕ}
 use mathlib.Core.Path.{_≡_, refl, sym, ap, _∙_}
 use mathlib.Core.List.{List}
-use Rattle.sheet.specs.declared.Header.{Header}
 use Rattle.sheet.specs.declared.Record.{Record}
 use Rattle.sheet.specs.Refusals.{Answer, given, refused}
-use Rattle.sheet.specs.RefusalLaws.{given-refused, given-same}
 use Rattle.sheet.specs.Record.{recordFault}
 use Rattle.sheet.specs.Exactly.{Exactly}
 use Rattle.numbers.specs.Fields.{recordNumbers}
 use Rattle.numbers.specs.From.{recordFrom}
 use Rattle.numbers.specs.Back.{record-from-numbers}
 use Rattle.checker.specs.Check.{_then_, Sheet}
-use Rattle.edit.specs.Edit.{sheetAt, headerOf, After, putIn, putNumbersIn}
+use Rattle.edit.specs.Edit.{sheetAt, headerOf, putIn, putNumbersIn}
 use Rattle.revisions.specs.Rows.{SheetRow}
 use Rattle.revisions.specs.RowLaws.{refused-as, sheet-row}
 

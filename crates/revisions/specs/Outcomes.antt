@@ -1,29 +1,24 @@
 -- The sheet that an edit which is done leaves.
 -- Assumes nothing.
-use Prim.Native.Nat.{ℕ, suc, _+_, _-_, _*_, _≤_, _<_}
-use mathlib.Core.Path.{_≡_, refl, sym, ap, ap₂, subst, _∙_}
-use mathlib.Core.Bool.{Bool, true, false, cond, _&&_}
+use Prim.Native.Nat.{ℕ, suc, _+_, _-_, _≤_, _<_}
+use mathlib.Core.Path.{_≡_, sym, ap, ap₂, _∙_}
+use mathlib.Core.Bool.{true}
 use mathlib.Core.List.{List, [], _∷_, _++_}
 use native.Mathlib.Omega.{arith}
-use lib.ListN.{length, take, drop, replicate, length-append, length-take, length-drop}
+use lib.ListN.{length, take, drop, replicate, length-append, length-drop}
 use lib.Seq.{length-take-le}
-use lib.Dec.{leb, ltb}
-use borrow.Author.Tests.{leb-true, ltb-true}
 use Rattle.sheet.specs.declared.Header.{Header}
 use Rattle.sheet.specs.declared.Record.{Record}
-use Rattle.sheet.specs.Lines.{counts}
-use Rattle.sheet.specs.Refusals.{Answer, given, refused, recordRefused}
-use Rattle.sheet.specs.RefusalLaws.{given-same, given-refused, by-none}
+use Rattle.sheet.specs.Refusals.{given}
 use Rattle.sheet.specs.Header.{headerBytes}
 use Rattle.sheet.specs.Record.{recordFault, recordBytes}
 use Rattle.sheet.specs.RecordExactly.{record-id}
 use Rattle.sheet.specs.OwnBytes.{header-bytes-length, record-bytes-length, header-bytes-read, record-bytes-read}
-use Rattle.checker.specs.Check.{_then_, demand, partsFrom, Sheet}
-use Rattle.checker.specs.CheckLaws.{then-given, demand-given}
-use Rattle.keyed.specs.Keyed.{rises, placeOf, hasOf, putOf, outOf}
+use Rattle.checker.specs.Check.{Sheet}
+use Rattle.keyed.specs.Keyed.{rises, placeOf, putOf, outOf}
 use Rattle.keyed.specs.MapLaws.{put-rises, out-rises}
 use Rattle.keyed.specs.Places.{place-le, has-lt, put-at, out-at}
-use Rattle.edit.specs.Edit.{sheetAt, start, idOf, counting, replacing, inserting, removing, After, hasRoom, placing, putIn, removeIn}
+use Rattle.edit.specs.Edit.{sheetAt, start, idOf, counting, After, putIn, removeIn}
 use Rattle.edit.specs.Done.{Put, replaces, inserts, put-done, remove-done}
 use Rattle.edit.specs.HeaderCount.{counting-sound}
 use Rattle.edit.specs.Taken.{nothing, reads, Taken, taken-at}

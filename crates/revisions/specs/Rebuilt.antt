@@ -1,32 +1,29 @@
 -- The sheet that an edit leaves: its bytes in their parts, and what is read of them.
 -- Assumes nothing.
-use Prim.Native.Nat.{ℕ, zero, suc, _+_, _-_, _*_, _≤_, _<_}
-use mathlib.Core.Path.{_≡_, refl, sym, ap, ap₂, subst, _∙_}
-use mathlib.Core.Bool.{true, false, cond}
+use Prim.Native.Nat.{ℕ, _+_, _-_, _*_, _≤_, _<_}
+use mathlib.Core.Path.{_≡_, sym, ap, ap₂, subst, _∙_}
+use mathlib.Core.Bool.{true}
 use mathlib.Core.List.{List, [], _∷_, _++_, append-assoc, append-nil}
 use native.Mathlib.Omega.{arith}
 use native.Mathlib.Nat.{zero-add}
-use lib.ListN.{length, take, drop, replicate, length-append, length-take, length-drop, take-append-drop, drop-of-length-le}
-use lib.Seq.{take-at, drop-at, drop-drop, take-add, take-take, take-append-le, length-take-le}
-use lib.Dec.{ltb}
-use borrow.Author.Tests.{le-leb, le-ltb, eq-eqb}
-use Rattle.layout.specs.Layout.{pack, bytes}
-use Rattle.layout.specs.Laws.{length-unpack}
+use lib.ListN.{length, take, drop, replicate, length-append, take-append-drop}
+use lib.Seq.{take-at, drop-at, drop-drop, take-add, length-take-le}
+use borrow.Author.Tests.{le-leb, eq-eqb}
+use Rattle.layout.specs.Layout.{bytes}
 use Rattle.sheet.specs.declared.Header.{Header}
 use Rattle.sheet.specs.declared.Record.{Record}
-use Rattle.sheet.specs.Lines.{headerWidths, counts}
-use Rattle.sheet.specs.Refusals.{Answer, given, refused}
-use Rattle.sheet.specs.Header.{headerFault, headerValues, headerIn, headerBytes, readHeader, writeHeader}
+use Rattle.sheet.specs.Refusals.{given}
+use Rattle.sheet.specs.Header.{headerBytes, readHeader}
 use Rattle.sheet.specs.HeaderLaws.{header-ranges}
 use Rattle.sheet.specs.HeaderBack.{header-read-fine}
-use Rattle.sheet.specs.Record.{recordFault, recordNumber, recordBytes, readRecord, writeRecord}
+use Rattle.sheet.specs.Record.{recordBytes}
 use Rattle.sheet.specs.OwnBytes.{header-front}
 use Rattle.checker.specs.Check.{_then_, demand, headerFor, part, partsFrom, recordsIn, Sheet, sheetIn}
 use Rattle.checker.specs.Unjudged.{room, soundSheet}
 use Rattle.keyed.specs.Keyed.{rises}
-use Rattle.edit.specs.Edit.{sheetAt, start, idOf, counting, replacing, inserting, removing}
+use Rattle.edit.specs.Edit.{sheetAt, start, idOf, replacing, inserting, removing}
 use Rattle.edit.specs.Parts.{join, Wide, join-append, join-length, wide-append, parts-length, parts-wide, parts-split, cut, joined}
-use Rattle.edit.specs.Taken.{Reads, reads, reads-taken, reads-append, reads-take, reads-drop, Taken}
+use Rattle.edit.specs.Taken.{Reads, reads-taken, reads-append, reads-take, reads-drop, Taken}
 
 -- ---- a sheet that is put together
 

@@ -1,6 +1,6 @@
 -- When an edit is turned away: each refusal is given exactly when its case holds and none before it does.
 -- Assumes nothing.
-use Prim.Native.Nat.{ℕ, zero, suc, _+_, _*_, _≤_, _<_}
+use Prim.Native.Nat.{ℕ, _+_, _*_, _≤_, _<_}
 use mathlib.Core.Path.{_≡_, refl, sym, ap, ap₂, _∙_}
 use mathlib.Core.Bool.{Bool, true, false, cond, _&&_}
 use mathlib.Core.List.{List, [], _∷_}
@@ -9,25 +9,25 @@ use native.Mathlib.Decide.{decLt, ℕ-discrete}
 use lib.ListN.{length, take}
 use lib.Seq.{length-take-le}
 use lib.Dec.{leb, ltb, eqb}
-use borrow.Author.Tests.{le-leb, lt-leb, le-ltb, lt-ltb, leb-true, leb-false, ltb-false}
+use borrow.Author.Tests.{le-leb, lt-leb, le-ltb, leb-false, ltb-false}
 use Rattle.layout.specs.Line.{Allowed}
 use Rattle.sheet.specs.declared.Header.{Header}
 use Rattle.sheet.specs.declared.Record.{Record}
 use Rattle.sheet.specs.Lines.{counts}
 use Rattle.sheet.specs.Refusals.{Answer, given, refused, recordRefused}
-use Rattle.sheet.specs.RefusalLaws.{given-refused, given-same, refused-number, refused-place}
+use Rattle.sheet.specs.RefusalLaws.{given-refused, refused-number, refused-place}
 use Rattle.sheet.specs.Header.{readHeader}
 use Rattle.sheet.specs.HeaderLaws.{header-ranges}
 use Rattle.sheet.specs.HeaderBack.{header-read-fine}
 use Rattle.sheet.specs.HeaderExactly.{header-read-1, header-read-others}
 use Rattle.sheet.specs.Record.{recordFault, readRecord}
-use Rattle.sheet.specs.Exactly.{Exactly, LaterFault}
-use Rattle.sheet.specs.RecordExactly.{belongs, linesOf, valuesOf, record-read-1, record-read-others, record-fault-6, record-fault-7, record-fault-given, record-fault-others}
+use Rattle.sheet.specs.Exactly.{Exactly}
+use Rattle.sheet.specs.RecordExactly.{linesOf, valuesOf, record-read-1, record-read-others, record-fault-6, record-fault-7, record-fault-given, record-fault-others}
 use Rattle.checker.specs.Check.{_then_, demand, headerFor, partsFrom, soundAfter, recordsIn, Sheet, sheetIn}
-use Rattle.checker.specs.CheckLaws.{then-given, demand-given, header-fits}
+use Rattle.checker.specs.CheckLaws.{header-fits}
 use Rattle.checker.specs.Unjudged.{room, soundSheet}
 use Rattle.keyed.specs.Keyed.{hasOf}
-use Rattle.keyed.specs.Places.{Present, has-present, present-has}
+use Rattle.keyed.specs.Places.{has-present, present-has}
 use Rattle.edit.specs.Edit.{sheetAt, idOf, After, hasRoom, placing, putIn, removeIn}
 use Rattle.edit.specs.Parts.{Wide, parts-wide}
 use Rattle.edit.specs.Taken.{taken-at}

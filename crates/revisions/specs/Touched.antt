@@ -1,12 +1,12 @@
 -- Which bytes an edit touches: a replacement its own sixteen; any other the header and the records from its place on; and none past the sheet but the
 -- sixteen that it frees or takes.
 -- Assumes nothing.
-use Prim.Native.Nat.{ℕ, _+_, _-_, _≤_, _<_}
-use mathlib.Core.Path.{_≡_, refl, sym, ap, ap₂, _∙_}
+use Prim.Native.Nat.{ℕ, _+_, _-_, _≤_}
+use mathlib.Core.Path.{_≡_, sym, ap, _∙_}
 use mathlib.Core.List.{List, _++_, append-assoc}
 use native.Mathlib.Omega.{arith}
-use lib.ListN.{length, take, drop, replicate, length-append, length-take, length-drop, length-replicate}
-use lib.Seq.{take-at, drop-at, drop-drop, length-take-le}
+use lib.ListN.{length, take, drop, replicate, length-append, length-drop, length-replicate}
+use lib.Seq.{take-at, drop-at, length-take-le}
 use Rattle.sheet.specs.declared.Header.{Header}
 use Rattle.sheet.specs.declared.Record.{Record}
 use Rattle.sheet.specs.Header.{headerBytes}
