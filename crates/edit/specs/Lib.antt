@@ -10,3 +10,4 @@ pub mod Rebuilt
 pub mod Outcomes
 pub mod Only
 pub mod Sequences
+pub mod Within
