@@ -11,3 +11,4 @@ pub mod Outcomes
 pub mod Only
 pub mod Sequences
 pub mod Within
+pub mod Past

@@ -185,3 +185,13 @@ pub fn remove(buf: &mut [u8], len: usize, id: u16) -> Edited
         HeaderRead::Good(h) => remove_sound(buf, len, h, id),
     }
 }
+
+// The same of an id that a number is: of those past 16 bits, which no record has, the highest of 16 stands for all.
+pub fn remove_number(buf: &mut [u8], len: usize, id: u32) -> Edited
+    ensures { λ e. ⌜ Edits (removeIn (now (buf .entry)) len id) (now (buf .entry)) e (now (buf .exit)) ⌝ }
+{
+    if id < 65536 {
+        return remove(buf, len, id as u16);
+    }
+    remove(buf, len, 65535)
+}
