@@ -11,6 +11,9 @@ use Rattle.edits.specs.Stream.{editedText}
 use Rattle.edits.proofs.print_edit.Statement.{statement}
 use Rattle.edits.proofs.print_edit.Tie as tie
 
+put-line-requires : tie.Need-put-line-requires
+put-line-requires c κs = (omega arith, c .before .before .pre)
+
 within : (c : tie.After-put-line) → c .put-line .result ≤ length (c .put-line .last .1 .0)
 within c =
     let most = laid-inside (replicate 22 0) (editedText (c .before .before .before .args .e)) (c .put-line .ensures) (c .put-line .kept .1 .0) in
@@ -21,7 +24,7 @@ print-edit-spec =
     tie.close
     (tie.spec
     (λ c. search needs)
-    (λ c κs. search needs)
+    put-line-requires
     (λ c. within (c .before))
     (λ c. sym (length-take-le _ _ (within (c .before .before))))
     (λ c κs. search needs)
