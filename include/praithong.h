@@ -48,11 +48,23 @@ uint64_t yard_write_record(const uint32_t fields[13], uint8_t *out, uint64_t out
 /* Reads one verdict in the first four bytes: 0, and fields are id, rule (0 is a pass) and required (0 on a pass, and where nothing will do). */
 uint64_t yard_read_verdict(const uint8_t *bytes, uint64_t bytes_len, uint32_t fields[3]);
 
+/* Puts the record that the fields are into the sheet in the first len bytes of buf, a buffer of buf_len bytes: it replaces the record with its id, or
+   goes in at its place in the id order, and those from there on move up by sixteen bytes. The answer is the sheet's new length: len, or len + 16. A
+   replacement changes its own sixteen bytes and no others; an insertion the header's count, the bytes from its place on and, of those past the sheet,
+   the next sixteen. Refused: 1 also where len is above buf_len, then as a check refuses the sheet, but never by 5; then 6 and 7 on the fields, as record n
+   of the sheet; then 11, at place 0, where the id is new and there are under len + 16 bytes of buffer, or n is 400 already. */
+uint64_t yard_put(uint8_t *buf, uint64_t buf_len, uint64_t len, const uint32_t fields[13]);
+
+/* Takes the record with this id out of the sheet in the first len bytes of buf, a buffer of buf_len bytes: those after it move down, the sixteen bytes
+   that come free at the sheet's end are zeroed, and the header's count goes down. The answer is the sheet's new length, len - 16. No other byte changes.
+   Refused as yard_put refuses the sheet; then 10, at place 0, where no record has the id, however great it is. */
+uint64_t yard_remove(uint8_t *buf, uint64_t buf_len, uint64_t len, uint32_t id);
+
 #ifdef __cplusplus
 }
 #endif
 
-/* Whether an answer is a refusal; the refusal's number, from 1 to 8, and its place. */
+/* Whether an answer is a refusal; the refusal's number, from 1 to 11, and its place. */
 static inline int yard_is_refused(uint64_t answer) { return (answer >> 40) != 0; }
 static inline uint32_t yard_number(uint64_t answer) { return (uint32_t)(answer >> 40); }
 static inline uint32_t yard_place(uint64_t answer) { return (uint32_t)answer; }

@@ -226,6 +226,185 @@ static void verdicts(void) {
   read_as("pass that requires", 3, yard_read_verdict, 4);
 }
 
+/* What must stand in the sheet's buffer and around it, whatever an edit does; and the length of the sheet. */
+static uint8_t guarded_wanted[GUARD + ROOM + GUARD];
+static uint8_t *const wanted = guarded_wanted + GUARD;
+static uint64_t length;
+
+static void as_it_is(void) {
+  for (int i = 0; i < (int)sizeof guarded_wanted; i++) guarded_wanted[i] = guarded_sheet[i];
+}
+
+/* The numbers of a record with the number's last three digits as its id, 000 being 1000, and all of it as its thickness, so that no two are alike. */
+static const uint32_t *numbered(int number) {
+  static uint32_t numbers[13];
+  for (int i = 0; i < 13; i++) numbers[i] = number % 2 ? plate[i] : member[i];
+  numbers[1] = (uint32_t)((number - 1) % 1000 + 1);
+  numbers[5] = (uint32_t)number;
+  return numbers;
+}
+
+/* A sheet with these records, up to a 0, at the front of bytes; its length. */
+static uint64_t lay(uint8_t *bytes, const int *numbers) {
+  uint32_t count = 0;
+  uint64_t answer = 0;
+  for (; numbers[count]; count++) answer |= yard_write_record(numbered(numbers[count]), bytes + 12 + 16 * count, 16);
+  answer |= yard_write_header(with(vessel, 8, 7, count), bytes, 12);
+  if (answer != 0) {
+    printf("a sheet to edit was not written\n");
+    exit(1);
+  }
+  return 12 + 16 * (uint64_t)count;
+}
+
+#define LIST(...) ((const int[]){__VA_ARGS__})
+
+static void begin(const int *numbers) {
+  clear_sheet();
+  length = lay(sheet, numbers);
+  as_it_is();
+}
+
+/* An edit is to leave these records; the sixteen bytes that a removal frees are to be zero. */
+static void leaving(const int *numbers) {
+  uint64_t left = lay(wanted, numbers);
+  if (left < length)
+    for (int i = 0; i < 16; i++) wanted[left + (uint64_t)i] = 0;
+}
+
+static void edited(const char *name, uint64_t answer) {
+  if (yard_is_refused(answer)) {
+    printf("%s: refused %u %u\n", name, yard_number(answer), yard_place(answer));
+  } else {
+    printf("%s: length %lu\n", name, answer);
+    length = answer;
+  }
+  for (int i = 0; i < (int)sizeof guarded_wanted; i++) {
+    if (guarded_sheet[i] != guarded_wanted[i]) {
+      printf("%s: byte %d of the buffer is not what it must be\n", name, i - GUARD);
+      exit(1);
+    }
+  }
+  intact(name, 0, 0);
+}
+
+static void put(const char *name, const uint32_t *numbers, uint64_t room) {
+  fill();
+  edited(name, yard_put(sheet, room, length, numbers));
+}
+
+static void take(const char *name, uint32_t id, uint64_t room) {
+  fill();
+  edited(name, yard_remove(sheet, room, length, id));
+}
+
+static void puts_in(void) {
+  begin(LIST(3, 7, 9, 0));
+  leaving(LIST(3, 1007, 9, 0));
+  put("put over record 1, in no more room", numbered(1007), length);
+  begin(LIST(3, 7, 9, 0));
+  leaving(LIST(2, 3, 7, 9, 0));
+  put("put in front, in room for one", numbered(2), 76);
+  leaving(LIST(2, 3, 4, 7, 9, 0));
+  put("put in the middle", numbered(4), 100);
+  leaving(LIST(2, 3, 4, 7, 9, 1000, 0));
+  put("put at the end", numbered(1000), ROOM);
+  leaving(LIST(2, 3, 4, 7, 9, 2000, 0));
+  put("put over the last", numbered(2000), 108);
+  begin(LIST(0));
+  leaving(LIST(500, 0));
+  put("put into an empty sheet", numbered(500), 28);
+}
+
+static void takes_out(void) {
+  begin(LIST(3, 7, 9, 12, 0));
+  leaving(LIST(7, 9, 12, 0));
+  take("remove the first", 3, length);
+  leaving(LIST(7, 12, 0));
+  take("remove the middle one", 9, 100);
+  leaving(LIST(7, 0));
+  take("remove the last", 12, 60);
+  leaving(LIST(7, 8, 0));
+  put("put where bytes came free", numbered(8), 44);
+  leaving(LIST(8, 0));
+  take("remove the first of two", 7, 44);
+  leaving(LIST(0));
+  take("remove the only one", 8, 28);
+  take("remove from an empty sheet", 8, ROOM);
+}
+
+/* The sheet as it is now, refused by both, in a buffer of so many bytes. */
+static void both_refuse(const char *name, uint64_t room) {
+  as_it_is();
+  put(name, numbered(8), room);
+  take(name, 7, room);
+}
+
+static void damage(const char *name, int at, uint8_t byte) {
+  begin(LIST(3, 7, 9, 0));
+  sheet[at] = byte;
+  both_refuse(name, ROOM);
+}
+
+static void refused_sheets(void) {
+  begin(LIST(3, 7, 9, 0));
+  both_refuse("a buffer of a byte too few", 59);
+  both_refuse("a buffer of no bytes", 0);
+  length = 11;
+  both_refuse("a sheet of 11 bytes", ROOM);
+  length = 0;
+  both_refuse("a sheet of no bytes", 0);
+  length = 0xFFFFFFFFFFFFFFFFu;
+  both_refuse("the longest sheet", ROOM);
+  length = 59;
+  both_refuse("a sheet with a byte too few", ROOM);
+  length = 76;
+  both_refuse("a sheet with a record too many", ROOM);
+  damage("version 0", 0, 0x07);
+  damage("a spare bit of the header", 11, 0x19);
+  damage("kind 15 in record 1", 28, 0xF0);
+  damage("a spare bit of record 2", 59, 1);
+  begin(LIST(3, 7, 7, 0));
+  both_refuse("equal ids", ROOM);
+}
+
+static void refused_edits(void) {
+  begin(LIST(3, 7, 9, 0));
+  put("put kind 9", with(numbered(7), 13, 0, 9), length);
+  put("put id 0", with(numbered(7), 13, 1, 0), length);
+  put("put id 65543", with(numbered(7), 13, 1, 65543), ROOM);
+  put("put the last number of a plate", with(numbered(7), 13, 12, 4294967295u), ROOM);
+  put("put K 0 of a member, with no room", with(numbered(8), 13, 12, 0), length);
+  put("put a new id in no more room", numbered(8), length);
+  put("put a new id in a byte too few", numbered(8), length + 15);
+  take("remove id 8", 8, ROOM);
+  take("remove id 0", 0, ROOM);
+  take("remove id 10", 10, ROOM);
+  take("remove id 65535", 65535, ROOM);
+  take("remove id 65543", 65543, ROOM);
+  take("remove id 4294967295", 4294967295u, ROOM);
+}
+
+static void full(void) {
+  static int numbers[401];
+  for (int i = 0; i < 399; i++) numbers[i] = 2 * i + 2;
+  begin(numbers);
+  numbers[399] = 999;
+  leaving(numbers);
+  put("put record 399", numbered(999), 6412);
+  put("put with n at 400", numbered(1000), ROOM);
+  put("put in front with n at 400", numbered(1), ROOM);
+  put("put kind 9 with n at 400", with(numbered(7), 13, 0, 9), ROOM);
+  put("put K 0 of a member with n at 400", with(numbered(8), 13, 12, 0), ROOM);
+  numbers[399] = 1999;
+  leaving(numbers);
+  put("put over record 399", numbered(1999), 6412);
+  for (int i = 0; i < 400; i++) numbers[i] = numbers[i + 1];
+  leaving(numbers);
+  take("remove the first of 400", 2, 6412);
+  take("remove it again", 2, 6412);
+}
+
 /* What ./barge prints of the sheet on standard input. */
 static void as_barge(void) {
   fill();
@@ -265,6 +444,7 @@ static void helpers(void) {
   taken_apart("the greatest that is no refusal", (one << 40) - 1);
   taken_apart("the least refusal", one << 40);
   taken_apart("the last record's last field", (7 * one << 40) + 32 * 399 + 13);
+  taken_apart("the greatest number", 11 * one << 40);
   taken_apart("the greatest place", (8 * one << 40) + 4294967295u);
 }
 
@@ -280,6 +460,11 @@ int main(int count, char **words) {
     records();
     sheets();
     verdicts();
+    puts_in();
+    takes_out();
+    refused_sheets();
+    refused_edits();
+    full();
     helpers();
   }
   return 0;

@@ -1,11 +1,21 @@
 // Text at the front of a lent slice: bytes as they are, and numbers in decimal. Too short a slice stays as it is, and the answer is then 0, so that nobody
-// has to look at its length first.
+// has to look at its length first. And the number that a lent text is.
 ghost use mathlib.Core.Path.{_≡_};
 ghost use mathlib.Core.List.{_++_};
-ghost use Prim.Native.Nat.{_≤_};
+ghost use Prim.Native.Nat.{_+_, _*_, _≤_};
 ghost use lib.ListN.{length, drop};
 ghost use Rattle.decimal.specs.Decimal.{decimalOf, lastDigit};
 ghost use Rattle.decimal.specs.Put.{Puts};
+ghost use Rattle.decimal.specs.Read.{held, readNumber, behind};
+
+// What a text is: a number, or none.
+pub enum Number {
+    Value(u32),
+    None,
+}
+
+// The highest number that is told from those above it.
+const HIGHEST: u64 = 4294967295;
 
 // How many digits a number has.
 pub fn width(n: u32) -> usize
@@ -64,4 +74,49 @@ pub fn write_number(n: u32, after: &[u8], out: &mut [u8]) -> usize
     }
     spell(n, count, out);
     count + write_text(after, &mut out[count..])
+}
+
+// The digit behind the number. The sum is worked out in 64 bits, so that one above the highest is seen before it is cut.
+fn with_digit(n: u32, digit: u32) -> u32
+    ensures { λ r. ⌜ r ≡ held (10 * n + digit) ⌝ }
+{
+    let more = 10 * (n as u64) + digit as u64;
+    if HIGHEST < more {
+        return HIGHEST as u32;
+    }
+    more as u32
+}
+
+fn with_byte(x: Number, byte: u8) -> Number
+    ensures { λ r. ⌜ r ≡ behind x byte ⌝ }
+{
+    match x {
+        Number::None => Number::None,
+        Number::Value(n) => {
+            if byte < 48 {
+                Number::None
+            } else if 57 < byte {
+                Number::None
+            } else {
+                Number::Value(with_digit(n, (byte - 48) as u32))
+            }
+        }
+    }
+}
+
+// The number that a text of decimal digits is, one above 32 bits being the highest of them; none where it is empty or has any other byte.
+pub fn read_number(text: &[u8]) -> Number
+    ensures { λ r. ⌜ r ≡ readNumber (now (text .entry)) ⌝ }
+{
+    if text.len() == 0 {
+        return Number::None;
+    }
+    let mut x = Number::Value(0);
+    let mut i: usize = 0;
+    while i < text.len() {
+        let byte = text[i];
+        x = with_byte(x, byte);
+        i += 1;
+    }
+    x
 }

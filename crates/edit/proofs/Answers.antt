@@ -22,8 +22,8 @@ use Rattle.checker.specs.Check.{_then_, demand, Sheet}
 use Rattle.checker.specs.CheckLaws.{then-given}
 use Rattle.checker.specs.Unjudged.{soundHeader}
 use Rattle.edit.specs.declared.Edited.the-variants.{Length, Refused as notEdited}
-use Rattle.edit.specs.Keyed.{placeOf, hasOf}
-use Rattle.edit.specs.KeyedPlaces.{place-le, has-lt}
+use Rattle.keyed.specs.Keyed.{placeOf, hasOf}
+use Rattle.keyed.specs.Places.{place-le, has-lt}
 use Rattle.edit.specs.Edit.{sheetAt, headerOf, start, idOf, counting, replacing, inserting, removing, After, hasRoom, placing, putIn, putNumbersIn, removeIn, sizeBy, bytesBy, Edits}
 use Rattle.edit.specs.Steps.{placeIn, hasIn, Known}
 use Rattle.edit.specs.HeaderCount.{counting-sound, counting-few}

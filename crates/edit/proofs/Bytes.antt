@@ -14,7 +14,7 @@ use Rattle.sheet.specs.Header.{headerFault, headerBytes, writeHeader}
 use Rattle.sheet.specs.Record.{recordFault, recordBytes, writeRecord}
 use Rattle.checker.specs.Check.{part}
 use Rattle.edit.specs.Edit.{start, replacing, inserting, removing}
-use Rattle.edit.specs.Steps.{opened, without, closed, Fits, Stands}
+use Rattle.edit.specs.Steps.{opened, without, closed, cleared, Fits, Stands}
 use Rattle.edit.specs.Parts.{drop-take}
 
 -- a part, the other way round
@@ -37,6 +37,14 @@ replaced b v i r z l w =
     let own : v ≡ recordBytes r = w ∙ rw (le-ltb (length o) 16 long, eq-eqb (recordFault r 0) 0 z, end) (append-nil (recordBytes r)) in
     ap₂ (λ (x : List ℕ) (k : ℕ). take (start i) b ++ (x ++ drop k (drop (start i) b))) own d
     ∙ ap (λ (x : List ℕ). take (start i) b ++ (recordBytes r ++ x)) (drop-drop 16 (start i) b)
+
+-- a part comes back as zeros
+pub zeroed : (b v : List ℕ) (a e : ℕ) → a ≤ e → e ≤ length b → v ≡ replicate (length (take (e - a) (drop a b))) 0 → putMid a (e - a) b v ≡ cleared b a e
+unfolding cleared
+zeroed b v a e l m f =
+    let n : length (take (e - a) (drop a b)) ≡ e - a = length-take-le (e - a) (drop a b) (omega (arith, length-drop a b)) in
+    let end : a + (e - a) ≡ e = omega arith in
+    ap₂ (λ (x y : List ℕ). take a b ++ (x ++ y)) (f ∙ ap (λ (k : ℕ). replicate k 0) n) (drop-drop (e - a) a b ∙ ap (λ (k : ℕ). drop k b) end)
 
 -- the header goes over the first twelve bytes of a buffer whose first a are known
 headed : (h : Header) (x y : List ℕ) → headerFault h 0 ≡ 0 → 12 ≤ length x → writeHeader h (x ++ y) .bytes ≡ headerBytes h ++ (drop 12 x ++ y)
@@ -67,30 +75,34 @@ module _ (b : List ℕ) (h : Header) (i len : ℕ) where
       ∙ headed h (take a b) (recordBytes r ++ after) (f .header) (omega arith)
       ∙ ap₂ (λ (x y : List ℕ). headerBytes h ++ (x ++ (recordBytes r ++ (y ++ drop (len + 16) b)))) (before (f .inside)) (sym (part-is b a len (f .inside)))
 
-  pub removed : Stands h i len (length b) → (o v q : List ℕ) → o ≡ closed b a (len - 16) → v ≡ replicate 16 0 → q ≡ writeHeader h (putMid (len - 16) (len - (len - 16)) o v) .bytes
-      → q ≡ removing h i len b
-  unfolding closed removing
-  removed f o v q eo ev eq =
+  pub removed : Stands h i len (length b) → (o p q : List ℕ) → o ≡ closed b a (len - 16) → p ≡ cleared o (len - 16) len → q ≡ writeHeader h p .bytes → q ≡ removing h i len b
+  unfolding closed cleared removing
+  removed f o p q eo ep eq =
       let k = len - 16 in
       let n : length (take a b) ≡ a = length-take-le a b (omega (arith, f .inside, f .whole)) in
       let m : length (without a b) ≡ length b - 16 = simp (length-append, length-take, length-drop) (omega (arith, f .inside, f .whole)) in
-      let p : length (take k (without a b)) ≡ k = length-take-le k (without a b) (omega (arith, f .inside, f .whole)) in
+      let c : length (take k (without a b)) ≡ k = length-take-le k (without a b) (omega (arith, f .inside, f .whole)) in
       let sum : length (take a b) + (k - a) ≡ k = omega (arith, f .inside) in
       let gap : k - a ≡ len - (a + 16) = omega (arith, f .inside) in
-      let shut : take k (without a b) ≡ take a b ++ part b (a + 16) len =
-      ap (λ (x : ℕ). take x (without a b)) (sym sum) ∙ take-append-add (take a b) (drop (a + 16) b) (k - a) ∙ ap (λ (x : ℕ). take a b ++ take x (drop (a + 16) b)) gap in
-      let low : take k o ≡ take a b ++ part b (a + 16) len = ap (take k) eo ∙ take-at (take k (without a b)) (drop k b) k p ∙ shut in
+      let freed : len - k ≡ 16 = omega (arith, f .inside) in
+      let shut : take k (without a b) ≡ take a b ++ part b (a + 16) len = ap (λ (x : ℕ). take x (without a b)) (sym sum) ∙ take-append-add (take a b) (drop (a + 16) b) (k - a) ∙ ap (λ (x : ℕ). take a b ++ take x (drop (a + 16) b)) gap in
+      let low : take k o ≡ take a b ++ part b (a + 16) len = ap (take k) eo ∙ take-at (take k (without a b)) (drop k b) k c ∙ shut in
       let end : k + (len - k) ≡ len = omega (arith, f .inside) in
-      let high : drop (len - k) (drop k o) ≡ drop len b =
-      ap (λ (x : List ℕ). drop (len - k) (drop k x)) eo
-      ∙ ap (drop (len - k)) (drop-at (take k (without a b)) (drop k b) k p)
+      let high : drop len o ≡ drop len b =
+      ap (λ (x : ℕ). drop x o) (sym end)
+      ∙ sym (drop-drop (len - k) k o)
+      ∙ ap (λ (x : List ℕ). drop (len - k) (drop k x)) eo
+      ∙ ap (drop (len - k)) (drop-at (take k (without a b)) (drop k b) k c)
       ∙ drop-drop (len - k) k b
       ∙ ap (λ (x : ℕ). drop x b) end in
-      let whole : putMid k (len - k) o v ≡ take a b ++ (part b (a + 16) len ++ (replicate 16 0 ++ drop len b)) =
-      ap₂ (λ (x y : List ℕ). x ++ (v ++ y)) low high
-      ∙ ap (λ (x : List ℕ). take a b ++ part b (a + 16) len ++ (x ++ drop len b)) ev
-      ∙ append-assoc (take a b) (part b (a + 16) len) (replicate 16 0 ++ drop len b) in
+      let whole : p ≡ take a b ++ (part b (a + 16) len ++ (replicate 16 0 ++ drop len b)) = ep ∙ in-place (take k o) (replicate (len - k) 0) (drop len o) low (ap (λ (x : ℕ). replicate x 0) freed) high in
       eq
       ∙ ap (λ (x : List ℕ). writeHeader h x .bytes) whole
       ∙ headed h (take a b) (part b (a + 16) len ++ (replicate 16 0 ++ drop len b)) (f .header) (omega arith)
       ∙ ap (λ (x : List ℕ). headerBytes h ++ (x ++ (part b (a + 16) len ++ (replicate 16 0 ++ drop len b)))) (before (omega (arith, f .inside)))
+    where
+      in-place : (x y z : List ℕ) → x ≡ take a b ++ part b (a + 16) len → y ≡ replicate 16 0 → z ≡ drop len b → x ++ (y ++ z) ≡ take a b ++ (part b (a + 16) len ++ (replicate 16 0 ++ drop len b))
+      in-place x y z ex ey ez =
+          ap₂ (λ (u v : List ℕ). u ++ (y ++ v)) ex ez
+          ∙ ap (λ (u : List ℕ). take a b ++ part b (a + 16) len ++ (u ++ drop len b)) ey
+          ∙ append-assoc (take a b) (part b (a + 16) len) (replicate 16 0 ++ drop len b)

@@ -10,7 +10,7 @@ use lib.Dec.{ltb, eqb}
 use lib.ListN.{length, getD}
 use borrow.Author.Tests.{le-ltb, lt-ltb}
 use Rattle.checker.specs.Check.{recordPart, partsFrom}
-use Rattle.edit.specs.Keyed.{placeOf, hasOf}
+use Rattle.keyed.specs.Keyed.{placeOf, hasOf}
 use Rattle.edit.specs.Steps.{idIn, placeIn, hasIn}
 use Rattle.edit.specs.Parts.{parts-length}
 

@@ -16,7 +16,7 @@ use Rattle.checker.specs.Check.{_then_, demand, part, Sheet}
 use Rattle.checker.specs.Unjudged.{soundSheet}
 use Rattle.edit.specs.declared.Edited.{Edited}
 use Rattle.edit.specs.declared.Edited.the-variants.{Length, Refused as notEdited}
-use Rattle.edit.specs.Keyed.{placeOf, hasOf}
+use Rattle.keyed.specs.Keyed.{placeOf, hasOf}
 
 -- ---- the sheet in the buffer
 

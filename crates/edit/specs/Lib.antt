@@ -1,14 +1,8 @@
-pub mod Keyed
-pub mod KeyedLaws
-pub mod KeyedPlaces
 pub mod Edit
 pub mod Steps
 pub mod Parts
 pub mod Taken
 pub mod HeaderCount
-pub mod Rebuilt
-pub mod Outcomes
+pub mod Done
 pub mod Only
-pub mod Sequences
 pub mod Within
-pub mod Past

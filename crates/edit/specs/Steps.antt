@@ -3,7 +3,7 @@ use mathlib.Core.Path.{_≡_}
 use Prim.Native.Nat.{ℕ, _+_, _-_, _≤_}
 use mathlib.Core.Bool.{Bool}
 use mathlib.Core.List.{List, _++_}
-use lib.ListN.{take, drop}
+use lib.ListN.{take, drop, replicate}
 use Rattle.layout.specs.Bytes.{readOf}
 use Rattle.sheet.specs.declared.Header.{Header}
 use Rattle.sheet.specs.declared.Record.{Record}
@@ -12,7 +12,7 @@ use Rattle.sheet.specs.Header.{headerFault}
 use Rattle.sheet.specs.Record.{recordFault}
 use Rattle.sheet.specs.RecordLaws.{rawAt}
 use Rattle.checker.specs.Check.{partsFrom, Sheet}
-use Rattle.edit.specs.Keyed.{placeOf, hasOf}
+use Rattle.keyed.specs.Keyed.{placeOf, hasOf}
 use Rattle.edit.specs.Edit.{sheetAt, start}
 
 -- ---- bytes that move by sixteen
@@ -28,6 +28,10 @@ without a xs = take a xs ++ drop (a + 16) xs
 -- the first k bytes are those without the sixteen at a; the others have not moved
 unfoldable pub closed : List ℕ → (a k : ℕ) → List ℕ
 closed xs a k = take k (without a xs) ++ drop k xs
+
+-- zeros from a up to e
+unfoldable pub cleared : List ℕ → (a e : ℕ) → List ℕ
+cleared xs a e = take a xs ++ (replicate (e - a) 0 ++ drop e xs)
 
 -- ---- the records by their bytes
 

@@ -23,8 +23,8 @@ use Rattle.sheet.specs.RecordBack.{record-read-any, record-read-raw}
 use Rattle.checker.specs.Check.{_then_, demand, headerFor, partsFrom, soundAfter, recordsIn, Sheet, sheetIn}
 use Rattle.checker.specs.CheckLaws.{then-given, demand-given, header-fits, sound-read}
 use Rattle.checker.specs.Unjudged.{room, soundSheet}
-use Rattle.edit.specs.Keyed.{rises, placeOf, hasOf}
-use Rattle.edit.specs.KeyedPlaces.{SameKeys, none, next, same-place, same-has}
+use Rattle.keyed.specs.Keyed.{rises, placeOf, hasOf}
+use Rattle.keyed.specs.Places.{SameKeys, none, next, same-place, same-has}
 use Rattle.edit.specs.Edit.{sheetAt, start, idOf}
 use Rattle.edit.specs.Steps.{idIn, placeIn, hasIn}
 use Rattle.edit.specs.Parts.{parts-length, parts-within}

@@ -15,7 +15,7 @@ use Rattle.checker.specs.Check.{_then_, demand, Sheet}
 use Rattle.checker.specs.CheckLaws.{then-given, demand-given}
 use Rattle.edit.specs.declared.Edited.the-variants.{Length}
 use Rattle.edit.specs.Edit.{sheetAt, headerOf, After, putIn, putNumbersIn, removeIn, sizeBy, Edits}
-use Rattle.edit.specs.Outcomes.{Put, replaces, inserts, put-done, remove-done}
+use Rattle.edit.specs.Done.{Put, replaces, inserts, put-done, remove-done}
 
 module _ (b : List ℕ) (len : ℕ) where
   -- before it, where it is not turned away

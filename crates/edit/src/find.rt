@@ -6,7 +6,7 @@ ghost use Rattle.checker.specs.Check.{recordPart};
 ghost use Rattle.edit.specs.Edit.{start};
 ghost use Rattle.edit.specs.Steps.{idIn, placeIn, hasIn};
 
-fn id_at(buf: &[u8], i: u16) -> u16
+fn id_at(buf: &[u8], i: u16) -> u32
     requires { ⌜ start i + 16 ≤ length (now buf) ⌝ }
     ensures { λ r. ⌜ r ≡ idIn (recordPart (now (buf .entry)) i) ⌝ }
 {
@@ -14,11 +14,11 @@ fn id_at(buf: &[u8], i: u16) -> u16
     let end = at + 16;
     let raw = record::record_in(&buf[at..end]);
     let r = raw.values;
-    r.id
+    r.id as u32
 }
 
 // How many of the n records come before the first whose id is not below this one.
-pub(crate) fn place_of(buf: &[u8], n: u16, id: u16) -> u16
+pub(crate) fn place_of(buf: &[u8], n: u16, id: u32) -> u16
     requires { ⌜ start n ≤ length (now buf) ⌝ }
     ensures { λ r. ⌜ (r ≡ placeIn (now (buf .entry)) n id) × (r ≤ n) ⌝ }
 {
@@ -33,7 +33,7 @@ pub(crate) fn place_of(buf: &[u8], n: u16, id: u16) -> u16
 }
 
 // Whether the record at the place of an id has it.
-pub(crate) fn has_at(buf: &[u8], n: u16, place: u16, id: u16) -> bool
+pub(crate) fn has_at(buf: &[u8], n: u16, place: u16, id: u32) -> bool
     requires { ⌜ (start n ≤ length (now buf)) × (place ≡ placeIn (now buf) n id) ⌝ }
     ensures { λ r. ⌜ r ≡ hasIn (now (buf .entry)) n id ⌝ }
 {

@@ -65,9 +65,9 @@ fn replace(buf: &mut [u8], i: u16, r: Record)
     requires { ⌜ (recordFault r 0 ≡ 0) × (start i + 16 ≤ length (now buf)) ⌝ }
     ensures { λ _. ⌜ now (buf .exit) ≡ replacing i r (now (buf .entry)) ⌝ }
 {
-    let at = HEADER + RECORD * (i as usize);
-    let end = at + RECORD;
-    record::write_record(r, &mut buf[at..end]);
+    let first = HEADER + RECORD * (i as usize);
+    let past = first + RECORD;
+    record::write_record(r, &mut buf[first..past]);
 }
 
 // A sound record in as record i, under the header h.
@@ -89,7 +89,7 @@ fn take_out(buf: &mut [u8], len: usize, h: Header, i: u16)
     let at = HEADER + RECORD * (i as usize);
     shift::close(buf, at, len);
     let freed = len - RECORD;
-    shift::clear(&mut buf[freed..len]);
+    shift::clear(buf, freed, len);
     header::write_header(h, buf);
 }
 
@@ -118,7 +118,7 @@ fn put_sound(buf: &mut [u8], len: usize, h: Header, r: Record) -> Edited
     ensures { λ e. ⌜ Edits (putIn (now (buf .entry)) len r) (now (buf .entry)) e (now (buf .exit)) ⌝ }
 {
     let n = h.count;
-    let id = r.id;
+    let id = r.id as u32;
     let i = find::place_of(buf, n, id);
     if find::has_at(buf, n, i, id) {
         replace(buf, i, r);
@@ -161,7 +161,7 @@ pub fn put_numbers(buf: &mut [u8], len: usize, f: [u32; 13]) -> Edited
     }
 }
 
-fn remove_sound(buf: &mut [u8], len: usize, h: Header, id: u16) -> Edited
+fn remove_sound(buf: &mut [u8], len: usize, h: Header, id: u32) -> Edited
     requires { ⌜ Known (now buf) len h ⌝ }
     ensures { λ e. ⌜ Edits (removeIn (now (buf .entry)) len id) (now (buf .entry)) e (now (buf .exit)) ⌝ }
 {
@@ -176,7 +176,7 @@ fn remove_sound(buf: &mut [u8], len: usize, h: Header, id: u16) -> Edited
 }
 
 // The record of an id out of the sheet: those after it close the gap, and the sixteen bytes that come free are zeroed. A refusal changes no byte.
-pub fn remove(buf: &mut [u8], len: usize, id: u16) -> Edited
+pub fn remove(buf: &mut [u8], len: usize, id: u32) -> Edited
     ensures { λ e. ⌜ Edits (removeIn (now (buf .entry)) len id) (now (buf .entry)) e (now (buf .exit)) ⌝ }
 {
     let read = sheet_at(buf, len);
@@ -184,14 +184,4 @@ pub fn remove(buf: &mut [u8], len: usize, id: u16) -> Edited
         HeaderRead::Refused(x) => Edited::Refused(x),
         HeaderRead::Good(h) => remove_sound(buf, len, h, id),
     }
-}
-
-// The same of an id that a number is: of those past 16 bits, which no record has, the highest of 16 stands for all.
-pub fn remove_number(buf: &mut [u8], len: usize, id: u32) -> Edited
-    ensures { λ e. ⌜ Edits (removeIn (now (buf .entry)) len id) (now (buf .entry)) e (now (buf .exit)) ⌝ }
-{
-    if id < 65536 {
-        return remove(buf, len, id as u16);
-    }
-    remove(buf, len, 65535)
 }

@@ -2,7 +2,7 @@
 ghost use mathlib.Core.Path.{_≡_};
 ghost use Prim.Native.Nat.{_+_, _-_, _≤_};
 ghost use lib.ListN.{length, replicate};
-ghost use Rattle.edit.specs.Steps.{opened, closed};
+ghost use Rattle.edit.specs.Steps.{opened, closed, cleared};
 
 // The bytes from `at` up to `end` go sixteen places up, the last first.
 pub(crate) fn open(buf: &mut [u8], at: usize, end: usize)
@@ -30,7 +30,7 @@ pub(crate) fn close(buf: &mut [u8], at: usize, end: usize)
     }
 }
 
-pub(crate) fn clear(part: &mut [u8])
+fn clear_all(part: &mut [u8])
     ensures { λ _. ⌜ now (part .exit) ≡ replicate (length (now (part .entry))) 0 ⌝ }
 {
     let mut i = 0;
@@ -38,4 +38,12 @@ pub(crate) fn clear(part: &mut [u8])
         part[i] = 0;
         i += 1;
     }
+}
+
+// The bytes from `at` up to `end` are made zero.
+pub(crate) fn clear(buf: &mut [u8], at: usize, end: usize)
+    requires { ⌜ (at ≤ end) × (end ≤ length (now buf)) ⌝ }
+    ensures { λ _. ⌜ now (buf .exit) ≡ cleared (now (buf .entry)) at end ⌝ }
+{
+    clear_all(&mut buf[at..end]);
 }

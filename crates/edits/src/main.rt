@@ -59,7 +59,7 @@ fn edited(buf: &mut [u8], len: usize, form: &[u8]) -> Edited
         return edit::put_numbers(buf, len, f);
     }
     let id = number(form, 1);
-    edit::remove_number(buf, len, id)
+    edit::remove(buf, len, id)
 }
 
 fn length_after(len: usize, e: Edited) -> usize

@@ -66,16 +66,21 @@ write-header-told ns o =
     (fault-row headerCases (headerNumbersFault ns) (tt {0}) (row 2 0 (omega arith) (omega arith) (omega arith))
     (row 3 (headerNumbersFault ns) (omega arith) (omega arith) (omega (arith, most headerLines (numbersFrom 0 8 ns ++ 0 ∷ []) refl))))
 
-pub write-record-told : (ns o : List ℕ) → Told (writeRecordNumbers ns o .answer)
-unfolding writeRecordNumbers recordNumbersFault
-write-record-told ns o =
-    written-told (recordCases 0) (recordNumbersFault ns) (recordBytes (recordOfNumbers ns)) o
-    (fault-row (recordCases 0) (recordNumbersFault ns) (tt {0}) (row 6 0 (omega arith) (omega arith) (omega arith))
-    (row 7 (32 * 0 + recordNumbersFault ns) (omega arith) (omega arith) (omega (arith, go (plateNumbered ns)))))
+-- no field has a number past a member's last
+pub record-numbers-most : (ns : List ℕ) → recordNumbersFault ns ≤ 13
+unfolding recordNumbersFault
+record-numbers-most ns = go (plateNumbered ns)
   where
     go : (t : Bool) → cond t (faultFrom 1 (plateLinesOf ns) (plateFields ns)) (faultFrom 1 (memberLinesOf ns) (numbersFrom 0 13 ns)) ≤ 13
     go true = omega (arith, most (plateLinesOf ns) (plateFields ns) refl)
     go false = omega (arith, most (memberLinesOf ns) (numbersFrom 0 13 ns) refl)
+
+pub write-record-told : (ns o : List ℕ) → Told (writeRecordNumbers ns o .answer)
+unfolding writeRecordNumbers
+write-record-told ns o =
+    written-told (recordCases 0) (recordNumbersFault ns) (recordBytes (recordOfNumbers ns)) o
+    (fault-row (recordCases 0) (recordNumbersFault ns) (tt {0}) (row 6 0 (omega arith) (omega arith) (omega arith))
+    (row 7 (32 * 0 + recordNumbersFault ns) (omega arith) (omega arith) (omega (arith, record-numbers-most ns))))
 
 -- ---- a check
 

@@ -1,7 +1,10 @@
 pub mod Packed
 pub mod Fields
 pub mod Writing
+pub mod Editing
 pub mod PackedLaws
 pub mod Only
 pub mod Back
 pub mod Answers
+pub mod Absent
+pub mod EditAnswers

@@ -8,8 +8,10 @@ use Rattle.sheet.specs.Header.{readHeader}
 use Rattle.sheet.specs.Record.{readRecord}
 use Rattle.checker.specs.Entry.{readEntry}
 use Rattle.numbers.specs.Fields.{headerNumbers, recordNumbers}
+use Rattle.edit.specs.Edit.{After, putNumbersIn, removeIn}
 use Rattle.yard.specs.Packed.{Checks, Reads, Wrote}
 use Rattle.yard.specs.Fields.{numbered, entryNumbers}
+use Rattle.yard.specs.Editing.{Edits}
 use Rattle.yard.specs.Writing.{writeHeaderNumbers, writeRecordNumbers}
 
 pub check-only : (s out : List ℕ) (q r : ℕ) (x y : List ℕ) → Checks s out q x → Checks s out r y → (q ≡ r) × (x ≡ y)
@@ -38,3 +40,12 @@ write-header-only ns out = wrote-only (writeHeaderNumbers ns out)
 
 pub write-record-only : (ns out : List ℕ) (q r : ℕ) (x y : List ℕ) → Wrote (writeRecordNumbers ns out) q x → Wrote (writeRecordNumbers ns out) r y → (q ≡ r) × (x ≡ y)
 write-record-only ns out = wrote-only (writeRecordNumbers ns out)
+
+edits-only : (a : Answer After) (b : List ℕ) (q r : ℕ) (x y : List ℕ) → Edits a b q x → Edits a b r y → (q ≡ r) × (x ≡ y)
+edits-only a b q r x y f g = (f .answer ∙ sym (g .answer), f .bytes ∙ sym (g .bytes))
+
+pub put-only : (b : List ℕ) (len : ℕ) (ns : List ℕ) (q r : ℕ) (x y : List ℕ) → Edits (putNumbersIn b len ns) b q x → Edits (putNumbersIn b len ns) b r y → (q ≡ r) × (x ≡ y)
+put-only b len ns = edits-only (putNumbersIn b len ns) b
+
+pub remove-only : (b : List ℕ) (len id : ℕ) (q r : ℕ) (x y : List ℕ) → Edits (removeIn b len id) b q x → Edits (removeIn b len id) b r y → (q ≡ r) × (x ≡ y)
+remove-only b len id = edits-only (removeIn b len id) b

@@ -1,11 +1,12 @@
 -- No two answers have the same number.
 -- Assumes nothing.
-use Prim.Native.Nat.{ℕ, _+_, _*_, _<_}
-use mathlib.Core.Path.{_≡_, refl, ap₂}
+use Prim.Native.Nat.{ℕ, _+_, _*_, _≤_, _<_}
+use mathlib.Core.Path.{_≡_, refl, ap, ap₂}
 use native.Mathlib.Omega.{arith}
 use Rattle.sheet.specs.Refusals.{Answer, given, refused}
 use Rattle.checker.specs.Check.{Totals}
 use Rattle.yard.specs.Packed.{numberUnit, packed, fine}
+use Rattle.yard.specs.Editing.{resized}
 
 -- the ranges that refusals have: the number is at least 1, and the place stays clear of it
 abbrev pub Told : {A : Type 0} → Answer A → Type 0
@@ -16,6 +17,16 @@ Told (refused k p) = (0 < k) × (p < numberUnit)
 abbrev pub Answered : Answer Totals → Type 0
 Answered (given t) = (t .n < 16777216) × (t .failed < 65536)
 Answered (refused k p) = Told {A = Totals} (refused k p)
+
+-- and those of an edit's: the place is at most the last field of record 400, and no sheet is longer than one of 400 records
+pub record EditRow (number place : ℕ) : Type 0 where
+  pub some : 1 ≤ number
+  pub last : number ≤ 11
+  pub inside : place ≤ 12813
+
+abbrev pub Resized : Answer ℕ → Type 0
+Resized (given n) = n ≤ 6412
+Resized (refused k p) = EditRow k p
 
 pub packed-same : (a b : Answer Totals) → Answered a → Answered b → packed a ≡ packed b → a ≡ b
 packed-same (given t) (given u) x y e = ap₂ (λ (n f : ℕ). given (record { n = n; failed = f })) (omega (arith, x, y)) (omega (arith, x, y))
@@ -32,3 +43,10 @@ fine-given (refused k p) t e = absurd (omega (arith, t))
 pub fine-refused : {A : Type 0} (a : Answer A) (k p : ℕ) → Told a → 0 < k → p < numberUnit → fine a ≡ k * numberUnit + p → a ≡ refused k p
 fine-refused (given x) k p t l m e = absurd (omega arith)
 fine-refused (refused j q) k p t l m e = ap₂ refused (omega (arith, t)) (omega (arith, t))
+
+-- of an edit
+pub resized-same : (a b : Answer ℕ) → Resized a → Resized b → resized a ≡ resized b → a ≡ b
+resized-same (given m) (given n) x y e = ap given e
+resized-same (given m) (refused k p) x y e = absurd (omega (arith, x, y .some))
+resized-same (refused k p) (given n) x y e = absurd (omega (arith, x .some, y))
+resized-same (refused k p) (refused l q) x y e = ap₂ refused (omega (arith, x .inside, y .inside)) (omega (arith, x .inside, y .inside))

@@ -1,8 +1,9 @@
-// The checker, the header, the records and the verdicts for programs in C or Rust: an answer crosses as one number, the fields as numbers in layout
-// order. include/praithong.h declares these functions.
+// The checker, the header, the records, the verdicts and the edits of a sheet for programs in C or Rust: an answer crosses as one number, the fields as
+// numbers in layout order. include/praithong.h declares these functions.
 use checker::Checked;
 use checker::Entry;
 use checker::EntryRead;
+use edit::Edited;
 use sheet::HeaderRead;
 use sheet::Outcome;
 use sheet::RecordRead;
@@ -16,6 +17,8 @@ ghost use Rattle.sheet.specs.Record.{readRecord};
 ghost use Rattle.yard.specs.Packed.{packed, fine, Checks, Reads, Wrote};
 ghost use Rattle.yard.specs.Writing.{writeHeaderNumbers, writeRecordNumbers};
 ghost use Rattle.yard.specs.Fields.{entryNumbers, numbered};
+ghost use Rattle.yard.specs.Editing.{resized, Alike, Edits};
+ghost use Rattle.edit.specs.Edit.{putNumbersIn, removeIn, toldEdited};
 ghost use Rattle.numbers.specs.Fields.{headerNumbers, recordNumbers};
 
 // A refusal's number counts these.
@@ -132,4 +135,34 @@ pub extern "C" fn yard_write_record(fields: &[u32; 13], out: &mut [u8]) -> u64
         RecordRead::Refused(x) => packed_refusal(x),
         RecordRead::Good(r) => packed_outcome(record::write_record(r, out)),
     }
+}
+
+fn packed_edited(e: Edited) -> u64
+    ensures { λ r. ⌜ r ≡ resized (toldEdited e) ⌝ }
+{
+    match e {
+        Edited::Length(n) => n as u64,
+        Edited::Refused(r) => packed_refusal(r),
+    }
+}
+
+#[no_mangle]
+pub extern "C" fn yard_put(buf: &mut [u8], len: usize, fields: &[u32; 13]) -> u64
+    ensures { λ r. ⌜ Edits (putNumbersIn (now (buf .entry)) len (now (fields .entry))) (now (buf .entry)) r (now (buf .exit)) ⌝ }
+{
+    packed_edited(edit::put_numbers(buf, len, *fields))
+}
+
+// An id as the sixteen bits that an edit takes. One above them is in no sheet, and neither is their highest, so that it is not cut to an id that may be.
+fn held_id(id: u32) -> u16
+    ensures { λ r. ⌜ Alike id r ⌝ }
+{
+    if id < 65535 { id as u16 } else { 65535 }
+}
+
+#[no_mangle]
+pub extern "C" fn yard_remove(buf: &mut [u8], len: usize, id: u32) -> u64
+    ensures { λ r. ⌜ Edits (removeIn (now (buf .entry)) len id) (now (buf .entry)) r (now (buf .exit)) ⌝ }
+{
+    packed_edited(edit::remove(buf, len, held_id(id)))
 }

@@ -32,7 +32,7 @@ returns-2 c =
     let f = c .before .before .before in
     let g = f .before .before in
     let a = start-of g .args in
-    record-refused (now (a .buf)) (a .len) (g .read2 .given .0 .0) (sheet g) (a .r) _ (sym (ap toldOutcome (c .before .found .given .1)) ∙ f .record-fault .ensures)
+    record-refused (now (a .buf)) (a .len) (g .read2 .given .0 .0) (sheet g) (a .r) (c .before .found .given .0 .0) (sym (ap toldOutcome (c .before .found .given .1)) ∙ f .record-fault .ensures)
 
 put-sound-requires : tie.Need-put-sound-requires
 put-sound-requires c κs =

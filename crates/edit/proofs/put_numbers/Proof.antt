@@ -31,7 +31,7 @@ returns-2 c =
     let f = c .before .before .before in
     let g = f .before .before in
     let a = start-of g .args in
-    numbers-refused (now (a .buf)) (a .len) (g .read2 .given .0 .0) (sheet g) (a .f) _ (sym (ap toldRecord (c .before .taken .given .1)) ∙ f .record-from .ensures)
+    numbers-refused (now (a .buf)) (a .len) (g .read2 .given .0 .0) (sheet g) (a .f) (c .before .taken .given .0 .0) (sym (ap toldRecord (c .before .taken .given .1)) ∙ f .record-from .ensures)
 
 returns-3 : tie.Need-returns-3
 returns-3 c =

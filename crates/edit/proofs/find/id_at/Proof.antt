@@ -7,7 +7,7 @@ use Rattle.edit.proofs.find.id_at.Statement.{statement}
 use Rattle.edit.proofs.find.id_at.Tie as tie
 
 returns : tie.Need-returns
-returns c = ap (λ (w : Raw). w .values .id) (c .before .record-in .ensures)
+returns c = ap (λ (w : Raw). w .values .id) (c .before .before .record-in .ensures)
 
 pub id-at-spec : {M : Type 1} → statement M
 id-at-spec =
@@ -20,4 +20,5 @@ id-at-spec =
     (λ c. search needs)
     (λ c. search needs)
     (λ c κs. search needs)
+    (λ c. search needs)
     returns)

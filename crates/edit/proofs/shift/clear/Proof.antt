@@ -1,42 +1,25 @@
--- `edit::shift::clear` meets its contract. At the loop's head the bytes below i are zero.
+-- `edit::shift::clear` meets its contract.
 -- Assumes nothing.
 use borrow.Author.Needs.{needs}
-use mathlib.Core.Path.{_≡_, refl, sym, ap, _∙_}
-use mathlib.Core.List.{_++_}
-use Prim.Native.Nat.{_+_, _-_, _≤_}
-use native.Mathlib.Omega.{arith}
-use lib.ListN.{length, take, drop, set, getD, length-set}
 use denote.Ref.{now}
-use Rattle.edit.proofs.Shifts.{zeros, clear-turn, clear-done}
+use Rattle.edit.proofs.Bytes.{zeroed}
 use Rattle.edit.proofs.shift.clear.Statement.{statement}
 use Rattle.edit.proofs.shift.clear.Tie as tie
 
-abbrev Inv-loop : tie.InvT-loop
-Inv-loop part₀ i₀ part i = (i ≤ length part₀) × (length part ≡ length part₀) × (part ≡ take i (zeros part₀) ++ drop i part₀)
-
-abbrev μ-loop : tie.MeasureT-loop
-μ-loop part₀ i₀ part i = length part₀ - i
-
-loop-again : tie.Need-loop-again Inv-loop μ-loop
-loop-again c =
-    let l = c .before .loop in
-    (search needs, simp length-set (l .inv .1), rw (l .inv .2) (clear-turn (now (c .before .before .args .part)) (l .i) (omega arith)))
-
-returns : tie.Need-returns Inv-loop μ-loop
+returns : tie.Need-returns
 returns c =
-    let l = c .before .loop in
-    l .inv .2 ∙ clear-done (now (c .before .before .args .part)) (l .i) (omega arith)
+    let z = c .before .before in
+    let start = z .before .before .before in
+    let a = start .args in
+    zeroed (now (a .buf)) (z .clear-all .last .0) (a .at) (a .end) (start .pre .0) (start .pre .1) (z .clear-all .ensures)
 
 pub clear-spec : {M : Type 1} → statement M
 clear-spec =
     tie.close
     (tie.spec
-    Inv-loop
-    μ-loop
-    (λ c. (search needs, refl, refl))
     (λ c. search needs)
     (λ c. search needs)
     (λ c. search needs)
-    loop-again
-    (λ c. c .before .loop .inv .1)
+    (λ c κs. search needs)
+    (λ c. search needs)
     returns)

@@ -23,10 +23,10 @@ use Rattle.sheet.specs.Record.{recordFault, recordNumber, recordBytes, readReco
 use Rattle.sheet.specs.RecordBack.{record-read-again}
 use Rattle.checker.specs.Check.{_then_, demand, headerFor, part, partsFrom, recordsIn, Sheet, sheetIn}
 use Rattle.checker.specs.Unjudged.{room, soundSheet}
-use Rattle.edit.specs.Keyed.{rises}
+use Rattle.keyed.specs.Keyed.{rises}
 use Rattle.edit.specs.Edit.{sheetAt, start, idOf, counting, replacing, inserting, removing}
 use Rattle.edit.specs.Parts.{join, Wide, join-append, join-length, wide-append, parts-length, parts-wide, parts-split, cut, joined}
 use Rattle.edit.specs.Taken.{Reads, reads, reads-taken, reads-append, reads-take, reads-drop, Taken}
 
 -- ---- a sheet that is put together
 

@@ -11,11 +11,12 @@ use Rattle.sheet.specs.declared.Record.{Record}
 use Rattle.sheet.specs.Refusals.{Answer, given, refused}
 use Rattle.sheet.specs.RecordExactly.{record-id}
 use Rattle.checker.specs.Check.{Sheet}
-use Rattle.edit.specs.Keyed.{rises, lookup, putOf, outOf, Edit, put, out, mapAll, listAfter, listAll, Keys}
-use Rattle.edit.specs.KeyedLaws.{edits}
+use Rattle.keyed.specs.Keyed.{rises, lookup, putOf, outOf, Edit, put, out, mapAll, listAfter, listAll, Keys}
+use Rattle.keyed.specs.MapLaws.{edits}
 use Rattle.edit.specs.Edit.{sheetAt, idOf, counting, After, putIn, removeIn}
 use Rattle.edit.specs.Taken.{taken-at}
-use Rattle.edit.specs.Outcomes.{holding, holds-its-own, put-done, put-sheet, remove-sheet}
+use Rattle.edit.specs.Done.{put-done}
+use Rattle.revisions.specs.Outcomes.{holding, holds-its-own, put-sheet, remove-sheet}
 
 -- ---- edits of a buffer
 
@@ -47,7 +48,7 @@ doneAll (e ∷ es) a = doneBy (editIn e a) e (doneAll es (afterBy (editIn e a) a
 -- ---- the law
 
 -- one edit that is done
-one-edit : (a : After) (t : Sheet) → sheetAt (a .bytes) (a .size) ≡ given t → (e : Edit idOf) (x : After) → editIn e a ≡ given x
+pub one-edit : (a : After) (t : Sheet) → sheetAt (a .bytes) (a .size) ≡ given t → (e : Edit idOf) (x : After) → editIn e a ≡ given x
     → sheetAt (x .bytes) (x .size) ≡ given (holding (t .header) (listAfter idOf e (t .records)))
 unfolding listAfter
 one-edit a t f (put r) x g = put-sheet (a .bytes) (a .size) t f r x g

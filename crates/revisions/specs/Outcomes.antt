@@ -1,4 +1,4 @@
--- What an edit of a sheet that is not turned away comes to: the cases in which it is done, and the sheet that it leaves.
+-- The sheet that an edit which is done leaves.
 -- Assumes nothing.
 use Prim.Native.Nat.{ℕ, suc, _+_, _-_, _*_, _≤_, _<_}
 use mathlib.Core.Path.{_≡_, refl, sym, ap, ap₂, subst, _∙_}
@@ -19,77 +19,18 @@ use Rattle.sheet.specs.Record.{recordFault, recordBytes}
 use Rattle.sheet.specs.RecordExactly.{record-id}
 use Rattle.checker.specs.Check.{_then_, demand, partsFrom, Sheet}
 use Rattle.checker.specs.CheckLaws.{then-given, demand-given}
-use Rattle.edit.specs.Keyed.{rises, placeOf, hasOf, putOf, outOf}
-use Rattle.edit.specs.KeyedLaws.{put-rises, out-rises}
-use Rattle.edit.specs.KeyedPlaces.{place-le, has-lt, put-at, out-at}
+use Rattle.keyed.specs.Keyed.{rises, placeOf, hasOf, putOf, outOf}
+use Rattle.keyed.specs.MapLaws.{put-rises, out-rises}
+use Rattle.keyed.specs.Places.{place-le, has-lt, put-at, out-at}
 use Rattle.edit.specs.Edit.{sheetAt, start, idOf, counting, replacing, inserting, removing, After, hasRoom, placing, putIn, removeIn}
+use Rattle.edit.specs.Done.{Put, replaces, inserts, put-done, remove-done}
 use Rattle.edit.specs.HeaderCount.{counting-sound}
 use Rattle.edit.specs.Taken.{nothing, reads, Taken, taken-at}
-use Rattle.edit.specs.Rebuilt.{header-length, record-length, header-back, record-back, head, head-read, rebuilt, inserted-bytes, replaced-bytes, removed-bytes}
+use Rattle.revisions.specs.Rebuilt.{header-length, record-length, header-back, record-back, head, head-read, rebuilt, inserted-bytes, replaced-bytes, removed-bytes}
 
 -- a sheet that holds these records, which its header counts
 abbrev pub holding : Header → List Record → Sheet
 holding h rs = record { header = counting (length rs) h; records = rs }
-
--- ---- the cases in which an edit is done
-
-module _ (b : List ℕ) (len : ℕ) (t : Sheet) where
-  abbrev n : ℕ
-  n = t .header .count
-
-  -- a record put in: it has no fault, and replaces the one with its id, or goes in at its place
-  pub data Put (r : Record) (a : After) : Type 0 where
-    replaces : hasOf idOf (r .id) (t .records) ≡ true → a ≡ record { size = len; bytes = replacing (placeOf idOf (r .id) (t .records)) r b } → Put r a
-    inserts : hasOf idOf (r .id) (t .records) ≡ false → len + 16 ≤ length b → n < counts .high
-        → a ≡ record { size = len + 16; bytes = inserting (counting (n + 1) (t .header)) (placeOf idOf (r .id) (t .records)) len r b } → Put r a
-
-  -- a record taken out: one has the id
-  pub record Removed (id : ℕ) (a : After) : Type 0 where
-    pub there : hasOf idOf id (t .records) ≡ true
-    pub after : a ≡ record { size = len - 16; bytes = removing (counting (n - 1) (t .header)) (placeOf idOf id (t .records)) len b }
-
-  both : (x y : Bool) → (x && y) ≡ true → (x ≡ true) × (y ≡ true)
-  both true y e = (refl, e)
-  both false y e = (e, cc)
-
-  placed : (r : Record) (a : After) → placing t b len r ≡ given a → Put r a
-  unfolding placing
-  placed r a e = go (hasOf idOf (r .id) (t .records)) refl e
-    where
-      i : ℕ
-      i = placeOf idOf (r .id) (t .records)
-
-      go : (has : Bool) → hasOf idOf (r .id) (t .records) ≡ has
-          → cond has (given (record { size = len; bytes = replacing i r b }))
-          (demand (hasRoom n len (length b)) 11 then λ u. given (record { size = len + 16; bytes = inserting (counting (n + 1) (t .header)) i len r b }))
-          ≡ given a → Put r a
-      go true f g = replaces f (sym (given-same g))
-      go false f g =
-          let d = then-given (demand (hasRoom n len (length b)) 11) _ a g in
-          let m = both (leb (len + 16) (length b)) (ltb n (counts .high)) (demand-given (hasRoom n len (length b)) 11 (d .0) (d .1)) in
-          inserts f (leb-true (len + 16) (length b) (m .0)) (ltb-true n (counts .high) (m .1)) (sym (given-same (d .2)))
-
-  module _ (found : sheetAt b len ≡ given t) where
-    pub put-done : (r : Record) (a : After) → putIn b len r ≡ given a → (recordFault r 0 ≡ 0) × Put r a
-    unfolding putIn
-    put-done r a e =
-        let s = then-given (sheetAt b len) _ a e in
-        let same : s .0 ≡ t = given-same (sym (s .1) ∙ found) in
-        let f = then-given (recordRefused (s .0 .header .count) (recordFault r 0) (given (tt {0}))) _ a (s .2) in
-        let m = s .0 .header .count in
-        (by-none 6 m 7 (λ k. 32 * m + k) (recordFault r 0) (tt {0}) (f .0) (f .1) .0, placed r a (ap (λ (u : Sheet). placing u b len r) (sym same) ∙ f .2))
-
-    pub remove-done : (id : ℕ) (a : After) → removeIn b len id ≡ given a → Removed id a
-    unfolding removeIn
-    remove-done id a e =
-        let s = then-given (sheetAt b len) _ a e in
-        let same : s .0 ≡ t = given-same (sym (s .1) ∙ found) in
-        let d = then-given (demand (hasOf idOf id (s .0 .records)) 10) _ a (s .2) in
-        record {
-          there = ap (λ (u : Sheet). hasOf idOf id (u .records)) (sym same) ∙ demand-given (hasOf idOf id (s .0 .records)) 10 (d .0) (d .1);
-          after = sym (given-same (d .2))
-              ∙ ap (λ (u : Sheet). record { size = len - 16; bytes = removing (counting (u .header .count - 1) (u .header)) (placeOf idOf id (u .records)) len b }) same;
-        }
 
 -- ---- the sheet that it leaves
 

@@ -9,7 +9,7 @@ use native.Mathlib.Omega.{arith}
 use lib.Dec.{ltb, eqb}
 use lib.ListN.{length, take, drop}
 use borrow.Author.Tests.{ltb-true, ltb-false, lt-ltb, eqb-true, eqb-false, eq-eqb, ne-eqb}
-use Rattle.edit.specs.Keyed.{rises, lookup, putOf, outOf, Edit, put, out, mapAfter, mapAll, listAfter, listAll, Keys}
+use Rattle.keyed.specs.Keyed.{rises, lookup, putOf, outOf, Edit, put, out, mapAfter, mapAll, listAfter, listAll, Keys}
 
 module _ {A : Type 0} (key : A → ℕ) where
   both : (a b : Bool) → (a && b) ≡ true → (a ≡ true) × (b ≡ true)
@@ -17,7 +17,7 @@ module _ {A : Type 0} (key : A → ℕ) where
   both false b e = (e, cc)
 
   -- the first of a rising list is above what stands before, and the others rise from it
-  rises-head : (before : ℕ) (r : A) (rs : List A) → rises key before (r ∷ rs) ≡ true → (before < key r) × (rises key (key r) rs ≡ true)
+  pub rises-head : (before : ℕ) (r : A) (rs : List A) → rises key before (r ∷ rs) ≡ true → (before < key r) × (rises key (key r) rs ≡ true)
   unfolding rises
   rises-head before r rs e =
       let h = both (ltb before (key r)) (rises key (key r) rs) e in
