@@ -5,11 +5,11 @@ ghost use Prim.Native.Nat.{_+_, _≤_};
 ghost use lib.ListN.{length};
 ghost use Rattle.io.specs.Counts.{Counts};
 ghost use Rattle.decimal.specs.Laid.{Laid};
-ghost use Rattle.office.specs.Office.{besideTail};
+ghost use Rattle.office.specs.Office.{besideTail, Loaded};
 
 // How many bytes were read, or that it could not be done.
 pub enum Read {
-    Length(usize),
+    Got(usize),
     Failed,
 }
 
@@ -27,7 +27,9 @@ fn ended(fd: i32) -> bool {
 }
 
 // As much of the file as the space holds. It is opened for writing too, so that a sheet that may not be written is not replaced.
-pub fn load(path: &[u8], space: &mut [u8]) -> Read {
+pub fn load(path: &[u8], space: &mut [u8]) -> Read
+    ensures { λ r. ⌜ Loaded r (now (space .exit)) ⌝ }
+{
     let fd = os::open_update(path);
     if fd < 0 {
         say::failed(b"cannot open ", path);
@@ -40,7 +42,7 @@ pub fn load(path: &[u8], space: &mut [u8]) -> Read {
         return Read::Failed;
     }
     libc::close(fd);
-    Read::Length(got)
+    Read::Got(got)
 }
 
 // The name of a new file beside the old one; the last six bytes are replaced where it is made.
@@ -84,22 +86,27 @@ fn replace(path: &[u8], name: &[u8], fd: i32, sheet: &[u8], rights: Rights) -> b
     true
 }
 
-// Saves the new sheet. Nothing is left of it where that fails.
-pub fn save(path: &[u8], sheet: &[u8], rights: Rights) -> bool {
-    let mut space = io::buffer();
-    if 4088 < path.len() {
-        say::text(b"the path is too long");
-        return false;
-    }
-    let end = beside(path, &mut space);
-    let fd = os::create_temp(&mut space[..end]);
+// The same from a name, which becomes the new file's. Nothing is left of it where that fails.
+fn save_as(path: &[u8], name: &mut [u8], sheet: &[u8], rights: Rights) -> bool {
+    let fd = os::create_temp(name);
     if fd < 0 {
         say::failed(b"cannot make a file beside ", path);
         return false;
     }
-    if replace(path, &space[..end], fd, sheet, rights) {
+    if replace(path, name, fd, sheet, rights) {
         return true;
     }
-    os::unlink(&space[..end]);
+    os::unlink(name);
     false
+}
+
+// Saves the new sheet.
+pub fn save(path: &[u8], sheet: &[u8], rights: Rights) -> bool {
+    if 4088 < path.len() {
+        say::text(b"the path is too long");
+        return false;
+    }
+    let mut space = io::buffer();
+    let end = beside(path, &mut space);
+    save_as(path, &mut space[..end], sheet, rights)
 }

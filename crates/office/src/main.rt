@@ -15,7 +15,9 @@ use sheet::Refusal;
 ghost use mathlib.Core.Path.{_≡_};
 ghost use Prim.Native.Nat.{_≤_};
 ghost use lib.ListN.{length};
-ghost use Rattle.office.specs.Office.{recordsIn, Inside};
+ghost use Rattle.checker.specs.Longer.{enough};
+ghost use Rattle.edit.specs.Edit.{putNumbersIn, removeIn};
+ghost use Rattle.office.specs.Office.{recordsIn, Inside, OfFile};
 
 // Where the words stand.
 const COMMAND: usize = 1;
@@ -34,9 +36,11 @@ const FIRST: usize = 6;
 const LONGEST: usize = 6413;
 
 fn records_in(len: usize) -> usize
-    requires { ⌜ 12 ≤ len ⌝ }
     ensures { λ r. ⌜ r ≡ recordsIn len ⌝ }
 {
+    if len < 12 {
+        return 0;
+    }
     (len - 12) / 16
 }
 
@@ -75,7 +79,7 @@ fn rights() -> Rights {
 
 // A refusal leaves the file; else the new sheet takes the old one's place, and the number of its records is printed.
 fn finish(path: &[u8], sheet: &[u8], e: Edited)
-    requires { ⌜ Inside e (now sheet) ⌝ }
+    requires { ⌜ Inside e (length (now sheet)) ⌝ }
 {
     match e {
         Edited::Refused(r) => print_refusal(r),
@@ -96,9 +100,15 @@ fn take_fields(kind: u32, given: usize, fields: &mut [u32]) -> bool
         return words::take(FIRST, count, fields);
     }
     if kind < 5 {
-        say::number(b"a plate (kinds up to 4) takes 11 numbers, and here are ", given);
+        say::number(
+            b"a plate (kinds up to 4) takes 11 numbers, and here are ",
+            given,
+        );
     } else {
-        say::number(b"a member (kinds from 5 on) takes 13 numbers, and here are ", given);
+        say::number(
+            b"a member (kinds from 5 on) takes 13 numbers, and here are ",
+            given,
+        );
     }
     false
 }
@@ -121,6 +131,21 @@ fn record_words(fields: &mut [u32]) -> bool
     }
 }
 
+// The edit, in a buffer that has as much of the file as it holds.
+fn put_in(buffer: &mut [u8], got: usize, fields: [u32; 13]) -> Edited
+    requires { ⌜ (enough ≤ length (now buffer)) × (got ≤ length (now buffer)) ⌝ }
+    ensures { λ e. ⌜ OfFile (putNumbersIn (now (buffer .entry)) got fields) (now (buffer .entry)) got e (now (buffer .exit)) ⌝ }
+{
+    edit::put_numbers(buffer, got, fields)
+}
+
+fn remove_in(buffer: &mut [u8], got: usize, id: u32) -> Edited
+    requires { ⌜ (enough ≤ length (now buffer)) × (got ≤ length (now buffer)) ⌝ }
+    ensures { λ e. ⌜ OfFile (removeIn (now (buffer .entry)) got id) (now (buffer .entry)) got e (now (buffer .exit)) ⌝ }
+{
+    edit::remove(buffer, got, id)
+}
+
 fn put(path: &[u8]) {
     let mut fields = [0u32; 13];
     if !record_words(&mut fields) {
@@ -130,8 +155,8 @@ fn put(path: &[u8]) {
     let read = file::load(path, &mut sheet);
     match read {
         Read::Failed => {}
-        Read::Length(len) => {
-            let e = edit::put_numbers(&mut sheet, len, fields);
+        Read::Got(got) => {
+            let e = put_in(&mut sheet, got, fields);
             finish(path, &sheet, e);
         }
     }
@@ -151,8 +176,8 @@ fn remove(path: &[u8]) {
     let read = file::load(path, &mut sheet);
     match read {
         Read::Failed => {}
-        Read::Length(len) => {
-            let e = edit::remove(&mut sheet, len, id[0]);
+        Read::Got(got) => {
+            let e = remove_in(&mut sheet, got, id[0]);
             finish(path, &sheet, e);
         }
     }

@@ -69,6 +69,10 @@ module _ (text o : List ℕ) where
   unfolding lengthIn
   told-all r after l t = (t .answer ∙ rw (le-leb _ _ l), t .bytes ∙ bytes-all text o l)
 
+-- so that 22 bytes are never too short for a refusal's line
+pub refusal-told : (x : Refusal) (o : List ℕ) (r : Told) (after : List ℕ) → 22 ≤ length o → TellsRefusal x o r after → (toldLength r ≡ given (length (refusalText x))) × (after ≡ refusalText x ++ drop (length (refusalText x)) o)
+refusal-told x o r after l t = told-all (refusalText x) o r after (omega (arith, t .most)) (t .tells)
+
 told-only : (a : Answer ℕ) (q r : Told) → toldLength q ≡ a → toldLength r ≡ a → q ≡ r
 told-only a (Length m) (Length n) f g = ap Length (given-same (f ∙ sym g))
 told-only a (Length m) (notTold y) f g = given-refused (f ∙ sym g)

@@ -14,7 +14,7 @@ use Rattle.decimal.specs.DecimalLaws.{decimal-most}
 use Rattle.decimal.specs.Laid.{Laid}
 use Rattle.decimal.specs.LaidLaws.{laid-front, put-front}
 use Rattle.report.specs.Page.{toldLength}
-use Rattle.report.specs.PageLaws.{told-all}
+use Rattle.report.specs.PageLaws.{refusal-told}
 use Rattle.report.specs.Pieces.{refusalText}
 use Rattle.edit.specs.declared.Edited.{Edited}
 use Rattle.edits.specs.Stream.{editedText, Inside}
@@ -52,7 +52,7 @@ module _ (c : tie.After-write-refusal) where
   line = refusalText (arm .e2 .given .0 .0)
 
   told : (toldLength (c .write-refusal .result) ≡ given (length line)) × (c .write-refusal .last .1 .0 ≡ line ++ drop (length line) (now (start-2 .args .text)))
-  told = told-all line (now (start-2 .args .text)) (c .write-refusal .result) (c .write-refusal .last .1 .0) (omega (arith, c .write-refusal .ensures .most, start-2 .pre .0)) (c .write-refusal .ensures .tells)
+  told = refusal-told (arm .e2 .given .0 .0) (now (start-2 .args .text)) (c .write-refusal .result) (c .write-refusal .last .1 .0) (start-2 .pre .0) (c .write-refusal .ensures)
 
 returns-2 : tie.Need-returns-2
 returns-2 c =
