@@ -7,11 +7,11 @@ use Rattle.office.proofs.words.fields_of.Tie as tie
 
 returns : tie.Need-returns
 unfolding fieldsOf
-returns c = rw (lt-ltb _ _ (c .if1 .taken))
+returns c = rw (lt-ltb (c .before .args .kind) 5 (c .if1 .taken))
 
 returns-2 : tie.Need-returns-2
 unfolding fieldsOf
-returns-2 c = rw (le-ltb _ _ (c .if1 .left))
+returns-2 c = rw (le-ltb (c .before .args .kind) 5 (c .if1 .left))
 
 pub fields-of-spec : {M : Type 1} → statement M
 fields-of-spec = tie.close (tie.spec returns returns-2)
