@@ -1,7 +1,7 @@
 -- An output with room for the verdicts of every sheet plays no part in the answer.
 -- Assumes nothing.
 use Prim.Native.Nat.{ℕ, _*_, _≤_}
-use mathlib.Core.Path.{_≡_, refl, sym, ap, _∙_}
+use mathlib.Core.Path.{_≡_, refl}
 use mathlib.Core.List.{List}
 use native.Mathlib.Omega.{arith}
 use borrow.Author.Tests.{le-leb}
@@ -12,8 +12,8 @@ use Rattle.sheet.specs.RefusalLaws.{header-only}
 use Rattle.sheet.specs.Header.{readHeader}
 use Rattle.sheet.specs.HeaderLaws.{header-ranges}
 use Rattle.sheet.specs.HeaderBack.{header-read-fine}
-use Rattle.checker.specs.Check.{_then_, demand, headerFor, sheetIn, Sheet}
-use Rattle.checker.specs.Unjudged.{room, soundSheet, soundHeader}
+use Rattle.checker.specs.Check.{_then_, demand, headerFor, sheetIn}
+use Rattle.checker.specs.Unjudged.{room, soundHeader}
 
 -- it gives what any longer one gives: refusal 5 does not arise
 pub room-enough : (s : List ℕ) (space : ℕ) → room ≤ space → sheetIn s space ≡ sheetIn s room

@@ -4,20 +4,18 @@
 use Prim.Native.Nat.{ℕ, _+_, _-_, _*_, _≤_, _<_}
 use mathlib.Core.Path.{_≡_, sym, ap, ap₂, _∙_}
 use mathlib.Core.Bool.{cond}
-use mathlib.Core.List.{List, [], _++_, append-nil}
+use mathlib.Core.List.{List, _++_}
 use native.Mathlib.Omega.{arith}
 use native.Mathlib.Decide.{decLt}
-use lib.ListN.{length, take, drop, length-append, length-drop, take-append-drop, drop-of-length-le}
+use lib.ListN.{length, take, drop, length-append, length-drop, take-append-drop}
 use lib.Seq.{length-take-le, take-append-le, drop-append-le, drop-drop, take-at, drop-at}
 use lib.Dec.{ltb}
-use borrow.Author.Tests.{eq-eqb}
 use Rattle.layout.specs.Layout.{pack, bytes}
-use Rattle.layout.specs.Laws.{length-unpack}
 use Rattle.sheet.specs.declared.Record.{Record}
 use Rattle.sheet.specs.Refusals.{given, refused}
 use Rattle.sheet.specs.Header.{headerIn, readHeader}
-use Rattle.sheet.specs.Record.{readRecord, recordFault, recordNumber, recordBytes, writeRecord}
-use Rattle.sheet.specs.RecordBack.{record-read-again}
+use Rattle.sheet.specs.Record.{readRecord, recordFault, recordBytes}
+use Rattle.sheet.specs.OwnBytes.{record-bytes-length, record-bytes-read}
 use Rattle.checker.specs.Check.{recordOf}
 use Rattle.demands.specs.Raise.{recordStart, replaced}
 
@@ -54,20 +52,6 @@ module _ (p b q : List ℕ) (m : ℕ) (lp : length p ≡ m) (lb : length b ≡ 1
       ∙ sym (drop-drop k 16 (b ++ q))
       ∙ ap (drop k) (drop-at b q 16 lb))
 
--- ---- a record's bytes are read as the record
-
-bytes-length : (r : Record) → length (recordBytes r) ≡ 16
-bytes-length r = length-unpack (bytes 16) (recordNumber r)
-
-pub bytes-read : (i : ℕ) (r : Record) → recordFault r 0 ≡ 0 → readRecord i (recordBytes r) ≡ given r
-unfolding writeRecord
-bytes-read i r z =
-    let o = recordBytes r in
-    let fine : writeRecord r o .answer ≡ given (tt {0}) = rw (eq-eqb (recordFault r 0) 0 z) in
-    let stay : writeRecord r o .bytes ≡ o ++ drop 16 o = rw (eq-eqb (recordFault r 0) 0 z) in
-    let end : drop 16 o ≡ [] = drop-of-length-le o {i = 16} (omega (arith, bytes-length r)) in
-    ap (readRecord i) (sym (stay ∙ ap (λ (t : List ℕ). o ++ t) end ∙ append-nil o)) ∙ record-read-again i r o fine
-
 -- ---- a sheet with one record replaced
 
 module _ (s : List ℕ) (i : ℕ) (r : Record) (z : recordFault r 0 ≡ 0) (l : recordStart i + 16 ≤ length s) where
@@ -90,7 +74,7 @@ module _ (s : List ℕ) (i : ℕ) (r : Record) (z : recordFault r 0 ≡ 0) (l : 
   pub replaced-length : length new ≡ length s
   unfolding replaced
   replaced-length =
-      omega (arith, length-append (take (recordStart i) s) (recordBytes r ++ drop (recordStart i + 16) s), length-append (recordBytes r) (drop (recordStart i + 16) s), length-drop (recordStart i + 16) s, start-length, bytes-length r)
+      omega (arith, length-append (take (recordStart i) s) (recordBytes r ++ drop (recordStart i + 16) s), length-append (recordBytes r) (drop (recordStart i + 16) s), length-drop (recordStart i + 16) s, start-length, record-bytes-length r)
 
   -- the header is read as before
   pub replaced-header : readHeader new ≡ readHeader s
@@ -104,8 +88,8 @@ module _ (s : List ℕ) (i : ℕ) (r : Record) (z : recordFault r 0 ≡ 0) (l : 
   unfolding replaced
   replaced-record =
       ap (readRecord i)
-      (just (recordStart i) new ∙ in-middle (take (recordStart i) s) (recordBytes r) (drop (recordStart i + 16) s) (recordStart i) start-length (bytes-length r))
-      ∙ bytes-read i r z
+      (just (recordStart i) new ∙ in-middle (take (recordStart i) s) (recordBytes r) (drop (recordStart i + 16) s) (recordStart i) start-length (record-bytes-length r))
+      ∙ record-bytes-read i r z
 
   -- and every other record is read as before
   pub replaced-others : (j : ℕ) → (j ≡ i → ⊥) → recordOf new j ≡ recordOf s j
@@ -114,7 +98,7 @@ module _ (s : List ℕ) (i : ℕ) (r : Record) (z : recordFault r 0 ≡ 0) (l : 
     where
       go : Dec (j < i) → take 16 (drop (recordStart j) (three (take (recordStart i) s) (recordBytes r) (drop (recordStart i + 16) s))) ≡ take 16 (drop (recordStart j) s)
       go (yes h) =
-          before (take (recordStart i) s) (recordBytes r) (drop (recordStart i + 16) s) (recordStart i) start-length (bytes-length r) (recordStart j) (omega arith)
+          before (take (recordStart i) s) (recordBytes r) (drop (recordStart i + 16) s) (recordStart i) start-length (record-bytes-length r) (recordStart j) (omega arith)
           ∙ sym (before (take (recordStart i) s) (take 16 (drop (recordStart i) s)) (drop (recordStart i + 16) s) (recordStart i) start-length old-length (recordStart j) (omega arith))
           ∙ ap (λ (t : List ℕ). take 16 (drop (recordStart j) t)) parts
       go (no h) =
@@ -122,7 +106,7 @@ module _ (s : List ℕ) (i : ℕ) (r : Record) (z : recordFault r 0 ≡ 0) (l : 
           let at : recordStart i + 16 + k ≡ recordStart j = omega (arith, n) in
           let old = three (take (recordStart i) s) (take 16 (drop (recordStart i) s)) (drop (recordStart i + 16) s) in
           ap (λ (x : ℕ). take 16 (drop x (three (take (recordStart i) s) (recordBytes r) (drop (recordStart i + 16) s)))) (sym at)
-          ∙ after (take (recordStart i) s) (recordBytes r) (drop (recordStart i + 16) s) (recordStart i) start-length (bytes-length r) k
+          ∙ after (take (recordStart i) s) (recordBytes r) (drop (recordStart i + 16) s) (recordStart i) start-length (record-bytes-length r) k
           ∙ sym (after (take (recordStart i) s) (take 16 (drop (recordStart i) s)) (drop (recordStart i + 16) s) (recordStart i) start-length old-length k)
           ∙ ap (λ (x : ℕ). take 16 (drop x old)) at
           ∙ ap (λ (t : List ℕ). take 16 (drop (recordStart j) t)) parts

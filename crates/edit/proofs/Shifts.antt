@@ -1,12 +1,12 @@
 -- What the loops that move bytes leave, turn by turn.
 -- Assumes nothing.
-use Prim.Native.Nat.{ℕ, zero, suc, _+_, _-_, _*_, _≤_, _<_}
+use Prim.Native.Nat.{ℕ, zero, suc, _+_, _-_, _≤_, _<_}
 use mathlib.Core.Path.{_≡_, refl, sym, ap, _∙_}
-use mathlib.Core.List.{List, [], _∷_, _++_, append-assoc, append-nil}
+use mathlib.Core.List.{List, [], _∷_, _++_, append-nil}
 use native.Mathlib.Omega.{arith}
 use native.Mathlib.Numerals.{add-one}
 use lib.ListN.{length, getD, take, drop, set, replicate, length-append, length-take, length-drop, length-replicate, getD-replicate, take-append-drop, drop-of-length-le, List·getD-append}
-use lib.Seq.{take-at, drop-at, take-append-le, drop-append-le, take-take, drop-drop, length-take-le, take-all, drop-cons, append-snoc, getD-take, getD-drop, getD-append-add, set-append-left, take-set-lt, take-suc-set, take-length}
+use lib.Seq.{take-at, length-take-le, take-all, drop-cons, append-snoc, getD-take, getD-drop, getD-append-add, set-append-left, take-set-lt, take-suc-set}
 use Rattle.edit.specs.Steps.{opened, without, closed}
 
 -- an element past the first part

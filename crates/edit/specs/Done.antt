@@ -4,21 +4,18 @@ use Prim.Native.Nat.{ℕ, _+_, _-_, _*_, _≤_, _<_}
 use mathlib.Core.Path.{_≡_, refl, sym, ap, _∙_}
 use mathlib.Core.Bool.{Bool, true, false, cond, _&&_}
 use mathlib.Core.List.{List}
-use native.Mathlib.Omega.{arith}
 use lib.ListN.{length}
 use lib.Dec.{leb, ltb}
 use borrow.Author.Tests.{leb-true, ltb-true}
 use Rattle.keyed.specs.Keyed.{placeOf, hasOf}
 use Rattle.sheet.specs.declared.Record.{Record}
 use Rattle.sheet.specs.Lines.{counts}
-use Rattle.sheet.specs.Refusals.{Answer, given, refused, recordRefused}
-use Rattle.sheet.specs.RefusalLaws.{given-same, given-refused, by-none}
+use Rattle.sheet.specs.Refusals.{given, recordRefused}
+use Rattle.sheet.specs.RefusalLaws.{given-same, by-none}
 use Rattle.sheet.specs.Record.{recordFault}
-use Rattle.numbers.specs.From.{recordFrom}
 use Rattle.checker.specs.Check.{_then_, demand, Sheet}
 use Rattle.checker.specs.CheckLaws.{then-given, demand-given}
-use Rattle.edit.specs.declared.Edited.the-variants.{Length}
-use Rattle.edit.specs.Edit.{sheetAt, headerOf, idOf, counting, replacing, inserting, removing, After, hasRoom, placing, putIn, putNumbersIn, removeIn, sizeBy, Edits}
+use Rattle.edit.specs.Edit.{sheetAt, idOf, counting, replacing, inserting, removing, After, hasRoom, placing, putIn, removeIn}
 
 module _ (b : List ℕ) (len : ℕ) (t : Sheet) where
   abbrev n : ℕ

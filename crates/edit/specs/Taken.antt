@@ -1,20 +1,20 @@
 -- A sheet in a buffer that is not turned away: its length, its header, and its records by their bytes.
 -- Assumes nothing.
-use Prim.Native.Nat.{ℕ, zero, suc, _+_, _*_, _≤_, _<_}
+use Prim.Native.Nat.{ℕ, zero, suc, _+_, _≤_}
 use mathlib.Core.Path.{_≡_, refl, sym, ap, subst, _∙_}
-use mathlib.Core.Bool.{Bool, true, false, cond, _&&_}
+use mathlib.Core.Bool.{Bool, true, false, _&&_}
 use mathlib.Core.List.{List, [], _∷_, _++_}
 use native.Mathlib.Omega.{arith}
 use lib.ListN.{length, take, drop}
 use lib.Seq.{length-take-le}
-use lib.Dec.{leb, ltb, eqb}
-use borrow.Author.Tests.{leb-true, lt-ltb, ltb-true, le-leb, eq-eqb}
+use lib.Dec.{leb, ltb}
+use borrow.Author.Tests.{leb-true, lt-ltb}
 use Rattle.sheet.specs.declared.Header.{Header}
 use Rattle.sheet.specs.declared.Record.{Record}
 use Rattle.sheet.specs.declared.Raw.{Raw}
 use Rattle.sheet.specs.Lines.{counts}
-use Rattle.sheet.specs.Refusals.{Answer, given, refused}
-use Rattle.sheet.specs.RefusalLaws.{given-same, given-refused}
+use Rattle.sheet.specs.Refusals.{given}
+use Rattle.sheet.specs.RefusalLaws.{given-same}
 use Rattle.sheet.specs.Header.{headerFault, readHeader}
 use Rattle.sheet.specs.HeaderLaws.{header-ranges}
 use Rattle.sheet.specs.HeaderBack.{header-read-fine}

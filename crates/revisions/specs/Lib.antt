@@ -5,3 +5,6 @@ pub mod Touched
 pub mod BackAgain
 pub mod Verdicts
 pub mod Rows
+pub mod RowLaws
+pub mod Numbers
+pub mod Example

@@ -1,32 +1,28 @@
 -- The sheet that an edit which is done leaves.
 -- Assumes nothing.
-use Prim.Native.Nat.{ℕ, suc, _+_, _-_, _*_, _≤_, _<_}
-use mathlib.Core.Path.{_≡_, refl, sym, ap, ap₂, subst, _∙_}
-use mathlib.Core.Bool.{Bool, true, false, cond, _&&_}
+use Prim.Native.Nat.{ℕ, suc, _+_, _-_, _≤_, _<_}
+use mathlib.Core.Path.{_≡_, sym, ap, ap₂, _∙_}
+use mathlib.Core.Bool.{true}
 use mathlib.Core.List.{List, [], _∷_, _++_}
 use native.Mathlib.Omega.{arith}
-use lib.ListN.{length, take, drop, replicate, length-append, length-take, length-drop}
+use lib.ListN.{length, take, drop, replicate, length-append, length-drop}
 use lib.Seq.{length-take-le}
-use lib.Dec.{leb, ltb}
-use borrow.Author.Tests.{leb-true, ltb-true}
 use Rattle.sheet.specs.declared.Header.{Header}
 use Rattle.sheet.specs.declared.Record.{Record}
-use Rattle.sheet.specs.Lines.{counts}
-use Rattle.sheet.specs.Refusals.{Answer, given, refused, recordRefused}
-use Rattle.sheet.specs.RefusalLaws.{given-same, given-refused, by-none}
+use Rattle.sheet.specs.Refusals.{given}
 use Rattle.sheet.specs.Header.{headerBytes}
 use Rattle.sheet.specs.Record.{recordFault, recordBytes}
 use Rattle.sheet.specs.RecordExactly.{record-id}
-use Rattle.checker.specs.Check.{_then_, demand, partsFrom, Sheet}
-use Rattle.checker.specs.CheckLaws.{then-given, demand-given}
-use Rattle.keyed.specs.Keyed.{rises, placeOf, hasOf, putOf, outOf}
+use Rattle.sheet.specs.OwnBytes.{header-bytes-length, record-bytes-length, header-bytes-read, record-bytes-read}
+use Rattle.checker.specs.Check.{Sheet}
+use Rattle.keyed.specs.Keyed.{rises, placeOf, putOf, outOf}
 use Rattle.keyed.specs.MapLaws.{put-rises, out-rises}
 use Rattle.keyed.specs.Places.{place-le, has-lt, put-at, out-at}
-use Rattle.edit.specs.Edit.{sheetAt, start, idOf, counting, replacing, inserting, removing, After, hasRoom, placing, putIn, removeIn}
+use Rattle.edit.specs.Edit.{sheetAt, start, idOf, counting, After, putIn, removeIn}
 use Rattle.edit.specs.Done.{Put, replaces, inserts, put-done, remove-done}
 use Rattle.edit.specs.HeaderCount.{counting-sound}
 use Rattle.edit.specs.Taken.{nothing, reads, Taken, taken-at}
-use Rattle.revisions.specs.Rebuilt.{header-length, record-length, header-back, record-back, head, head-read, rebuilt, inserted-bytes, replaced-bytes, removed-bytes}
+use Rattle.revisions.specs.Rebuilt.{head, head-read, rebuilt, inserted-bytes, replaced-bytes, removed-bytes}
 
 -- a sheet that holds these records, which its header counts
 abbrev pub holding : Header → List Record → Sheet
@@ -73,8 +69,8 @@ module _ (b : List ℕ) (len : ℕ) (t : Sheet) (found : sheetAt b len ≡ given
         in-words _ a h _ (putOf idOf r rs)
         (ap (λ (x : After). x .bytes) e ∙ replaced-bytes b len t k i inside m r)
         (ap (λ (x : After). x .size) e ∙ k .whole)
-        (rebuilt b len t k i inside (i + 1) (omega arith) (take 12 b) h (recordBytes r ∷ []) (r ∷ []) (drop len b) (head b len t k i) (head-read b len t k i) (record-length r, tt)
-        (reads (record-back r z) nothing) (omega arith) (ap (rises idOf 0) (sym put) ∙ rising))
+        (rebuilt b len t k i inside (i + 1) (omega arith) (take 12 b) h (recordBytes r ∷ []) (r ∷ []) (drop len b) (head b len t k i) (head-read b len t k i) (record-bytes-length r, tt)
+        (reads (record-bytes-read 0 r z) nothing) (omega arith) (ap (rises idOf 0) (sym put) ∙ rising))
         (sym put)
         (ap (λ (x : ℕ). counting x h) (sym many))
     put-held a (inserts new fits few e) =
@@ -86,8 +82,8 @@ module _ (b : List ℕ) (len : ℕ) (t : Sheet) (found : sheetAt b len ≡ given
         in-words _ a g _ (putOf idOf r rs)
         (ap (λ (x : After). x .bytes) e ∙ inserted-bytes b len t k i inside g r)
         (ap (λ (x : After). x .size) e ∙ omega (arith, k .whole))
-        (rebuilt b len t k i inside i inside (headerBytes g) g (recordBytes r ∷ []) (r ∷ []) (drop (len + 16) b) (header-length g) (header-back g sound) (record-length r, tt)
-        (reads (record-back r z) nothing) (omega (arith, inside)) (ap (rises idOf 0) (sym put) ∙ rising))
+        (rebuilt b len t k i inside i inside (headerBytes g) g (recordBytes r ∷ []) (r ∷ []) (drop (len + 16) b) (header-bytes-length g) (header-bytes-read g sound) (record-bytes-length r, tt)
+        (reads (record-bytes-read 0 r z) nothing) (omega (arith, inside)) (ap (rises idOf 0) (sym put) ∙ rising))
         (sym put)
         (ap (λ (x : ℕ). counting x h) (sym many))
 
@@ -111,7 +107,7 @@ module _ (b : List ℕ) (len : ℕ) (t : Sheet) (found : sheetAt b len ≡ given
       in-words _ a g _ (outOf idOf id rs)
       (ap (λ (x : After). x .bytes) (d .after) ∙ removed-bytes b len t k j within m g)
       (ap (λ (x : After). x .size) (d .after) ∙ omega (arith, k .whole))
-      (rebuilt b len t k j within (j + 1) (omega arith) (headerBytes g) g [] [] (replicate 16 0 ++ drop len b) (header-length g) (header-back g sound) tt nothing (omega arith)
+      (rebuilt b len t k j within (j + 1) (omega arith) (headerBytes g) g [] [] (replicate 16 0 ++ drop len b) (header-bytes-length g) (header-bytes-read g sound) tt nothing (omega arith)
       (ap (rises idOf 0) (sym out) ∙ out-rises idOf 0 id rs (k .order)))
       (sym out)
       (ap (λ (x : ℕ). counting x h) (sym many))

@@ -1,42 +1,31 @@
 -- The sheet that an edit leaves: its bytes in their parts, and what is read of them.
 -- Assumes nothing.
-use Prim.Native.Nat.{ℕ, zero, suc, _+_, _-_, _*_, _≤_, _<_}
-use mathlib.Core.Path.{_≡_, refl, sym, ap, ap₂, subst, _∙_}
-use mathlib.Core.Bool.{true, false, cond}
+use Prim.Native.Nat.{ℕ, _+_, _-_, _*_, _≤_, _<_}
+use mathlib.Core.Path.{_≡_, sym, ap, ap₂, subst, _∙_}
+use mathlib.Core.Bool.{true}
 use mathlib.Core.List.{List, [], _∷_, _++_, append-assoc, append-nil}
 use native.Mathlib.Omega.{arith}
 use native.Mathlib.Nat.{zero-add}
-use lib.ListN.{length, take, drop, replicate, length-append, length-take, length-drop, take-append-drop, drop-of-length-le}
-use lib.Seq.{take-at, drop-at, drop-drop, take-add, take-take, take-append-le, length-take-le}
-use lib.Dec.{ltb}
-use borrow.Author.Tests.{le-leb, le-ltb, eq-eqb}
-use Rattle.layout.specs.Layout.{pack, bytes}
-use Rattle.layout.specs.Laws.{length-unpack}
+use lib.ListN.{length, take, drop, replicate, length-append, take-append-drop}
+use lib.Seq.{take-at, drop-at, drop-drop, take-add, length-take-le}
+use borrow.Author.Tests.{le-leb, eq-eqb}
+use Rattle.layout.specs.Layout.{bytes}
 use Rattle.sheet.specs.declared.Header.{Header}
 use Rattle.sheet.specs.declared.Record.{Record}
-use Rattle.sheet.specs.Lines.{headerWidths, counts}
-use Rattle.sheet.specs.Refusals.{Answer, given, refused}
-use Rattle.sheet.specs.Header.{headerFault, headerValues, headerIn, headerBytes, readHeader, writeHeader}
+use Rattle.sheet.specs.Refusals.{given}
+use Rattle.sheet.specs.Header.{headerBytes, readHeader}
 use Rattle.sheet.specs.HeaderLaws.{header-ranges}
-use Rattle.sheet.specs.HeaderBack.{header-read-fine, header-read-again}
-use Rattle.sheet.specs.Record.{recordFault, recordNumber, recordBytes, readRecord, writeRecord}
-use Rattle.sheet.specs.RecordBack.{record-read-again}
+use Rattle.sheet.specs.HeaderBack.{header-read-fine}
+use Rattle.sheet.specs.Record.{recordBytes}
+use Rattle.sheet.specs.OwnBytes.{header-front}
 use Rattle.checker.specs.Check.{_then_, demand, headerFor, part, partsFrom, recordsIn, Sheet, sheetIn}
 use Rattle.checker.specs.Unjudged.{room, soundSheet}
 use Rattle.keyed.specs.Keyed.{rises}
-use Rattle.edit.specs.Edit.{sheetAt, start, idOf, counting, replacing, inserting, removing}
+use Rattle.edit.specs.Edit.{sheetAt, start, idOf, replacing, inserting, removing}
 use Rattle.edit.specs.Parts.{join, Wide, join-append, join-length, wide-append, parts-length, parts-wide, parts-split, cut, joined}
-use Rattle.edit.specs.Taken.{Reads, reads, reads-taken, reads-append, reads-take, reads-drop, Taken}
+use Rattle.edit.specs.Taken.{Reads, reads-taken, reads-append, reads-take, reads-drop, Taken}
 
 -- ---- a sheet that is put together
-
--- the header is read of the first twelve bytes
-pub read-front : (x y : List ℕ) → length x ≡ 12 → readHeader (x ++ y) ≡ readHeader x
-unfolding readHeader
-read-front x y e =
-    let l : 12 ≤ length (x ++ y) = omega (arith, length-append x y) in
-    let m : 12 ≤ length x = omega arith in
-    rw (le-ltb (length (x ++ y)) 12 l, le-ltb (length x) 12 m) (ap (λ (s : List ℕ). headerIn (pack (bytes 12) s)) (take-append-le 12 x y m))
 
 module _ (x : List ℕ) (ps : List (List ℕ)) (z : List ℕ) (h : Header) (rs : List Record) (sized : length x ≡ 12) (wide : Wide ps) (read : readHeader x ≡ given h) (number : h .count ≡ length ps)
     (each : Reads ps rs) (order : rises idOf 0 rs ≡ true) where
@@ -61,7 +50,7 @@ module _ (x : List ℕ) (ps : List (List ℕ)) (z : List ℕ) (h : Header) (rs :
   put-together =
       let fits : start (h .count) ≤ length whole = omega (arith, ap length (sym (append-assoc x (join ps) z)), length-append (x ++ join ps) z, long) in
       let few = header-ranges h 0 (header-read-fine x h read) .count-high in
-      rw (le-leb (start (h .count)) (length whole) fits, front, read-front x (join ps) sized, read, eq-eqb (length (x ++ join ps)) (start (h .count)) long, le-leb (4 * h .count) room (omega arith), records-read)
+      rw (le-leb (start (h .count)) (length whole) fits, front, header-front x (join ps) sized, read, eq-eqb (length (x ++ join ps)) (start (h .count)) long, le-leb (4 * h .count) room (omega arith), records-read)
 
 -- ---- the buffer's bytes around record i
 
@@ -91,31 +80,6 @@ last-parts b n i l =
     ∙ drop-at (partsFrom b 0 i) (partsFrom b (0 + i) (n - i)) i (parts-length b 0 i)
     ∙ ap (λ (k : ℕ). partsFrom b k (n - i)) (zero-add i))
 
--- ---- bytes that are written are read
-
-pub header-length : (h : Header) → length (headerBytes h) ≡ 12
-header-length h = length-unpack (bytes 12) (pack headerWidths (headerValues h 0))
-
-pub record-length : (r : Record) → length (recordBytes r) ≡ 16
-record-length r = length-unpack (bytes 16) (recordNumber r)
-
-pub header-back : (h : Header) → headerFault h 0 ≡ 0 → readHeader (headerBytes h) ≡ given h
-unfolding writeHeader
-header-back h z =
-    let o = headerBytes h in
-    let fine : writeHeader h o .answer ≡ given (tt {0}) = rw (eq-eqb (headerFault h 0) 0 z) in
-    let stay : writeHeader h o .bytes ≡ o ++ drop 12 o = rw (eq-eqb (headerFault h 0) 0 z) in
-    sym (read-front o (drop 12 o) (header-length h)) ∙ ap readHeader (sym stay) ∙ header-read-again h o fine
-
-pub record-back : (r : Record) → recordFault r 0 ≡ 0 → readRecord 0 (recordBytes r) ≡ given r
-unfolding writeRecord
-record-back r z =
-    let o = recordBytes r in
-    let fine : writeRecord r o .answer ≡ given (tt {0}) = rw (eq-eqb (recordFault r 0) 0 z) in
-    let short : length o ≤ 16 = omega (arith, record-length r) in
-    let stay : writeRecord r o .bytes ≡ o = rw (eq-eqb (recordFault r 0) 0 z, drop-of-length-le o short) (append-nil o) in
-    ap (readRecord 0) (sym stay) ∙ record-read-again 0 r o fine
-
 -- ---- the three edits
 
 module _ (b : List ℕ) (len : ℕ) (t : Sheet) (k : Taken b len t) (i : ℕ) where
@@ -130,7 +94,7 @@ module _ (b : List ℕ) (len : ℕ) (t : Sheet) (k : Taken b len t) (i : ℕ) wh
   head-read =
       let e : 12 + 16 * n ≡ len = sym (k .whole) in
       let s : take len b ≡ take 12 b ++ take (16 * n) (drop 12 b) = ap (λ (m : ℕ). take m b) (sym e) ∙ take-add 12 (16 * n) b in
-      sym (read-front (take 12 b) (take (16 * n) (drop 12 b)) head) ∙ ap readHeader (sym s) ∙ k .read
+      sym (header-front (take 12 b) (take (16 * n) (drop 12 b)) head) ∙ ap readHeader (sym s) ∙ k .read
 
   module _ (inside : i ≤ n) where
     before : Reads (partsFrom b 0 i) (take i (t .records))

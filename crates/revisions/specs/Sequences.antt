@@ -1,17 +1,14 @@
 -- Edits in turn: after any of them the sheet holds what a plain map from ids to records would hold.
 -- Assumes nothing.
-use Prim.Native.Nat.{ℕ, _<_}
-use mathlib.Core.Path.{_≡_, refl, sym, ap, _∙_}
+use Prim.Native.Nat.{ℕ}
+use mathlib.Core.Path.{_≡_, refl, ap, _∙_}
 use mathlib.Core.Bool.{true}
 use mathlib.Core.List.{List, [], _∷_}
-use mathlib.Core.Option.{Option, some}
 use lib.ListN.{length}
-use Rattle.sheet.specs.declared.Header.{Header}
-use Rattle.sheet.specs.declared.Record.{Record}
 use Rattle.sheet.specs.Refusals.{Answer, given, refused}
 use Rattle.sheet.specs.RecordExactly.{record-id}
 use Rattle.checker.specs.Check.{Sheet}
-use Rattle.keyed.specs.Keyed.{rises, lookup, putOf, outOf, Edit, put, out, mapAll, listAfter, listAll, Keys}
+use Rattle.keyed.specs.Keyed.{rises, lookup, Edit, put, out, mapAll, listAfter, listAll, Keys}
 use Rattle.keyed.specs.MapLaws.{edits}
 use Rattle.edit.specs.Edit.{sheetAt, idOf, counting, After, putIn, removeIn}
 use Rattle.edit.specs.Taken.{taken-at}

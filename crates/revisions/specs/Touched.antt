@@ -1,19 +1,19 @@
 -- Which bytes an edit touches: a replacement its own sixteen; any other the header and the records from its place on; and none past the sheet but the
 -- sixteen that it frees or takes.
 -- Assumes nothing.
-use Prim.Native.Nat.{ℕ, _+_, _-_, _≤_, _<_}
-use mathlib.Core.Path.{_≡_, refl, sym, ap, ap₂, _∙_}
+use Prim.Native.Nat.{ℕ, _+_, _-_, _≤_}
+use mathlib.Core.Path.{_≡_, sym, ap, _∙_}
 use mathlib.Core.List.{List, _++_, append-assoc}
 use native.Mathlib.Omega.{arith}
-use lib.ListN.{length, take, drop, replicate, length-append, length-take, length-drop, length-replicate}
-use lib.Seq.{take-at, drop-at, drop-drop, length-take-le}
+use lib.ListN.{length, take, drop, replicate, length-append, length-drop, length-replicate}
+use lib.Seq.{take-at, drop-at, length-take-le}
 use Rattle.sheet.specs.declared.Header.{Header}
 use Rattle.sheet.specs.declared.Record.{Record}
 use Rattle.sheet.specs.Header.{headerBytes}
 use Rattle.sheet.specs.Record.{recordBytes}
+use Rattle.sheet.specs.OwnBytes.{header-bytes-length, record-bytes-length}
 use Rattle.checker.specs.Check.{part}
 use Rattle.edit.specs.Edit.{start, replacing, inserting, removing}
-use Rattle.revisions.specs.Rebuilt.{header-length, record-length}
 
 -- ---- parts of a list that is put together
 
@@ -39,18 +39,18 @@ module _ (b : List ℕ) (i : ℕ) (r : Record) (l : start i + 16 ≤ length b) w
 
   pub replaced-own : part (replacing i r b) (start i) (start i + 16) ≡ recordBytes r
   unfolding replacing
-  replaced-own = part-of (take (start i) b) (recordBytes r) _ (start i) (start i + 16) front (omega (arith, record-length r))
+  replaced-own = part-of (take (start i) b) (recordBytes r) _ (start i) (start i + 16) front (omega (arith, record-bytes-length r))
 
   pub replaced-after : drop (start i + 16) (replacing i r b) ≡ drop (start i + 16) b
   unfolding replacing
   replaced-after =
       ap (drop (start i + 16)) (sym (append-assoc (take (start i) b) (recordBytes r) (drop (start i + 16) b)))
-      ∙ drop-at (take (start i) b ++ recordBytes r) (drop (start i + 16) b) (start i + 16) (omega (arith, length-append (take (start i) b) (recordBytes r), front, record-length r))
+      ∙ drop-at (take (start i) b ++ recordBytes r) (drop (start i + 16) b) (start i + 16) (omega (arith, length-append (take (start i) b) (recordBytes r), front, record-bytes-length r))
 
   pub replaced-length : length (replacing i r b) ≡ length b
   unfolding replacing
   replaced-length =
-      omega (arith, length-append (take (start i) b) (recordBytes r ++ drop (start i + 16) b), length-append (recordBytes r) (drop (start i + 16) b), front, record-length r, length-drop (start i + 16) b)
+      omega (arith, length-append (take (start i) b) (recordBytes r ++ drop (start i + 16) b), length-append (recordBytes r) (drop (start i + 16) b), front, record-bytes-length r, length-drop (start i + 16) b)
 
 -- ---- an insertion as record i of a sheet of len bytes
 
@@ -67,10 +67,10 @@ module _ (b : List ℕ) (h : Header) (i len : ℕ) (r : Record) (l : start i ≤
   -- the sheet's bytes up to each place
   to-place : length (headerBytes h ++ x) ≡ start i
   unfolding x
-  to-place = omega (arith, length-append (headerBytes h) (part b 12 (start i)), header-length h, part-length b 12 (start i) (omega arith) (omega arith))
+  to-place = omega (arith, length-append (headerBytes h) (part b 12 (start i)), header-bytes-length h, part-length b 12 (start i) (omega arith) (omega arith))
 
   to-record : length (headerBytes h ++ x ++ recordBytes r) ≡ start i + 16
-  to-record = omega (arith, length-append (headerBytes h ++ x) (recordBytes r), to-place, record-length r)
+  to-record = omega (arith, length-append (headerBytes h ++ x) (recordBytes r), to-place, record-bytes-length r)
 
   to-end : length (headerBytes h ++ x ++ recordBytes r ++ y) ≡ len + 16
   unfolding y
@@ -88,15 +88,15 @@ module _ (b : List ℕ) (h : Header) (i len : ℕ) (r : Record) (l : start i ≤
 
   pub inserted-header : take 12 (inserting h i len r b) ≡ headerBytes h
   unfolding inserting
-  inserted-header = take-at (headerBytes h) (part b 12 (start i) ++ (recordBytes r ++ (part b (start i) len ++ drop (len + 16) b))) 12 (header-length h)
+  inserted-header = take-at (headerBytes h) (part b 12 (start i) ++ (recordBytes r ++ (part b (start i) len ++ drop (len + 16) b))) 12 (header-bytes-length h)
 
   -- the records before record i stand where they stood
   pub inserted-before : part (inserting h i len r b) 12 (start i) ≡ part b 12 (start i)
   unfolding inserting
-  inserted-before = part-of (headerBytes h) (part b 12 (start i)) _ 12 (start i) (header-length h) (omega (arith, part-length b 12 (start i) (omega arith) (omega arith)))
+  inserted-before = part-of (headerBytes h) (part b 12 (start i)) _ 12 (start i) (header-bytes-length h) (omega (arith, part-length b 12 (start i) (omega arith) (omega arith)))
 
   pub inserted-own : part (inserting h i len r b) (start i) (start i + 16) ≡ recordBytes r
-  inserted-own = ap (λ (s : List ℕ). part s (start i) (start i + 16)) in-two ∙ part-of (headerBytes h ++ x) (recordBytes r) (y ++ z) (start i) (start i + 16) to-place (omega (arith, record-length r))
+  inserted-own = ap (λ (s : List ℕ). part s (start i) (start i + 16)) in-two ∙ part-of (headerBytes h ++ x) (recordBytes r) (y ++ z) (start i) (start i + 16) to-place (omega (arith, record-bytes-length r))
 
   -- those from record i on stand sixteen bytes further
   pub inserted-moved : part (inserting h i len r b) (start i + 16) (len + 16) ≡ part b (start i) len
@@ -128,7 +128,7 @@ module _ (b : List ℕ) (h : Header) (i len : ℕ) (l : start i + 16 ≤ len) (m
 
   up-to-place : length (headerBytes h ++ v) ≡ start i
   unfolding v
-  up-to-place = omega (arith, length-append (headerBytes h) (part b 12 (start i)), header-length h, part-length b 12 (start i) (omega arith) (omega arith))
+  up-to-place = omega (arith, length-append (headerBytes h) (part b 12 (start i)), header-bytes-length h, part-length b 12 (start i) (omega arith) (omega arith))
 
   up-to-end : length (headerBytes h ++ v ++ w) ≡ len - 16
   unfolding w
@@ -150,12 +150,12 @@ module _ (b : List ℕ) (h : Header) (i len : ℕ) (l : start i + 16 ≤ len) (m
 
   pub removed-header : take 12 (removing h i len b) ≡ headerBytes h
   unfolding removing
-  removed-header = take-at (headerBytes h) (part b 12 (start i) ++ (part b (start i + 16) len ++ (replicate 16 0 ++ drop len b))) 12 (header-length h)
+  removed-header = take-at (headerBytes h) (part b 12 (start i) ++ (part b (start i + 16) len ++ (replicate 16 0 ++ drop len b))) 12 (header-bytes-length h)
 
   -- the records before record i stand where they stood
   pub removed-before : part (removing h i len b) 12 (start i) ≡ part b 12 (start i)
   unfolding removing
-  removed-before = part-of (headerBytes h) (part b 12 (start i)) _ 12 (start i) (header-length h) (omega (arith, part-length b 12 (start i) (omega arith) (omega arith)))
+  removed-before = part-of (headerBytes h) (part b 12 (start i)) _ 12 (start i) (header-bytes-length h) (omega (arith, part-length b 12 (start i) (omega arith) (omega arith)))
 
   -- those after it stand sixteen bytes nearer
   pub removed-moved : part (removing h i len b) (start i) (len - 16) ≡ part b (start i + 16) len

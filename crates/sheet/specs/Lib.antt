@@ -18,3 +18,4 @@ pub mod RecordBack
 pub mod FirstNamed
 pub mod Only
 pub mod FirstByte
+pub mod OwnBytes

@@ -18,10 +18,10 @@ use Rattle.checker.specs.Check.{_then_, demand, Sheet, sheetIn}
 use Rattle.checker.specs.CheckLaws.{then-given}
 use Rattle.checker.specs.Bounds.{Refusable, sheet-told}
 use Rattle.checker.specs.Unjudged.{room, soundSheet}
-use Rattle.edit.specs.Keyed.{placeOf, hasOf}
+use Rattle.keyed.specs.Keyed.{placeOf, hasOf}
 use Rattle.edit.specs.Edit.{sheetAt, headerOf, idOf, counting, replacing, inserting, After, hasRoom, placing, putIn, putNumbersIn, removeIn, sizeBy}
 use Rattle.edit.specs.Taken.{taken-at}
-use Rattle.edit.specs.Outcomes.{put-sheet, remove-sheet}
+use Rattle.edit.specs.Done.{Put, replaces, inserts, put-done, remove-done}
 use Rattle.yard.specs.PackedLaws.{EditRow, Resized}
 use Rattle.yard.specs.Answers.{record-numbers-most}
 
@@ -113,7 +113,7 @@ module _ (b : List ℕ) (len : ℕ) where
 
 -- ---- lengths
 
--- what an edit leaves is a sheet, and none is longer than one of 400 records
+-- no sheet is longer than one of 400 records, and an edit that is done leaves one
 sheet-most : (b : List ℕ) (len : ℕ) (t : Sheet) → sheetAt b len ≡ given t → len ≤ 6412
 sheet-most b len t e = let k = taken-at b len t e in omega (arith, k .whole, k .few)
 
@@ -121,7 +121,11 @@ put-most : (b : List ℕ) (len : ℕ) (r : Record) (a : After) → putIn b len r
 unfolding putIn
 put-most b len r a e =
     let s = then-given (sheetAt b len) _ a e in
-    sheet-most (a .bytes) (a .size) _ (put-sheet b len (s .0) (s .1) r a e)
+    go (s .0) (s .1) (put-done b len (s .0) (s .1) r a e .1)
+  where
+    go : (t : Sheet) → sheetAt b len ≡ given t → Put b len t r a → a .size ≤ 6412
+    go t f (replaces has g) = omega (arith, sheet-most b len t f, ap (λ (x : After). x .size) g)
+    go t f (inserts new fits few g) = omega (arith, taken-at b len t f .whole, few, ap (λ (x : After). x .size) g)
 
 numbers-most : (b : List ℕ) (len : ℕ) (ns : List ℕ) (a : After) → putNumbersIn b len ns ≡ given a → a .size ≤ 6412
 unfolding putNumbersIn
@@ -134,7 +138,7 @@ remove-most : (b : List ℕ) (len id : ℕ) (a : After) → removeIn b len id �
 unfolding removeIn
 remove-most b len id a e =
     let s = then-given (sheetAt b len) _ a e in
-    sheet-most (a .bytes) (a .size) _ (remove-sheet b len (s .0) (s .1) id a e)
+    omega (arith, sheet-most b len (s .0) (s .1), ap (λ (x : After). x .size) (remove-done b len (s .0) (s .1) id a e .after))
 
 -- ---- both
 

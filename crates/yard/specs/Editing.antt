@@ -1,8 +1,7 @@
 -- An edit of a sheet in a lent buffer, as it crosses to C.
 use mathlib.Core.Path.{_≡_}
 use mathlib.Core.List.{List}
-use Prim.Native.Nat.{ℕ, _<_}
-use Rattle.sheet.specs.Lines.{ids}
+use Prim.Native.Nat.{ℕ}
 use Rattle.sheet.specs.Refusals.{Answer}
 use Rattle.edit.specs.Edit.{After, sizeBy, bytesBy}
 use Rattle.yard.specs.Packed.{packedBy}
@@ -10,11 +9,6 @@ use Rattle.yard.specs.Packed.{packedBy}
 -- an edit that is not refused: the sheet's new length
 abbrev pub resized : Answer ℕ → ℕ
 resized a = packedBy (λ n. n) a
-
--- an id that is removed as another is: the same, or neither is one that a record may have; the promise of `yard_remove` does not rest on it
-pub data Alike (id : ℕ) : ℕ → Type 0 where
-  same : Alike id id
-  absent : {other : ℕ} → ids .high < id → ids .high < other → Alike id other
 
 -- What an edit promises: the answer, and every byte of the buffer as it returns.
 pub record Edits (a : Answer After) (before : List ℕ) (r : ℕ) (after : List ℕ) : Type 0 where

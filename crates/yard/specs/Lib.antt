@@ -6,5 +6,4 @@ pub mod PackedLaws
 pub mod Only
 pub mod Back
 pub mod Answers
-pub mod Absent
 pub mod EditAnswers

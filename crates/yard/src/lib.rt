@@ -17,7 +17,7 @@ ghost use Rattle.sheet.specs.Record.{readRecord};
 ghost use Rattle.yard.specs.Packed.{packed, fine, Checks, Reads, Wrote};
 ghost use Rattle.yard.specs.Writing.{writeHeaderNumbers, writeRecordNumbers};
 ghost use Rattle.yard.specs.Fields.{entryNumbers, numbered};
-ghost use Rattle.yard.specs.Editing.{resized, Alike, Edits};
+ghost use Rattle.yard.specs.Editing.{resized, Edits};
 ghost use Rattle.edit.specs.Edit.{putNumbersIn, removeIn, toldEdited};
 ghost use Rattle.numbers.specs.Fields.{headerNumbers, recordNumbers};
 
@@ -153,16 +153,9 @@ pub extern "C" fn yard_put(buf: &mut [u8], len: usize, fields: &[u32; 13]) -> u6
     packed_edited(edit::put_numbers(buf, len, *fields))
 }
 
-// An id as the sixteen bits that an edit takes. One above them is in no sheet, and neither is their highest, so that it is not cut to an id that may be.
-fn held_id(id: u32) -> u16
-    ensures { λ r. ⌜ Alike id r ⌝ }
-{
-    if id < 65535 { id as u16 } else { 65535 }
-}
-
 #[no_mangle]
 pub extern "C" fn yard_remove(buf: &mut [u8], len: usize, id: u32) -> u64
     ensures { λ r. ⌜ Edits (removeIn (now (buf .entry)) len id) (now (buf .entry)) r (now (buf .exit)) ⌝ }
 {
-    packed_edited(edit::remove(buf, len, held_id(id)))
+    packed_edited(edit::remove(buf, len, id))
 }

@@ -1,7 +1,6 @@
 -- `edit::insert` meets its contract.
 -- Assumes nothing.
 use borrow.Author.Needs.{needs}
-use native.Mathlib.Omega.{arith}
 use denote.Ref.{now}
 use Rattle.edit.proofs.Bytes.{inserted}
 use Rattle.edit.proofs.insert.Statement.{statement}

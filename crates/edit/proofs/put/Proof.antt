@@ -1,13 +1,12 @@
 -- `edit::put` meets its contract.
 -- Assumes nothing.
 use borrow.Author.Needs.{needs}
-use mathlib.Core.Path.{_≡_, sym, ap, _∙_}
+use mathlib.Core.Path.{sym, ap, _∙_}
 use denote.Ref.{now}
 use Rattle.sheet.specs.Refusals.{given, toldHeader, toldOutcome}
 use Rattle.sheet.specs.RefusalLaws.{by-none}
 use Rattle.sheet.specs.Record.{recordFault}
 use Prim.Native.Nat.{_+_, _*_}
-use Rattle.edit.specs.Edit.{headerOf}
 use Rattle.edit.specs.Steps.{Known}
 use Rattle.edit.proofs.Answers.{known, put-refused, record-refused}
 use Rattle.edit.proofs.put.Statement.{statement}

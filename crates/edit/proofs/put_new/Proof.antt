@@ -1,7 +1,7 @@
 -- `edit::put_new` meets its contract.
 -- Assumes nothing.
 use borrow.Author.Needs.{needs}
-use mathlib.Core.Path.{_≡_, refl, sym, ap, _∙_}
+use mathlib.Core.Path.{_≡_, sym, ap, _∙_}
 use Prim.Native.Nat.{_+_, _≤_, _<_}
 use native.Mathlib.Omega.{arith}
 use denote.Ref.{now}
@@ -11,7 +11,6 @@ use Rattle.sheet.specs.Refusals.{given, toldOutcome, headerRefused}
 use Rattle.sheet.specs.Header.{headerFault}
 use Rattle.sheet.specs.Lines.{counts}
 use Rattle.edit.specs.Edit.{start, counting, inserting}
-use Rattle.edit.specs.Steps.{Fits}
 use Rattle.edit.proofs.Answers.{no-room, room-for-one, at-highest, below-highest, size, its-header, place-most, put-full, put-inserted}
 use Rattle.edit.proofs.put_new.Statement.{statement}
 use Rattle.edit.proofs.put_new.Tie as tie

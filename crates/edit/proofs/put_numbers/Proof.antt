@@ -1,9 +1,7 @@
 -- `edit::put_numbers` meets its contract.
 -- Assumes nothing.
 use borrow.Author.Needs.{needs}
-use mathlib.Core.Path.{_≡_, sym, ap, subst, _∙_}
-use mathlib.Core.List.{List}
-use Prim.Native.Nat.{ℕ}
+use mathlib.Core.Path.{sym, ap, subst, _∙_}
 use denote.Ref.{now}
 use Rattle.sheet.specs.Refusals.{Answer, toldHeader, toldRecord}
 use Rattle.edit.specs.Edit.{After, Edits}

@@ -1,7 +1,7 @@
 -- `edit::remove` meets its contract.
 -- Assumes nothing.
 use borrow.Author.Needs.{needs}
-use mathlib.Core.Path.{_≡_, sym, ap, _∙_}
+use mathlib.Core.Path.{sym, ap, _∙_}
 use denote.Ref.{now}
 use Rattle.sheet.specs.Refusals.{toldHeader}
 use Rattle.edit.proofs.Answers.{known, remove-refused}

@@ -1,11 +1,10 @@
 -- `edit::sheet_at` meets its contract.
 -- Assumes nothing.
 use borrow.Author.Needs.{needs}
-use mathlib.Core.Path.{_≡_, _∙_}
-use Prim.Native.Nat.{_≤_}
+use mathlib.Core.Path.{_∙_}
 use native.Mathlib.Omega.{arith}
 use denote.Ref.{now}
-use lib.ListN.{length, length-take}
+use lib.ListN.{length-take}
 use Rattle.edit.proofs.Answers.{over-buffer, within-buffer}
 use Rattle.edit.proofs.sheet_at.Statement.{statement}
 use Rattle.edit.proofs.sheet_at.Tie as tie

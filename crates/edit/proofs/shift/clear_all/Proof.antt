@@ -1,11 +1,11 @@
 -- `edit::shift::clear_all` meets its contract. At the loop's head the bytes below i are zero.
 -- Assumes nothing.
 use borrow.Author.Needs.{needs}
-use mathlib.Core.Path.{_≡_, refl, sym, ap, _∙_}
+use mathlib.Core.Path.{_≡_, refl, _∙_}
 use mathlib.Core.List.{_++_}
 use Prim.Native.Nat.{_+_, _-_, _≤_}
 use native.Mathlib.Omega.{arith}
-use lib.ListN.{length, take, drop, set, getD, length-set}
+use lib.ListN.{length, take, drop, length-set}
 use denote.Ref.{now}
 use Rattle.edit.proofs.Shifts.{zeros, clear-turn, clear-done}
 use Rattle.edit.proofs.shift.clear_all.Statement.{statement}

@@ -1,12 +1,10 @@
 -- `edit::shift::open` meets its contract. At the loop's head the bytes from k on have moved.
 -- Assumes nothing.
 use borrow.Author.Needs.{needs}
-use mathlib.Core.Path.{_≡_, refl, sym, ap, _∙_}
-use mathlib.Core.List.{_++_}
-use Prim.Native.Nat.{_+_, _-_, _≤_}
+use mathlib.Core.Path.{_≡_, refl}
+use Prim.Native.Nat.{_-_, _≤_}
 use native.Mathlib.Omega.{arith}
-use lib.ListN.{length, take, drop, set, getD, length-set}
-use denote.Ref.{now}
+use lib.ListN.{length, length-set}
 use Rattle.edit.specs.Steps.{opened}
 use Rattle.edit.proofs.Shifts.{open-none, open-turn}
 use Rattle.edit.proofs.shift.open.Statement.{statement}

@@ -1,0 +1,285 @@
+-- When an edit is turned away: each refusal is given exactly when its case holds and none before it does.
+-- Assumes nothing.
+use Prim.Native.Nat.{ℕ, _+_, _*_, _≤_, _<_}
+use mathlib.Core.Path.{_≡_, refl, sym, ap, ap₂, _∙_}
+use mathlib.Core.Bool.{Bool, true, false, cond, _&&_}
+use mathlib.Core.List.{List, [], _∷_}
+use native.Mathlib.Omega.{arith}
+use native.Mathlib.Decide.{decLt, ℕ-discrete}
+use lib.ListN.{length, take}
+use lib.Seq.{length-take-le}
+use lib.Dec.{leb, ltb, eqb}
+use borrow.Author.Tests.{le-leb, lt-leb, le-ltb, leb-false, ltb-false}
+use Rattle.layout.specs.Line.{Allowed}
+use Rattle.sheet.specs.declared.Header.{Header}
+use Rattle.sheet.specs.declared.Record.{Record}
+use Rattle.sheet.specs.Lines.{counts}
+use Rattle.sheet.specs.Refusals.{Answer, given, refused, recordRefused}
+use Rattle.sheet.specs.RefusalLaws.{given-refused, refused-number, refused-place}
+use Rattle.sheet.specs.Header.{readHeader}
+use Rattle.sheet.specs.HeaderLaws.{header-ranges}
+use Rattle.sheet.specs.HeaderBack.{header-read-fine}
+use Rattle.sheet.specs.HeaderExactly.{header-read-1, header-read-others}
+use Rattle.sheet.specs.Record.{recordFault, readRecord}
+use Rattle.sheet.specs.Exactly.{Exactly}
+use Rattle.sheet.specs.RecordExactly.{linesOf, valuesOf, record-read-1, record-read-others, record-fault-6, record-fault-7, record-fault-given, record-fault-others}
+use Rattle.checker.specs.Check.{_then_, demand, headerFor, partsFrom, soundAfter, recordsIn, Sheet, sheetIn}
+use Rattle.checker.specs.CheckLaws.{header-fits}
+use Rattle.checker.specs.Unjudged.{room, soundSheet}
+use Rattle.keyed.specs.Keyed.{hasOf}
+use Rattle.keyed.specs.Places.{has-present, present-has}
+use Rattle.edit.specs.Edit.{sheetAt, idOf, After, hasRoom, placing, putIn, removeIn}
+use Rattle.edit.specs.Parts.{Wide, parts-wide}
+use Rattle.edit.specs.Taken.{taken-at}
+use Rattle.revisions.specs.Rows.{SheetRow, over, own, Full, buffer, count, PutRow, sheet, kind, field, no-room, RemoveRow, absent, Short, over-buffer, under-header}
+
+-- ---- the sheet's own
+
+pub sheet-row : (b : List ℕ) (len k p : ℕ) → Exactly (sheetAt b len ≡ refused k p) (SheetRow b len k p)
+unfolding sheetAt _then_ demand
+sheet-row b len k p = (forth (decLt (length b) len), back)
+  where
+    forth : Dec (length b < len) → sheetAt b len ≡ refused k p → SheetRow b len k p
+    forth (yes l) e =
+        let f : refused 1 0 ≡ refused k p = rw (lt-leb len (length b) l) at e in
+        over l (sym (refused-number f)) (sym (refused-place f))
+    forth (no l) e =
+        let m : len ≤ length b = omega arith in
+        own m (rw (le-leb len (length b) m) at e)
+
+    back : SheetRow b len k p → sheetAt b len ≡ refused k p
+    back (over l f g) = rw (lt-leb len (length b) l) (ap₂ refused (sym f) (sym g))
+    back (own l e) = rw (le-leb len (length b) l) e
+
+-- ---- a put
+
+-- the same refusal of something else
+pub refused-as : {A B : Type 0} {l q k p : ℕ} → _≡_ {A = Answer A} (refused l q) (refused k p) → _≡_ {A = Answer B} (refused l q) (refused k p)
+refused-as e = ap₂ refused (refused-number e) (refused-place e)
+
+never : (x : Bool) → x ≡ true → x ≡ false → ⊥
+never true e f = absurd (let z : _≡_ {A = ℕ} 0 1 = cc in omega arith)
+never false e f = absurd (let z : _≡_ {A = ℕ} 0 1 = cc in omega arith)
+
+room-full : (n len size : ℕ) → Exactly (hasRoom n len size ≡ false) (Full n len size)
+room-full n len size = (forth (decLt size (len + 16)), back)
+  where
+    forth : Dec (size < len + 16) → hasRoom n len size ≡ false → Full n len size
+    forth (yes l) e = buffer l
+    forth (no l) e =
+        let m : len + 16 ≤ size = omega arith in
+        let f : ltb n (counts .high) ≡ false = rw (le-leb (len + 16) size m) at e in
+        count (ltb-false n (counts .high) f)
+
+    back : Full n len size → hasRoom n len size ≡ false
+    back (buffer l) = rw (lt-leb (len + 16) size l)
+    back (count m) = go (leb (len + 16) size)
+      where
+        go : (x : Bool) → (x && ltb n (counts .high)) ≡ false
+        go true = le-ltb n (counts .high) m
+        go false = refl
+
+module _ (b : List ℕ) (len : ℕ) (r : Record) (k p : ℕ) where
+  -- by the answer to the new record alone
+  abbrev tested : ℕ → Answer (Unit {0})
+  tested n = recordRefused n (recordFault r 0) (given (tt {0}))
+
+  put-refused : (l q : ℕ) → sheetAt b len ≡ refused l q → putIn b len r ≡ refused l q
+  unfolding putIn _then_
+  put-refused l q e = rw e
+
+  put-given : (t : Sheet) → sheetAt b len ≡ given t → putIn b len r ≡ (tested (t .header .count) then λ u. placing t b len r)
+  unfolding putIn _then_
+  put-given t e = rw e
+
+  module _ (t : Sheet) (found : sheetAt b len ≡ given t) where
+    abbrev n : ℕ
+    n = t .header .count
+
+    at-record : tested n ≡ refused k p → PutRow b len r k p
+    at-record e = go (ℕ-discrete k 6) (ℕ-discrete k 7)
+      where
+        go : Dec (k ≡ 6) → Dec (k ≡ 7) → PutRow b len r k p
+        go (yes f) y = let d = record-fault-6 r n p .0 (e ∙ ap (λ (j : ℕ). refused j p) f) in kind t found (d .0) f (d .1)
+        go (no x) (yes f) = field t found (record-fault-7 r n p .0 (e ∙ ap (λ (j : ℕ). refused j p) f)) f
+        go (no x) (no y) = absurd (record-fault-others r n k p x y e)
+
+    at-place : Allowed (linesOf r) (valuesOf r) → placing t b len r ≡ refused k p → PutRow b len r k p
+    unfolding placing _then_ demand
+    at-place a e = go (hasOf idOf (r .id) (t .records)) refl (hasRoom n len (length b)) refl _ _ e
+      where
+        go : (has : Bool) → hasOf idOf (r .id) (t .records) ≡ has → (fits : Bool) → hasRoom n len (length b) ≡ fits
+            → (x y : After) → cond has (given x) (cond fits (given (tt {0})) (refused 11 0) then λ u. given y) ≡ refused k p → PutRow b len r k p
+        go true f fits g x y h = given-refused h
+        go false f true g x y h = given-refused h
+        go false f false g x y h =
+            no-room t found a (λ q. never (hasOf idOf (r .id) (t .records)) (present-has idOf (r .id) 0 (t .records) (taken-at b len t found .order) q) f)
+            (room-full n len (length b) .0 g)
+            (sym (refused-number h))
+            (sym (refused-place h))
+
+  forth : putIn b len r ≡ refused k p → PutRow b len r k p
+  unfolding _then_
+  forth e = go (sheetAt b len) refl
+    where
+      record-first : (t : Sheet) → sheetAt b len ≡ given t → (x : Answer (Unit {0})) → tested (t .header .count) ≡ x → (x then λ u. placing t b len r) ≡ refused k p → PutRow b len r k p
+      record-first t f (refused l q) g h = at-record t f (g ∙ refused-as h)
+      record-first t f (given u) g h = at-place t f (record-fault-given r (t .header .count) .0 g) h
+
+      go : (x : Answer Sheet) → sheetAt b len ≡ x → PutRow b len r k p
+      go (refused l q) f = sheet (sheet-row b len k p .0 (f ∙ refused-as (sym (put-refused l q f) ∙ e)))
+      go (given t) f = record-first t f (tested (t .header .count)) refl (sym (put-given t f) ∙ e)
+
+  back : PutRow b len r k p → putIn b len r ≡ refused k p
+  unfolding placing _then_ demand
+  back (sheet s) = put-refused k p (sheet-row b len k p .1 s)
+  back (kind t f e c d) = put-given t f ∙ ap (λ (x : Answer (Unit {0})). x then λ u. placing t b len r) (record-fault-6 r (t .header .count) p .1 (e, d)) ∙ ap (λ (j : ℕ). refused j p) (sym c)
+  back (field t f e c) = put-given t f ∙ ap (λ (x : Answer (Unit {0})). x then λ u. placing t b len r) (record-fault-7 r (t .header .count) p .1 e) ∙ ap (λ (j : ℕ). refused j p) (sym c)
+  back (no-room t f a n l c d) =
+      let sound = record-fault-given r (t .header .count) .1 a in
+      let new : hasOf idOf (r .id) (t .records) ≡ false = absent-has (hasOf idOf (r .id) (t .records)) refl in
+      put-given t f
+      ∙ ap (λ (x : Answer (Unit {0})). x then λ u. placing t b len r) sound
+      ∙ rw (new, room-full (t .header .count) len (length b) .1 l) (ap₂ refused (sym c) (sym d))
+    where
+      absent-has : (x : Bool) → hasOf idOf (r .id) (t .records) ≡ x → hasOf idOf (r .id) (t .records) ≡ false
+      absent-has true e = absurd (n (has-present idOf (r .id) (t .records) e))
+      absent-has false e = e
+
+  -- refusal k with place p, exactly when that row holds
+  pub put-refused-exactly : Exactly (putIn b len r ≡ refused k p) (PutRow b len r k p)
+  put-refused-exactly = (forth, back)
+
+-- ---- what is not given
+
+-- an answer that is not refusal m
+abbrev Not : {A : Type 0} → ℕ → Answer A → Type 0
+Not m x = (p : ℕ) → x ≡ refused m p → ⊥
+
+then-not : {A B : Type 0} (m : ℕ) (x : Answer A) (next : A → Answer B) → Not m x → ((a : A) → x ≡ given a → Not m (next a)) → Not m (x then next)
+unfolding _then_
+then-not m (given a) next f g = g a refl
+then-not m (refused k q) next f g = λ p e. f p (refused-as e)
+
+demand-not : (m : ℕ) (t : Bool) (k : ℕ) → (t ≡ false → k ≡ m → ⊥) → Not m (demand t k)
+unfolding demand
+demand-not m true k n p e = given-refused e
+demand-not m false k n p e = n refl (refused-number e)
+
+-- a number that no record of sixteen bytes is refused with
+records-not : (m : ℕ) → (m ≡ 8 → ⊥) → ((i : ℕ) (b : List ℕ) → 16 ≤ length b → Not m (readRecord i b)) → (i before : ℕ) (ps : List (List ℕ)) → Wide ps → Not m (recordsIn i before ps)
+unfolding recordsIn soundAfter
+records-not m n f i before [] w = λ p e. given-refused e
+records-not m n f i before (b ∷ ps) w =
+    then-not m (soundAfter i before b) _
+    (then-not m (readRecord i b) _ (f i b (omega (arith, w .0))) (λ r e. in-order r (ltb before (r .id))))
+    (λ r e. then-not m (recordsIn (i + 1) (r .id) ps) _ (records-not m n f (i + 1) (r .id) ps (w .1)) (λ rs g p h. given-refused h))
+  where
+    in-order : (r : Record) (t : Bool) → Not m (cond t (given r) (refused 8 i))
+    in-order r true p e = given-refused e
+    in-order r false p e = n (sym (refused-number e))
+
+-- nor a sheet whose header is not
+sheet-not : (m : ℕ) (s : List ℕ) → (m ≡ 8 → ⊥) → ((i : ℕ) (b : List ℕ) → 16 ≤ length b → Not m (readRecord i b)) → Not m (headerFor s room) → Not m (soundSheet s)
+unfolding soundSheet sheetIn
+sheet-not m s n f g =
+    then-not m (headerFor s room) _ g
+    (λ h e. then-not m (recordsIn 0 0 (partsFrom s 0 (h .count))) _
+    (records-not m n f 0 0 (partsFrom s 0 (h .count)) (parts-wide s 0 (h .count) (omega (arith, header-fits s room h e .whole)))) (λ rs u p v. given-refused v))
+
+header-not : (m : ℕ) (s : List ℕ) → (m ≡ 4 → ⊥) → Not m (readHeader s) → ((h : Header) → readHeader s ≡ given h → leb (4 * h .count) room ≡ false → m ≡ 5 → ⊥) → Not m (headerFor s room)
+unfolding headerFor
+header-not m s n f g =
+    then-not m (readHeader s) _ f
+    (λ h e. then-not m (demand (eqb (length s) (12 + 16 * h .count)) 4) _ (demand-not m _ 4 (λ x z. n (sym z)))
+    (λ u w. then-not m (demand (leb (4 * h .count) room) 5) _ (demand-not m _ 5 (λ x z. g h e x (sym z))) (λ v y p q. given-refused q)))
+
+-- a sheet of twelve bytes or more is not refused with 1
+long-not : (s : List ℕ) → 12 ≤ length s → Not 1 (soundSheet s)
+long-not s l =
+    sheet-not 1 s (λ z. omega arith) (λ i b m p e. omega (arith, record-read-1 i b p .0 e .0)) (header-not 1 s (λ z. omega arith) (λ p e. omega (arith, header-read-1 s p .0 e .0)) (λ h e x z. omega arith))
+
+-- and 5 is never given: the table's own is taken without it
+pub never-5 : (s : List ℕ) → Not 5 (soundSheet s)
+never-5 s =
+    sheet-not 5 s (λ z. omega arith) (λ i b m p. record-read-others i b 5 p (λ z. omega arith) (λ z. omega arith) (λ z. omega arith))
+    (header-not 5 s (λ z. omega arith) (λ p. header-read-others s 5 p (λ z. omega arith) (λ z. omega arith) (λ z. omega arith))
+    (λ h e x z. omega (arith, leb-false (4 * h .count) room x, header-ranges h 0 (header-read-fine s h e) .count-high)))
+
+-- ---- 1
+
+under : (s : List ℕ) → length s < 12 → soundSheet s ≡ refused 1 0
+unfolding soundSheet sheetIn headerFor _then_
+under s l = rw (header-read-1 s 0 .1 (l, refl))
+
+one-row : (b : List ℕ) (len p : ℕ) → Exactly (SheetRow b len 1 p) (Short b len × (p ≡ 0))
+one-row b len p = (from-row, λ h. to-row (h .0) (h .1))
+  where
+    short : len ≤ length b → len < 12 → soundSheet (take len b) ≡ refused 1 0
+    short l m = under (take len b) (omega (arith, length-take-le len b l))
+
+    by-length : Dec (len < 12) → len ≤ length b → soundSheet (take len b) ≡ refused 1 p → Short b len × (p ≡ 0)
+    by-length (yes m) l e = (under-header m, sym (refused-place (sym (short l m) ∙ e)))
+    by-length (no m) l e = absurd (long-not (take len b) (omega (arith, length-take-le len b l)) p e)
+
+    from-row : SheetRow b len 1 p → Short b len × (p ≡ 0)
+    from-row (over l c d) = (over-buffer l, d)
+    from-row (own l e) = by-length (decLt len 12) l e
+
+    to-row : Short b len → p ≡ 0 → SheetRow b len 1 p
+    to-row (over-buffer l) d = over l refl d
+    to-row (under-header m) d = go (decLt (length b) len)
+      where
+        go : Dec (length b < len) → SheetRow b len 1 p
+        go (yes l) = over l refl d
+        go (no l) = let n : len ≤ length b = omega arith in own n (short n m ∙ ap (refused 1) (sym d))
+
+-- 1 exactly when the stated length is over the buffer or under the header, for a put and for a removal
+pub put-1 : (b : List ℕ) (len : ℕ) (r : Record) (p : ℕ) → Exactly (putIn b len r ≡ refused 1 p) (Short b len × (p ≡ 0))
+put-1 b len r p = (λ e. by-row (put-refused-exactly b len r 1 p .0 e), λ h. put-refused-exactly b len r 1 p .1 (sheet (one-row b len p .1 h)))
+  where
+    by-row : PutRow b len r 1 p → Short b len × (p ≡ 0)
+    by-row (sheet s) = one-row b len p .0 s
+    by-row (kind t f e c d) = absurd (omega arith)
+    by-row (field t f e c) = absurd (omega arith)
+    by-row (no-room t f a n l c d) = absurd (omega arith)
+
+-- ---- a removal
+
+module _ (b : List ℕ) (len id k p : ℕ) where
+  remove-refused : (l q : ℕ) → sheetAt b len ≡ refused l q → removeIn b len id ≡ refused l q
+  unfolding removeIn _then_
+  remove-refused l q e = rw e
+
+  there-forth : removeIn b len id ≡ refused k p → RemoveRow b len id k p
+  unfolding removeIn _then_ demand
+  there-forth e = go (sheetAt b len) refl e
+    where
+      by-id : (t : Sheet) → sheetAt b len ≡ given t → (has : Bool) → hasOf idOf id (t .records) ≡ has → (x : After) → (cond has (given (tt {0})) (refused 10 0) then λ u. given x) ≡ refused k p
+          → RemoveRow b len id k p
+      by-id t f true g x h = given-refused h
+      by-id t f false g x h =
+          absent t f (λ q. never (hasOf idOf id (t .records)) (present-has idOf id 0 (t .records) (taken-at b len t f .order) q) g) (sym (refused-number h)) (sym (refused-place h))
+
+      go : (x : Answer Sheet) → sheetAt b len ≡ x → removeIn b len id ≡ refused k p → RemoveRow b len id k p
+      go (refused l q) f g = sheet (sheet-row b len k p .0 (f ∙ refused-as (sym (remove-refused l q f) ∙ g)))
+      go (given t) f g = by-id t f (hasOf idOf id (t .records)) refl _ (rw f at g)
+
+  there-back : RemoveRow b len id k p → removeIn b len id ≡ refused k p
+  unfolding removeIn _then_ demand
+  there-back (sheet s) = remove-refused k p (sheet-row b len k p .1 s)
+  there-back (absent t f n c d) = rw (f, new (hasOf idOf id (t .records)) refl) (ap₂ refused (sym c) (sym d))
+    where
+      new : (x : Bool) → hasOf idOf id (t .records) ≡ x → hasOf idOf id (t .records) ≡ false
+      new true e = absurd (n (has-present idOf id (t .records) e))
+      new false e = e
+
+  pub remove-refused-exactly : Exactly (removeIn b len id ≡ refused k p) (RemoveRow b len id k p)
+  remove-refused-exactly = (there-forth, there-back)
+
+pub remove-1 : (b : List ℕ) (len id p : ℕ) → Exactly (removeIn b len id ≡ refused 1 p) (Short b len × (p ≡ 0))
+remove-1 b len id p = (λ e. by-row (remove-refused-exactly b len id 1 p .0 e), λ h. remove-refused-exactly b len id 1 p .1 (sheet (one-row b len p .1 h)))
+  where
+    by-row : RemoveRow b len id 1 p → Short b len × (p ≡ 0)
+    by-row (sheet s) = one-row b len p .0 s
+    by-row (absent t f n c d) = absurd (omega arith)
