@@ -5,3 +5,4 @@ pub mod Taken
 pub mod HeaderCount
 pub mod Done
 pub mod Only
+pub mod Within

@@ -1,8 +1,8 @@
 pub mod Text
 pub mod TextLaws
 pub mod Page
-pub mod PageLaws
 pub mod Pieces
+pub mod PageLaws
 pub mod PiecesLaws
 pub mod Longest
 pub mod Reading

@@ -6,7 +6,6 @@ use mathlib.Core.List.{List, [], _∷_, _++_, map}
 use native.Mathlib.Omega.{arith}
 use lib.ListN.{length, take, drop, length-append}
 use lib.Seq.{take-take}
-use borrow.Author.Tests.{le-leb}
 use Rattle.sheet.specs.declared.Header.{Header}
 use Rattle.sheet.specs.declared.Record.{Record}
 use Rattle.sheet.specs.Refusals.{Answer, given, refused}
@@ -19,9 +18,9 @@ use Rattle.checker.specs.Longer.{enough, sheet-cut}
 use Rattle.checker.specs.Bounds.{Refusable, sheet-told, sheet-counts}
 use Rattle.report.specs.Text.{entryNumbers, linesOf, printed, line, linesText, refusedWord, textBy, textOf}
 use Rattle.report.specs.TextLaws.{pair-most, entry-most, lines-last}
-use Rattle.decimal.specs.Put.{putOn}
 use Rattle.report.specs.declared.Told.{Told}
-use Rattle.report.specs.Page.{longest, toldLength, lengthIn, Tells}
+use Rattle.report.specs.Page.{longest, toldLength, Tells}
+use Rattle.report.specs.PageLaws.{told-all}
 
 -- ---- the longest
 
@@ -62,11 +61,8 @@ text-most s = go (sheetIn s room) refl (sheet-told s room)
         omega (arith, length-append refusedWord (line (k ∷ p ∷ [])), most)
 
 -- so that a slice as long as a page is never too short
-pub told-all : (s o : List ℕ) (r : Told) (after : List ℕ) → longest ≤ length o → Tells s o r after → (toldLength r ≡ given (length (textOf s))) × (after ≡ textOf s ++ drop (length (textOf s)) o)
-unfolding lengthIn putOn
-told-all s o r after l t =
-    let fits = le-leb (length (textOf s)) (length o) (omega (arith, text-most s)) in
-    (t .answer ∙ rw fits, t .bytes ∙ rw fits)
+pub answer-told : (s o : List ℕ) (r : Told) (after : List ℕ) → longest ≤ length o → Tells (textOf s) o r after → (toldLength r ≡ given (length (textOf s))) × (after ≡ textOf s ++ drop (length (textOf s)) o)
+answer-told s o r after l t = told-all (textOf s) o r after (omega (arith, text-most s)) t
 
 -- ---- the sheet's length
 

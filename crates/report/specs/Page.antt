@@ -34,7 +34,7 @@ toldLength (notTold r) = told r
 unfoldable pub lengthIn : (text o : List ℕ) → Answer ℕ
 lengthIn text o = cond (leb (length text) (length o)) (given (length text)) (refused 5 0)
 
--- the length is told, and the text stands in front of what stood there; a refusal leaves every byte
-pub record Tells (s o : List ℕ) (r : Told) (after : List ℕ) : Type 0 where
-  pub answer : toldLength r ≡ lengthIn (textOf s) o
-  pub bytes : after ≡ putOn (textOf s) o
+-- the length of a text is told, and it stands in front of what stood there; a refusal leaves every byte
+pub record Tells (text o : List ℕ) (r : Told) (after : List ℕ) : Type 0 where
+  pub answer : toldLength r ≡ lengthIn text o
+  pub bytes : after ≡ putOn text o

@@ -8,9 +8,10 @@ use lib.ListN.{length, take, drop, length-append}
 use lib.Seq.{take-at}
 use borrow.Author.Tests.{le-leb, lt-leb}
 use Rattle.decimal.specs.Put.{putOn}
-use Rattle.decimal.specs.PutLaws.{put-none}
+use Rattle.decimal.specs.PutLaws.{put-none, bytes-all}
 use Rattle.decimal.specs.Laid.{Laid}
 use Rattle.decimal.specs.LaidLaws.{laid-front}
+use Rattle.sheet.specs.declared.Refusal.{Refusal}
 use Rattle.sheet.specs.Refusals.{Answer, given, refused}
 use Rattle.sheet.specs.RefusalLaws.{refusal-only, given-refused, given-same, refused-number, refused-place}
 use Rattle.report.specs.declared.Page.{Page}
@@ -18,6 +19,7 @@ use Rattle.report.specs.declared.Told.{Told}
 use Rattle.report.specs.declared.Told.the-variants.{Length, Refused as notTold}
 use Rattle.report.specs.Text.{textOf}
 use Rattle.report.specs.Page.{longest, blank, Pages, toldLength, lengthIn, Tells}
+use Rattle.report.specs.Pieces.{refusalText, TellsRefusal}
 
 -- ---- a page
 
@@ -51,15 +53,25 @@ page-only s p q f g = ap₂ {C = Page} (λ b l. record { bytes = b; len = l }) (
 
 -- ---- a slice
 
--- it is too short
-pub tells-none : (s o : List ℕ) (r : Told) → length o < length (textOf s) → toldLength r ≡ refused 5 0 → Tells s o r o
-unfolding lengthIn
-tells-none s o r l e = record { answer = e ∙ rw (lt-leb _ _ l); bytes = put-none (textOf s) o l .bytes }
+module _ (text o : List ℕ) where
+  -- it is too short
+  pub tells-none : (r : Told) → length o < length text → toldLength r ≡ refused 5 0 → Tells text o r o
+  unfolding lengthIn
+  tells-none r l e = record { answer = e ∙ rw (lt-leb _ _ l); bytes = put-none text o l .bytes }
 
--- or not
-pub tells-all : (s o : List ℕ) (n : ℕ) (after : List ℕ) → length (textOf s) ≤ length o → n ≡ length (textOf s) → after ≡ putOn (textOf s) o → Tells s o (Length n) after
-unfolding lengthIn
-tells-all s o n after l e f = record { answer = ap given e ∙ rw (le-leb _ _ l); bytes = f }
+  -- or not
+  pub tells-all : (n : ℕ) (after : List ℕ) → length text ≤ length o → n ≡ length text → after ≡ putOn text o → Tells text o (Length n) after
+  unfolding lengthIn
+  tells-all n after l e f = record { answer = ap given e ∙ rw (le-leb _ _ l); bytes = f }
+
+  -- and the other way: what the promise says of a slice with room
+  pub told-all : (r : Told) (after : List ℕ) → length text ≤ length o → Tells text o r after → (toldLength r ≡ given (length text)) × (after ≡ text ++ drop (length text) o)
+  unfolding lengthIn
+  told-all r after l t = (t .answer ∙ rw (le-leb _ _ l), t .bytes ∙ bytes-all text o l)
+
+-- so that 22 bytes are never too short for a refusal's line
+pub refusal-told : (x : Refusal) (o : List ℕ) (r : Told) (after : List ℕ) → 22 ≤ length o → TellsRefusal x o r after → (toldLength r ≡ given (length (refusalText x))) × (after ≡ refusalText x ++ drop (length (refusalText x)) o)
+refusal-told x o r after l t = told-all (refusalText x) o r after (omega (arith, t .most)) (t .tells)
 
 told-only : (a : Answer ℕ) (q r : Told) → toldLength q ≡ a → toldLength r ≡ a → q ≡ r
 told-only a (Length m) (Length n) f g = ap Length (given-same (f ∙ sym g))
@@ -67,5 +79,11 @@ told-only a (Length m) (notTold y) f g = given-refused (f ∙ sym g)
 told-only a (notTold x) (Length n) f g = given-refused (g ∙ sym f)
 told-only a (notTold x) (notTold y) f g = ap notTold (refusal-only x y (refused-number (f ∙ sym g)) (refused-place (f ∙ sym g)))
 
-pub write-answer-only : (s o : List ℕ) (q r : Told) (a b : List ℕ) → Tells s o q a → Tells s o r b → (q ≡ r) × (a ≡ b)
-write-answer-only s o q r a b f g = (told-only (lengthIn (textOf s) o) q r (f .answer) (g .answer), f .bytes ∙ sym (g .bytes))
+tells-only : (text o : List ℕ) (q r : Told) (a b : List ℕ) → Tells text o q a → Tells text o r b → (q ≡ r) × (a ≡ b)
+tells-only text o q r a b f g = (told-only (lengthIn text o) q r (f .answer) (g .answer), f .bytes ∙ sym (g .bytes))
+
+pub write-answer-only : (s o : List ℕ) (q r : Told) (a b : List ℕ) → Tells (textOf s) o q a → Tells (textOf s) o r b → (q ≡ r) × (a ≡ b)
+write-answer-only s o q r a b f g = tells-only (textOf s) o q r a b f g
+
+pub write-refusal-only : (x : Refusal) (o : List ℕ) (q r : Told) (a b : List ℕ) → TellsRefusal x o q a → TellsRefusal x o r b → (q ≡ r) × (a ≡ b)
+write-refusal-only x o q r a b f g = tells-only (refusalText x) o q r a b (f .tells) (g .tells)

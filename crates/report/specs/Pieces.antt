@@ -10,7 +10,8 @@ use Rattle.checker.specs.declared.Checked.the-variants.{Done, Refused as notDon
 use Rattle.checker.specs.Entry.{readEntry}
 use Rattle.checker.specs.Check.{part}
 use Rattle.report.specs.Text.{entryNumbers, line, refusedWord}
-use Rattle.report.specs.Page.{longest}
+use Rattle.report.specs.declared.Told.{Told}
+use Rattle.report.specs.Page.{longest, Tells}
 
 -- the line of a verdict that was read; none where none was
 abbrev pub readText : Answer Entry → List ℕ
@@ -44,3 +45,8 @@ Counted (notDone r) out = Unit
 pub record Roomy (r : Checked) (out page : List ℕ) : Type 0 where
   pub counted : Counted r out
   pub room : longest ≤ length page
+
+-- What the contract of `write_refusal` says: the line is told, and 22 bytes are enough for any.
+pub record TellsRefusal (x : Refusal) (o : List ℕ) (r : Told) (after : List ℕ) : Type 0 where
+  pub most : length (refusalText x) ≤ 22
+  pub tells : Tells (refusalText x) o r after

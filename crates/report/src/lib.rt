@@ -9,14 +9,17 @@ ghost use Prim.Native.Nat.{_+_, _*_, _≤_};
 ghost use lib.ListN.{length};
 ghost use Rattle.decimal.specs.Decimal.{decimalOf};
 ghost use Rattle.decimal.specs.Laid.{Laid};
-ghost use Rattle.report.specs.Text.{entryNumbers, line};
+ghost use Rattle.report.specs.Text.{entryNumbers, line, textOf};
 ghost use Rattle.report.specs.Page.{Tells, Pages};
-ghost use Rattle.report.specs.Pieces.{verdictText, verdictsText, refusalText, checkedText, Roomy};
+ghost use Rattle.report.specs.Pieces.{verdictText, verdictsText, refusalText, checkedText, Roomy, TellsRefusal};
 
 // Room for the verdicts of the longest sheet, and for its text: 400 lines of 14 bytes, and one of 8.
 const VERDICTS: usize = 1600;
 
 const LONGEST: usize = 5608;
+
+// Room for a refusal's line: the word, and numbers of at most two digits and ten.
+const REFUSAL: usize = 22;
 
 // The text of an answer, and how many bytes of the page it takes; the others are 0.
 pub struct Page {
@@ -117,16 +120,33 @@ pub fn page_of(sheet: &[u8]) -> Page
     Page { bytes, len }
 }
 
-// The text of the answer to a sheet into the front of a lent slice; too short a slice is refused and stays as it is.
+// A text into the front of a lent slice; too short a slice is refused and stays as it is.
+fn tell(line: &[u8], text: &mut [u8]) -> Told
+    ensures { λ r. ⌜ Tells (now (line .entry)) (now (text .entry)) r (now (text .exit)) ⌝ }
+{
+    let len = line.len();
+    if text.len() < len {
+        return Told::Refused(Refusal::OutputShort);
+    }
+    decimal::write_text(line, text);
+    Told::Length(len)
+}
+
+// So the text of the answer to a sheet.
 pub fn write_answer(sheet: &[u8], text: &mut [u8]) -> Told
-    ensures { λ r. ⌜ Tells (now (sheet .entry)) (now (text .entry)) r (now (text .exit)) ⌝ }
+    ensures { λ r. ⌜ Tells (textOf (now (sheet .entry))) (now (text .entry)) r (now (text .exit)) ⌝ }
 {
     let page = page_of(sheet);
     let len = page.len;
     let bytes = page.bytes;
-    if text.len() < len {
-        return Told::Refused(Refusal::OutputShort);
-    }
-    decimal::write_text(&bytes[..len], text);
-    Told::Length(len)
+    tell(&bytes[..len], text)
+}
+
+// And so a refusal's line.
+pub fn write_refusal(r: Refusal, text: &mut [u8]) -> Told
+    ensures { λ t. ⌜ TellsRefusal r (now (text .entry)) t (now (text .exit)) ⌝ }
+{
+    let mut bytes = [0u8; REFUSAL];
+    let len = put_refusal(&mut bytes, r);
+    tell(&bytes[..len], text)
 }

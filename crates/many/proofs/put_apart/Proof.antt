@@ -13,7 +13,7 @@ use Rattle.sheet.specs.Refusals.{given}
 use Rattle.sheet.specs.RefusalLaws.{given-same, given-refused}
 use Rattle.report.specs.Text.{textOf}
 use Rattle.report.specs.Page.{toldLength}
-use Rattle.report.specs.Longest.{text-most, told-all}
+use Rattle.report.specs.Longest.{text-most, answer-told}
 use Rattle.many.proofs.put_apart.Statement.{statement}
 use Rattle.many.proofs.put_apart.Tie as tie
 
@@ -26,7 +26,7 @@ module _ (c : tie.After-write-answer) where
 
   -- the text stands in front, and its length is told
   told : (toldLength (c .write-answer .result) ≡ given (length text)) × (c .write-answer .last .1 .0 ≡ text ++ drop (length text) (now (start .args .text)))
-  told = told-all (now (start .args .sheet)) (now (start .args .text)) (c .write-answer .result) (c .write-answer .last .1 .0) (omega (arith, start .pre)) (c .write-answer .ensures)
+  told = answer-told (now (start .args .sheet)) (now (start .args .text)) (c .write-answer .result) (c .write-answer .last .1 .0) (omega (arith, start .pre)) (c .write-answer .ensures)
 
   same : length (c .write-answer .last .1 .0) ≡ length (now (start .args .text))
   same = c .write-answer .kept .1 .0

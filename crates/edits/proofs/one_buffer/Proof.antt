@@ -1,0 +1,35 @@
+-- `edits::one_buffer` is safe and ends: it counts the edits, and the buffer keeps its length.
+-- Assumes nothing.
+use Prim.Native.Nat.{_≤_, _-_}
+use mathlib.Core.Path.{_≡_}
+use borrow.Author.Needs.{needs}
+use lib.ListN.{length}
+use Rattle.edits.proofs.one_buffer.Statement.{statement}
+use Rattle.edits.proofs.one_buffer.Tie as tie
+
+abbrev Inv-loop : tie.InvT-loop
+Inv-loop buf₀ len count got at₀ counter₀ buf at counter = (counter ≤ count) × (length buf ≡ length buf₀) × (length buf ≤ 65536)
+
+abbrev μ-loop : tie.MeasureT-loop
+μ-loop buf₀ len count got at₀ counter₀ buf at counter = count - counter
+
+pub one-buffer-spec : {M : Type 1} → statement M
+one-buffer-spec =
+    tie.close
+    (tie.spec
+    Inv-loop
+    μ-loop
+    (λ c κs. search needs)
+    (λ c. search needs)
+    (λ c. search needs)
+    (λ c. search needs)
+    (λ c κs. search needs)
+    (λ c. search needs)
+    (λ c. search needs)
+    (λ c. search needs)
+    (λ c. search needs)
+    (λ c. search needs)
+    (λ c. search needs)
+    (λ c. search needs)
+    (λ c. search needs)
+    (λ c. search needs))

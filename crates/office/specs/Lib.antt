@@ -1,0 +1,2 @@
+pub mod Office
+pub mod OfficeLaws
