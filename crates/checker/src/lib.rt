@@ -159,9 +159,9 @@ fn sound_at(sheet: &[u8], i: u16, before: u16) -> RecordRead
     requires { ⌜ 12 + 16 * i + 16 ≤ length (now sheet) ⌝ }
     ensures { λ r. ⌜ toldRecord r ≡ soundAfter i before (recordPart (now (sheet .entry)) i) ⌝ }
 {
-    let at = HEADER + RECORD * (i as usize);
-    let end = at + RECORD;
-    sound_after(&sheet[at..end], i, before)
+    let first = HEADER + RECORD * (i as usize);
+    let past = first + RECORD;
+    sound_after(&sheet[first..past], i, before)
 }
 
 // Refusals 6 to 8 of the first n records, each finished before the next.
