@@ -18,14 +18,13 @@ use Rattle.sheet.specs.Header.{headerFault}
 use Rattle.sheet.specs.Record.{recordFault, readRecord}
 use Rattle.sheet.specs.RecordLaws.{rawAt}
 use Rattle.sheet.specs.RecordBack.{record-read-fine, record-read-raw}
-use Rattle.verdict.specs.declared.Verdict.{Verdict}
-use Rattle.verdict.specs.Judged.{judgedBy}
+use Rattle.verdict.specs.Judged.{Finding, judgedBy}
 use Rattle.verdict.specs.JudgedLaws.{given-sound, sound-given}
-use Rattle.hull.specs.Hull.{verdict}
+use Rattle.hull.specs.Hull.{finding}
 use Rattle.checker.specs.declared.Entry.{Entry}
 use Rattle.checker.specs.Entry.{entryFault, entryBytes, writeEntry}
 use Rattle.checker.specs.EntryLaws.{bytes-written}
-use Rattle.checker.specs.Check.{_then_, recordPart, partsFrom, soundAfter, recordsIn, entryOf, bytesOf, failing, failures}
+use Rattle.checker.specs.Check.{_then_, recordPart, partsFrom, soundAfter, recordsIn, entryWith, entryOf, bytesOf, failing, failures}
 use Rattle.checker.specs.CheckLaws.{then-given, sound-read}
 use Rattle.checker.specs.Passes.{Refuses, judgedAfter, Pass, passOver}
 use Rattle.checker.specs.Sound.{entry-sound}
@@ -59,22 +58,22 @@ module _ (h : Header) (i before : ℕ) (b : List ℕ) where
     order-refused l r e = let a = read-as r e in omega (arith, ap (λ (x : Raw). x .values .id) (a .0), a .2)
 
     module _ (z : headerFault h 0 ≡ 0) where
-      pub judging-refused : (k p : ℕ) → refused k p ≡ judgedBy h (w .values) (verdict h (w .values)) → Refuses (soundAfter i before b)
+      pub judging-refused : (k p : ℕ) → refused k p ≡ judgedBy h (w .values) (finding h (w .values)) → Refuses (soundAfter i before b)
       judging-refused k p g r e =
           let a = read-as r e in
           let same : w .values ≡ r = ap (λ (x : Raw). x .values) (a .0) in
-          given-refused (sym (g ∙ ap (λ (q : Record). judgedBy h q (verdict h q)) same ∙ sound-given h r (verdict h r) (record { header = z; body = a .1 })))
+          given-refused (sym (g ∙ ap (λ (q : Record). judgedBy h q (finding h q)) same ∙ sound-given h r (finding h r) (record { header = z; body = a .1 })))
 
-      pub judged-good : (v : Verdict) → w .spare ≡ 0 → before < w .values .id → given v ≡ judgedBy h (w .values) (verdict h (w .values))
-          → given (record { id = w .values .id; rule = v .rule; required = v .required }) ≡ judgedAfter h i before b
+      pub judged-good : (f : Finding) → w .spare ≡ 0 → before < w .values .id → given f ≡ judgedBy h (w .values) (finding h (w .values)) → (e : Entry) → e ≡ entryWith (w .values .id) f
+          → given e ≡ judgedAfter h i before b
       unfolding judgedAfter _then_ entryOf
-      judged-good v n l g =
+      judged-good f n l g e is =
           let r = w .values in
-          let s = given-sound h r (verdict h r) v (sym g) in
-          let same : v ≡ verdict h r = given-same (g ∙ sound-given h r (verdict h r) s) in
+          let s = given-sound h r (finding h r) f (sym g) in
+          let same : f ≡ finding h r = given-same (g ∙ sound-given h r (finding h r) s) in
           let bare : rawAt (readOf 16 b) ≡ record { values = r; spare = 0 } = sym taken ∙ ap (λ (t : ℕ). record { values = r; spare = t }) n in
           let read : readRecord i b ≡ given r = record-read-raw i b r .1 (bare, s .body) in
-          rw (sym (record-good i before b r (sym read) l)) (ap (λ (x : Verdict). given (record { id = r .id; rule = x .rule; required = x .required })) same)
+          rw (sym (record-good i before b r (sym read) l)) (ap given (is ∙ ap (entryWith (r .id)) same))
 
 -- ---- a turn
 
@@ -141,7 +140,7 @@ module _ (out v : List ℕ) (at : ℕ) (sized : length v ≡ 4) (within : at + 4
   part-turn m more h = rw (take-whole, drop-whole m h) (simp append-assoc)
 
 -- four bytes into which an entry was written are the entry's
-wrote-four : (e : Entry) (o after : List ℕ) → length o ≡ 4 → entryFault e 0 ≡ 0 → after ≡ writeEntry e o .bytes → after ≡ entryBytes e
+wrote-four : (e : Entry) (o after : List ℕ) → length o ≡ 4 → entryFault e ≡ 0 → after ≡ writeEntry e o .bytes → after ≡ entryBytes e
 wrote-four e o after l z w =
     w ∙ bytes-written e o (omega arith) z ∙ ap (λ (t : List ℕ). entryBytes e ++ t) (drop-all o l) ∙ append-nil (entryBytes e)
   where
@@ -191,11 +190,11 @@ module _ (n : ℕ) (h : Header) (s : List ℕ) (i before failed : ℕ) (draft : 
     sound : (r : Record) × (soundAfter i before (recordPart s i) ≡ given r) × (e ≡ entryOf h r)
     sound = judged-sound h i before (recordPart s i) e judged
 
-    writable : entryFault e 0 ≡ 0
+    writable : entryFault e ≡ 0
     writable =
         let r = sound .0 in
         let a = sound-read i before (recordPart s i) r (sound .1) in
-        ap (λ (x : Entry). entryFault x 0) (sound .2) ∙ entry-sound h r (record-read-fine i (recordPart s i) r (a .0))
+        ap entryFault (sound .2) ∙ entry-sound h r (record-read-fine i (recordPart s i) r (a .0))
 
     step : passFrom n h s i before failed draft ≡ (recordsIn (i + 1) (e .id) (rest n s (i + 1)) then λ rs. given (passWith n i failed draft (e ∷ map (entryOf h) rs)))
     unfolding entryOf

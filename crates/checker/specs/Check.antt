@@ -10,7 +10,8 @@ use Rattle.sheet.specs.declared.Record.{Record}
 use Rattle.sheet.specs.Refusals.{Answer, given, refused, told}
 use Rattle.sheet.specs.Header.{readHeader}
 use Rattle.sheet.specs.Record.{readRecord}
-use Rattle.hull.specs.Hull.{verdict}
+use Rattle.verdict.specs.Judged.{Finding}
+use Rattle.hull.specs.Hull.{finding}
 use Rattle.checker.specs.declared.Entry.{Entry}
 use Rattle.checker.specs.declared.Checked.{Checked}
 use Rattle.checker.specs.declared.Checked.the-variants.{Done, Refused as notDone}
@@ -76,9 +77,13 @@ sheetIn s room =
 
 -- ---- what is answered and written
 
--- the verdict on a record, with its id
+-- what was found of the record of this id
+abbrev pub entryWith : ℕ → Finding → Entry
+entryWith id f = record { id = id; rule = f .verdict .rule; required = f .verdict .required; source = f .source }
+
+-- the verdict on a record and what its pressure comes from, with its id
 unfoldable pub entryOf : Header → Record → Entry
-entryOf h r = let v = verdict h r in record { id = r .id; rule = v .rule; required = v .required }
+entryOf h r = entryWith (r .id) (finding h r)
 
 -- one verdict for each record
 unfoldable pub verdicts : Sheet → List Entry

@@ -6,15 +6,15 @@ use lib.ListN.{length, getD, take, drop}
 use lib.Dec.{ltb, eqb}
 use Rattle.quantity.specs.Range.{from, modulus}
 use Rattle.layout.specs.Layout.{pack, unpack, bytes}
-use Rattle.layout.specs.Line.{Line, line, zeros, widths, faultFrom}
+use Rattle.layout.specs.Line.{Line, line, widths, faultFrom}
 use Rattle.sheet.specs.Refusals.{Answer, given, refused, told, Wrote}
 use Rattle.checker.specs.declared.Entry.{Entry}
 use Rattle.checker.specs.declared.EntryRead.{EntryRead}
 use Rattle.checker.specs.declared.EntryRead.the-variants.{Good as goodEntry, Refused as noEntry}
 
--- a verdict: id, rule, required, zero; a pass (rule 0) requires nothing, and no gauge goes higher than that of W
+-- a verdict: id, rule, required, source; a pass (rule 0) requires nothing, and no gauge goes higher than that of W
 abbrev pub verdictTable : (passed : Bool) → List Line
-verdictTable passed = line 10 (from 1 1000) ∷ line 3 (from 0 6) ∷ line 17 (from 0 (cond passed 0 (modulus .high))) ∷ zeros 2 ∷ []
+verdictTable passed = line 10 (from 1 1000) ∷ line 3 (from 0 6) ∷ line 17 (from 0 (cond passed 0 (modulus .high))) ∷ line 2 (from 0 3) ∷ []
 
 -- the lines that verdicts of a rule answer to
 abbrev pub verdictLines : (rule : ℕ) → List Line
@@ -24,17 +24,17 @@ verdictLines rule = verdictTable (eqb rule 0)
 abbrev pub verdictWidths : List ℕ
 verdictWidths = widths (verdictTable true)
 
--- the fields' values in layout order; spare is what stands in the bits that carry nothing
-abbrev pub entryValues : Entry → ℕ → List ℕ
-entryValues e spare = e .id ∷ e .rule ∷ e .required ∷ spare ∷ []
+-- the fields' values in layout order
+abbrev pub entryValues : Entry → List ℕ
+entryValues e = e .id ∷ e .rule ∷ e .required ∷ e .source ∷ []
 
 -- the entry that values are
 abbrev pub entryAt : List ℕ → Entry
-entryAt vs = record { id = getD vs 0 0; rule = getD vs 1 0; required = getD vs 2 0 }
+entryAt vs = record { id = getD vs 0 0; rule = getD vs 1 0; required = getD vs 2 0; source = getD vs 3 0 }
 
 -- the first faulty field, id being 1; 0 where there is none
-unfoldable pub entryFault : Entry → ℕ → ℕ
-entryFault e spare = faultFrom 1 (verdictLines (e .rule)) (entryValues e spare)
+unfoldable pub entryFault : Entry → ℕ
+entryFault e = faultFrom 1 (verdictLines (e .rule)) (entryValues e)
 
 -- by the first faulty field: 7 with the field, as in record 0
 abbrev pub entryRefused : {A : Type 0} → ℕ → Answer A → Answer A
@@ -47,9 +47,7 @@ toldEntry (noEntry r) = told r
 
 -- the entry in a number of 32 bits
 unfoldable pub entryIn : ℕ → Answer Entry
-entryIn n =
-    let vs = unpack verdictWidths n in
-    entryRefused (faultFrom 1 (verdictLines (getD vs 1 0)) vs) (given (entryAt vs))
+entryIn n = let e = entryAt (unpack verdictWidths n) in entryRefused (entryFault e) (given e)
 
 -- reading: 1 where there are under 4 bytes, then 7; bytes past the fourth play no part
 unfoldable pub readEntry : List ℕ → Answer Entry
@@ -57,7 +55,7 @@ readEntry s = cond (ltb (length s) 4) (refused 1 0) (entryIn (pack (bytes 4) (ta
 
 -- the four bytes of an entry
 abbrev pub entryBytes : Entry → List ℕ
-entryBytes e = unpack (bytes 4) (pack verdictWidths (entryValues e 0))
+entryBytes e = unpack (bytes 4) (pack verdictWidths (entryValues e))
 
 -- writing: 5 where there are under 4 bytes, then 7; a refusal leaves every byte, and else the first four are the entry's
 unfoldable pub writeEntry : Entry → List ℕ → Wrote
@@ -65,6 +63,6 @@ writeEntry e o =
     cond (ltb (length o) 4)
     (record { answer = refused 5 0; bytes = o })
     (record {
-      answer = entryRefused (entryFault e 0) (given tt);
-      bytes = cond (eqb (entryFault e 0) 0) (entryBytes e ++ drop 4 o) o;
+      answer = entryRefused (entryFault e) (given tt);
+      bytes = cond (eqb (entryFault e) 0) (entryBytes e ++ drop 4 o) o;
     })

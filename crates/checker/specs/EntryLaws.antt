@@ -20,11 +20,6 @@ use Rattle.sheet.specs.RefusalLaws.{given-refused, given-same}
 use Rattle.checker.specs.declared.Entry.{Entry}
 use Rattle.checker.specs.Entry.{verdictTable, verdictLines, verdictWidths, entryValues, entryAt, entryFault, entryRefused, entryIn, readEntry, entryBytes, writeEntry}
 
--- reading a number goes by the fault of the entry in it
-pub entry-in : (n : ℕ) → let vs = unpack verdictWidths n in entryIn n ≡ entryRefused (entryFault (entryAt vs) (getD vs 3 0)) (given (entryAt vs))
-unfolding entryIn entryFault
-entry-in n = refl
-
 -- ---- an entry with no fault
 
 -- every value that a line allows fits it
@@ -33,24 +28,24 @@ table-fits true = refl
 table-fits false = refl
 
 -- each of its values is allowed
-entry-allowed : (e : Entry) (spare : ℕ) → entryFault e spare ≡ 0 → Allowed (verdictLines (e .rule)) (entryValues e spare)
+entry-allowed : (e : Entry) → entryFault e ≡ 0 → Allowed (verdictLines (e .rule)) (entryValues e)
 unfolding entryFault
-entry-allowed e spare z = none-all 0 (verdictLines (e .rule)) (entryValues e spare) z
+entry-allowed e z = none-all 0 (verdictLines (e .rule)) (entryValues e) z
 
 -- and the other way round
-pub allowed-entry : (e : Entry) (spare : ℕ) → Allowed (verdictLines (e .rule)) (entryValues e spare) → entryFault e spare ≡ 0
+pub allowed-entry : (e : Entry) → Allowed (verdictLines (e .rule)) (entryValues e) → entryFault e ≡ 0
 unfolding entryFault
-allowed-entry e spare a = all-none 1 (verdictLines (e .rule)) (entryValues e spare) a
+allowed-entry e a = all-none 1 (verdictLines (e .rule)) (entryValues e) a
 
 -- its values fit their fields
-pub entry-fit : (e : Entry) → entryFault e 0 ≡ 0 → Fit verdictWidths (entryValues e 0)
-entry-fit e z = allowed-fit (verdictLines (e .rule)) (entryValues e 0) (table-fits (eqb (e .rule) 0)) (entry-allowed e 0 z)
+pub entry-fit : (e : Entry) → entryFault e ≡ 0 → Fit verdictWidths (entryValues e)
+entry-fit e z = allowed-fit (verdictLines (e .rule)) (entryValues e) (table-fits (eqb (e .rule) 0)) (entry-allowed e z)
 
 -- ---- there and back
 
 -- the number of an entry is one of 32 bits
-entry-lt : (e : Entry) → entryFault e 0 ≡ 0 → pack verdictWidths (entryValues e 0) < 2 ^ 32
-entry-lt e z = pack-lt verdictWidths (entryValues e 0) (entry-fit e z)
+entry-lt : (e : Entry) → entryFault e ≡ 0 → pack verdictWidths (entryValues e) < 2 ^ 32
+entry-lt e z = pack-lt verdictWidths (entryValues e) (entry-fit e z)
 
 -- reading, by the length
 entry-short : (s : List ℕ) → length s < 4 → readEntry s ≡ refused 1 0
@@ -62,24 +57,24 @@ unfolding readEntry
 entry-long s l = rw (le-ltb _ _ l)
 
 -- what stands in the output is read
-pub bytes-read : (e : Entry) (rest : List ℕ) → entryFault e 0 ≡ 0 → readEntry (entryBytes e ++ rest) ≡ given e
-unfolding entryIn entryFault
+pub bytes-read : (e : Entry) (rest : List ℕ) → entryFault e ≡ 0 → readEntry (entryBytes e ++ rest) ≡ given e
+unfolding entryIn
 bytes-read e rest z =
-    let n = pack verdictWidths (entryValues e 0) in
+    let n = pack verdictWidths (entryValues e) in
     let back : pack (bytes 4) (entryBytes e) ≡ n = pack-unpack-lt (bytes 4) n (entry-lt e z) in
-    let fields : unpack verdictWidths n ≡ entryValues e 0 = unpack-pack verdictWidths (entryValues e 0) (entry-fit e z) in
+    let fields : unpack verdictWidths n ≡ entryValues e = unpack-pack verdictWidths (entryValues e) (entry-fit e z) in
     entry-long (entryBytes e ++ rest) (omega arith)
     ∙ ap entryIn back
-    ∙ ap (λ (vs : List ℕ). entryRefused (faultFrom 1 (verdictLines (getD vs 1 0)) vs) (given (entryAt vs))) fields
-    ∙ ap (λ (t : Bool). cond t (given e) (refused 7 (entryFault e 0))) (eq-eqb (entryFault e 0) 0 z)
+    ∙ ap (λ (vs : List ℕ). entryRefused (entryFault (entryAt vs)) (given (entryAt vs))) fields
+    ∙ ap (λ (t : Bool). cond t (given e) (refused 7 (entryFault e))) (eq-eqb (entryFault e) 0 z)
 
 -- the bytes after writing
-pub bytes-written : (e : Entry) (o : List ℕ) → 4 ≤ length o → entryFault e 0 ≡ 0 → writeEntry e o .bytes ≡ entryBytes e ++ drop 4 o
+pub bytes-written : (e : Entry) (o : List ℕ) → 4 ≤ length o → entryFault e ≡ 0 → writeEntry e o .bytes ≡ entryBytes e ++ drop 4 o
 unfolding writeEntry
-bytes-written e o l z = rw (le-ltb _ _ l, eq-eqb (entryFault e 0) 0 z)
+bytes-written e o l z = rw (le-ltb _ _ l, eq-eqb (entryFault e) 0 z)
 
 -- what was written is read
-pub written-read : (e : Entry) (o : List ℕ) → 4 ≤ length o → entryFault e 0 ≡ 0 → readEntry (writeEntry e o .bytes) ≡ given e
+pub written-read : (e : Entry) (o : List ℕ) → 4 ≤ length o → entryFault e ≡ 0 → readEntry (writeEntry e o .bytes) ≡ given e
 written-read e o l z = ap readEntry (bytes-written e o l z) ∙ bytes-read e (drop 4 o) z
 
 -- what is refused by a field
@@ -99,25 +94,18 @@ module _ (s : List ℕ) (e : Entry) (given-e : readEntry s ≡ given e) where
   abbrev fields : List ℕ
   fields = unpack verdictWidths (pack (bytes 4) (take 4 s))
 
-  read-in : (eqb (entryFault (entryAt fields) (getD fields 3 0)) 0 ≡ true) × (entryAt fields ≡ e)
-  read-in =
-      by-fault (eqb (entryFault (entryAt fields) (getD fields 3 0)) 0) (entryFault (entryAt fields) (getD fields 3 0)) (entryAt fields) e
-      (sym (entry-long s read-long ∙ entry-in (pack (bytes 4) (take 4 s))) ∙ given-e)
+  read-in : (eqb (entryFault (entryAt fields)) 0 ≡ true) × (entryAt fields ≡ e)
+  unfolding entryIn
+  read-in = by-fault (eqb (entryFault (entryAt fields)) 0) (entryFault (entryAt fields)) (entryAt fields) e (sym (entry-long s read-long) ∙ given-e)
 
-  allowed : Allowed (verdictLines (entryAt fields .rule)) (entryValues (entryAt fields) (getD fields 3 0))
-  allowed = entry-allowed (entryAt fields) (getD fields 3 0) (eqb-true _ _ (read-in .0))
-
-  nothing : getD fields 3 0 ≡ 0
-  nothing = let h = low-high (from 0 0) (getD fields 3 0) (allowed .1 .1 .1 .0) in omega arith
-
-  pub read-sound : entryFault e 0 ≡ 0
-  read-sound = ap₂ entryFault (sym (read-in .1)) (sym nothing) ∙ eqb-true _ _ (read-in .0)
+  pub read-sound : entryFault e ≡ 0
+  read-sound = ap entryFault (sym (read-in .1)) ∙ eqb-true _ _ (read-in .0)
 
   -- what was read is written, byte for byte
   pub read-written : Fit (bytes 4) (take 4 s) → writeEntry e s .bytes ≡ s
   read-written f =
       let n = pack (bytes 4) (take 4 s) in
-      let same : pack verdictWidths (entryValues e 0) ≡ n = ap₂ (λ (a : Entry) (k : ℕ). pack verdictWidths (entryValues a k)) (sym (read-in .1)) (sym nothing) ∙ pack-unpack-lt verdictWidths n (pack-lt (bytes 4) (take 4 s) f) in
+      let same : pack verdictWidths (entryValues e) ≡ n = ap (λ (a : Entry). pack verdictWidths (entryValues a)) (sym (read-in .1)) ∙ pack-unpack-lt verdictWidths n (pack-lt (bytes 4) (take 4 s) f) in
       bytes-written e s read-long read-sound
       ∙ ap (λ (k : ℕ). unpack (bytes 4) k ++ drop 4 s) same
       ∙ ap (λ (l : List ℕ). l ++ drop 4 s) (unpack-pack (bytes 4) (take 4 s) f)

@@ -21,7 +21,8 @@ use Rattle.sheet.specs.Lines.{plateLines, memberLines}
 use Rattle.sheet.specs.Record.{plateValues, memberValues, plateFault, memberFault, bodyFault, recordFault}
 use Rattle.verdict.specs.declared.Verdict.{Verdict}
 use Rattle.verdict.specs.Verdict.{Rule, failing, verdictOf}
-use Rattle.hull.specs.Hull.{bodyRules, verdict}
+use Rattle.hull.specs.Hull.{bodyRules, verdict, sourceOf}
+use Rattle.hull.specs.SourceLaws.{source-most}
 use Rattle.plating.specs.Rules.{plateRules}
 use Rattle.framing.specs.Rules.{memberRules}
 use Rattle.checker.specs.Entry.{entryFault}
@@ -81,8 +82,8 @@ body-carried h kind (isPlate p) = carried (plateRules h kind p) refl
 body-carried h kind (isMember m) = carried (memberRules h kind m) refl
 
 -- the verdict on a sound record has no fault
-pub entry-sound : (h : Header) (r : Record) → recordFault r 0 ≡ 0 → entryFault (entryOf h r) 0 ≡ 0
+pub entry-sound : (h : Header) (r : Record) → recordFault r 0 ≡ 0 → entryFault (entryOf h r) ≡ 0
 unfolding entryOf
 entry-sound h r e =
     let c = body-carried h (r .kind) (r .body) in
-    allowed-entry (entryOf h r) 0 (id-allowed (r .kind) (r .id) (r .body) e, (c .0, (c .1, (refl, tt))))
+    allowed-entry (entryOf h r) (id-allowed (r .kind) (r .id) (r .body) e, (c .0, (c .1, (up-to 3 (sourceOf h r) (source-most h r), tt))))

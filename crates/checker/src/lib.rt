@@ -6,6 +6,7 @@ use sheet::Outcome;
 use sheet::RecordRead;
 use sheet::Refusal;
 use verdict::Judged;
+use verdict::Verdict;
 ghost use mathlib.Core.Path.{_≡_};
 ghost use mathlib.Core.Bool.{cond};
 ghost use Prim.Native.Nat.{_+_, _*_, _≤_};
@@ -17,7 +18,7 @@ ghost use Rattle.sheet.specs.Refusals.{given, told, toldOutcome, toldHeader, to
 ghost use Rattle.sheet.specs.Header.{headerFault};
 ghost use Rattle.sheet.specs.Writes.{Writes};
 ghost use Rattle.checker.specs.Entry.{verdictWidths, entryValues, entryAt, entryFault, toldEntry, readEntry, writeEntry};
-ghost use Rattle.checker.specs.Check.{headerFor, recordPart, soundAfter, failing as failingOf, Checks};
+ghost use Rattle.checker.specs.Check.{headerFor, recordPart, soundAfter, entryWith, failing as failingOf, Checks};
 ghost use Rattle.checker.specs.Unjudged.{recordsSound, soundHeader};
 ghost use Rattle.checker.specs.Passes.{Refuses, judgedAfter, Ready, toldPassed, passOver};
 
@@ -28,6 +29,8 @@ pub struct Entry {
     pub rule: u8,
     // 0 on a pass, and where nothing in the gauge will do
     pub required: u32,
+    // what the pressure on the member comes from, by its number
+    pub source: u8,
 }
 
 pub enum EntryRead {
@@ -62,10 +65,10 @@ fn most_required(rule: u8) -> u32
 }
 
 // The first field outside its values, id being 1, or 0. It goes from the last field to the first, so that the first has the last word.
-fn fault(e: Entry, spare: u32) -> u8
-    ensures { λ r. ⌜ r ≡ entryFault e spare ⌝ }
+fn fault(e: Entry) -> u8
+    ensures { λ r. ⌜ r ≡ entryFault e ⌝ }
 {
-    let f = layout::fault_unless(spare, 0, 0, 4, 0);
+    let f = layout::fault_unless(e.source as u32, 0, 3, 4, 0);
     let f = layout::fault_unless(e.required, 0, most_required(e.rule), 3, f);
     let f = layout::fault_unless(e.rule as u32, 0, 6, 2, f);
     layout::fault_unless(e.id as u32, 1, 1000, 1, f)
@@ -78,14 +81,20 @@ fn entry_of(n: u32) -> Entry
     let id = (n / P22 % 1024) as u16;
     let rule = (n / P19 % 8) as u8;
     let required = n / 4 % 131072;
-    Entry { id, rule, required }
+    let source = (n % 4) as u8;
+    Entry {
+        id,
+        rule,
+        required,
+        source,
+    }
 }
 
 fn number_of(e: Entry) -> u32
-    requires { ⌜ Fit verdictWidths (entryValues e 0) ⌝ }
-    ensures { λ r. ⌜ r ≡ pack verdictWidths (entryValues e 0) ⌝ }
+    requires { ⌜ Fit verdictWidths (entryValues e) ⌝ }
+    ensures { λ r. ⌜ r ≡ pack verdictWidths (entryValues e) ⌝ }
 {
-    (e.id as u32) * P22 + (e.rule as u32) * P19 + e.required * 4
+    (e.id as u32) * P22 + (e.rule as u32) * P19 + e.required * 4 + e.source as u32
 }
 
 // The verdict in the first four bytes, or why there is none.
@@ -97,7 +106,7 @@ pub fn read_verdict(s: &[u8]) -> EntryRead
     }
     let n = layout::read_half(s);
     let e = entry_of(n);
-    let f = fault(e, n % 4);
+    let f = fault(e);
     if f == 0 {
         return EntryRead::Good(e);
     }
@@ -111,7 +120,7 @@ pub fn write_verdict(e: Entry, out: &mut [u8]) -> Outcome
     if out.len() < VERDICT {
         return Outcome::Refused(Refusal::OutputShort);
     }
-    let f = fault(e, 0);
+    let f = fault(e);
     if f != 0 {
         return Outcome::Refused(Refusal::Field(f as u32));
     }
@@ -214,6 +223,17 @@ fn why_refused(bytes: &[u8], i: u16, before: u16) -> Refusal
     }
 }
 
+fn entry_with(id: u16, v: Verdict, source: u8) -> Entry
+    ensures { λ r. ⌜ r ≡ entryWith id (record { verdict = v; source = source }) ⌝ }
+{
+    Entry {
+        id,
+        rule: v.rule,
+        required: v.required,
+        source,
+    }
+}
+
 // The verdict on record i, in its sixteen bytes, after a record with the id `before`; or refusals 6 to 8. Judging tests the record's values, so that
 // the reader is asked only for the reason of a refusal.
 fn judged_after(h: Header, bytes: &[u8], i: u16, before: u16) -> EntryRead
@@ -230,14 +250,10 @@ fn judged_after(h: Header, bytes: &[u8], i: u16, before: u16) -> EntryRead
         return EntryRead::Refused(why_refused(bytes, i, before));
     }
     let judged = hull::judge(h, r);
-    let Judged::Verdict(v) = judged else {
+    let Judged::Verdict(v, source) = judged else {
         return EntryRead::Refused(why_refused(bytes, i, before));
     };
-    EntryRead::Good(Entry {
-        id,
-        rule: v.rule,
-        required: v.required,
-    })
+    EntryRead::Good(entry_with(id, v, source.number()))
 }
 
 fn judged_at(h: Header, sheet: &[u8], i: u16, before: u16) -> EntryRead

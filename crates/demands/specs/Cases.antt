@@ -10,6 +10,7 @@ use lib.Dec.{lit≤, lit<}
 use Rattle.gauge.specs.Ceil.{ceilOf}
 use Rattle.gauge.specs.Least.{firstFrom, leastIn}
 use Rattle.loads.specs.Loads.{sea, bottomLoad, innerLoad, deepLoad, lineLoad}
+use Rattle.loads.specs.Sources.{bottomNamed, innerNamed}
 use Rattle.sheet.specs.Header.{headerIn, readHeader}
 use Rattle.sheet.specs.Record.{recordIn, readRecord}
 use Rattle.plating.specs.Rules.{K2}
@@ -55,18 +56,18 @@ pub bare-accepted : (P : Program) → Demands P → (out : List ℕ) → (P .ans
 bare-accepted P d out = d .first bare out .none-judged refl bare-sound refl
 
 -- what the checker answers and leaves on a sheet with a number and on one with none
-checker-numbers : (checker .answer example lent ≡ Done 2 2) × Leaves checker example lent 0 (record { id = 7; rule = 3; required = 617 })
-    × (checker .answer stressed lent ≡ Done 1 1) × Leaves checker stressed lent 0 (record { id = 12; rule = 5; required = 0 })
-unfolding readEntry entryIn sheetIn headerFor recordsIn partsFrom soundAfter _then_ demand readHeader headerIn readRecord recordIn verdicts entryOf bytesOf failures firstFrom leastIn ceilOf sea bottomLoad innerLoad deepLoad lineLoad K2 rule4 rule5 rule6 memberLine
+checker-numbers : (checker .answer example lent ≡ Done 2 2) × Leaves checker example lent 0 (record { id = 7; rule = 3; required = 617; source = 0 })
+    × (checker .answer stressed lent ≡ Done 1 1) × Leaves checker stressed lent 0 (record { id = 12; rule = 5; required = 0; source = 0 })
+unfolding readEntry entryIn sheetIn headerFor recordsIn partsFrom soundAfter _then_ demand readHeader headerIn readRecord recordIn verdicts entryOf bytesOf failures firstFrom leastIn ceilOf sea bottomLoad innerLoad deepLoad lineLoad K2 rule4 rule5 rule6 memberLine bottomNamed innerNamed
 checker-numbers = (refl, refl, refl, refl)
 
 -- demand 3 on both
-pub number-example : Third checker example lent 2 0 (record { id = 7; rule = 3; required = 617 })
+pub number-example : Third checker example lent 2 0 (record { id = 7; rule = 3; required = 617; source = 0 })
 number-example = checker-demands .third example lent 2 2 0 _ (checker-numbers .0) (lit< tt) (checker-numbers .1) (lit≤ tt)
 
 pub no-number-example : (x : ℕ) → InGauge 5 x → meetsRule (withScantling 0 5 x stressed) 0 5 ≡ true → ⊥
 no-number-example x g e =
-    let w = checker-demands .third stressed lent 1 1 0 (record { id = 12; rule = 5; required = 0 }) (checker-numbers .2) (lit< tt) (checker-numbers .3) (lit≤ tt) .least-number x g .0 e in
+    let w = checker-demands .third stressed lent 1 1 0 (record { id = 12; rule = 5; required = 0; source = 0 }) (checker-numbers .2) (lit< tt) (checker-numbers .3) (lit≤ tt) .least-number x g .0 e in
     omega (arith, w .0)
 
 -- raising by what a program leaves is raising by what the checker leaves
@@ -78,7 +79,7 @@ raised-same P d out (suc count) i s =
     ∙ ap (λ (o : List ℕ). raisedTimes checker out count i (raisedBy i s (readEntry (fourAt i o)))) (demands-only P checker d checker-demands s out .1)
 
 -- two raisings are not enough, whatever the program
-pub two-raisings : (P : Program) → Demands P → Leaves P (raisedTimes P lent 2 0 light) lent 0 (record { id = 12; rule = 6; required = 168 })
+pub two-raisings : (P : Program) → Demands P → Leaves P (raisedTimes P lent 2 0 light) lent 0 (record { id = 12; rule = 6; required = 168; source = 0 })
 two-raisings P d =
     ap (λ (s : List ℕ). readEntry (fourAt 0 (P .after s lent))) (raised-same P d lent 2 0 light)
     ∙ ap (λ (o : List ℕ). readEntry (fourAt 0 o)) (demands-only P checker d checker-demands (raisedTimes checker lent 2 0 light) lent .1)
@@ -86,11 +87,11 @@ two-raisings P d =
 
 -- what the empty programs answer and leave on the example, which they accept
 pub empty-on-example : (passing .answer example lent ≡ Done 2 0)
-    × (passing .after example lent ≡ entryBytes (record { id = 7; rule = 0; required = 0 }) ++ (entryBytes (record { id = 12; rule = 0; required = 0 }) ++ (170 ∷ [])))
+    × (passing .after example lent ≡ entryBytes (record { id = 7; rule = 0; required = 0; source = 0 }) ++ (entryBytes (record { id = 12; rule = 0; required = 0; source = 0 }) ++ (170 ∷ [])))
     × (naming 617 .answer example lent ≡ Done 2 2)
-    × (naming 617 .after example lent ≡ entryBytes (record { id = 7; rule = 3; required = 617 }) ++ (entryBytes (record { id = 12; rule = 5; required = 617 }) ++ (170 ∷ [])))
+    × (naming 617 .after example lent ≡ entryBytes (record { id = 7; rule = 3; required = 617; source = 0 }) ++ (entryBytes (record { id = 12; rule = 5; required = 617; source = 0 }) ++ (170 ∷ [])))
     × (firstOnly .answer example lent ≡ Done 2 1)
-    × (firstOnly .after example lent ≡ entryBytes (record { id = 7; rule = 3; required = 617 }) ++ (entryBytes (record { id = 12; rule = 0; required = 0 }) ++ (170 ∷ [])))
+    × (firstOnly .after example lent ≡ entryBytes (record { id = 7; rule = 3; required = 617; source = 0 }) ++ (entryBytes (record { id = 12; rule = 0; required = 0; source = 0 }) ++ (170 ∷ [])))
     × (counting (λ h. 1) .answer example lent ≡ Done 2 1)
-unfolding sheetIn headerFor recordsIn partsFrom soundAfter _then_ demand readHeader headerIn readRecord recordIn verdicts entryOf bytesOf failures firstFrom leastIn ceilOf sea bottomLoad innerLoad deepLoad lineLoad K2 rule4 rule5 rule6 memberLine
+unfolding sheetIn headerFor recordsIn partsFrom soundAfter _then_ demand readHeader headerIn readRecord recordIn verdicts entryOf bytesOf failures firstFrom leastIn ceilOf sea bottomLoad innerLoad deepLoad lineLoad K2 rule4 rule5 rule6 memberLine bottomNamed innerNamed
 empty-on-example = (refl, refl, refl, refl, refl, refl, refl)

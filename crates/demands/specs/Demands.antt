@@ -6,11 +6,12 @@ use mathlib.Core.List.{List}
 use lib.ListN.{length, drop}
 use lib.Dec.{eqb}
 use Rattle.sheet.specs.Exactly.{Exactly}
-use Rattle.hull.specs.Hull.{verdict}
+use Rattle.hull.specs.Hull.{finding}
 use Rattle.hull.specs.Raising.{raised}
 use Rattle.checker.specs.declared.Entry.{Entry}
 use Rattle.checker.specs.declared.Checked.the-variants.{Done}
 use Rattle.checker.specs.Entry.{entryBytes}
+use Rattle.checker.specs.Check.{entryWith}
 use Rattle.demands.specs.Table.{countOf, idOf, HeaderSound, Row, Accepted}
 use Rattle.demands.specs.Program.{Program, Refuses, fourAt, Leaves}
 use Rattle.demands.specs.Raise.{theHeader, theRecord, withScantling, InGauge, Reaches, meetsRule, raisedTimes}
@@ -35,9 +36,9 @@ pub record First (P : Program) (s out : List ℕ) : Type 0 where
   -- with n = 0 every sound header is accepted, and nothing is judged or written
   pub none-judged : length s ≡ 12 → HeaderSound s → countOf s ≡ 0 → (P .answer s out ≡ Done 0 0) × (P .after s out ≡ out)
 
--- the verdict on record i under the sheet's header, with its id
+-- the verdict on record i under the sheet's header and what its pressure comes from, with its id
 abbrev pub entryOn : List ℕ → ℕ → Entry
-entryOn s i = let v = verdict (theHeader s) (theRecord s i) in record { id = idOf s i; rule = v .rule; required = v .required }
+entryOn s i = entryWith (idOf s i) (finding (theHeader s) (theRecord s i))
 
 -- how many of the records i, i + 1, .., so many of them, have a verdict with a rule
 abbrev pub failedFrom : List ℕ → (i count : ℕ) → ℕ

@@ -42,11 +42,11 @@ changing change = reading (λ s t. failures (changedFrom change 0 (verdicts t)))
 
 -- a pass in place of a verdict
 abbrev pub passInstead : ℕ → Entry → Entry
-passInstead i e = record { id = e .id; rule = 0; required = 0 }
+passInstead i e = record { id = e .id; rule = 0; required = 0; source = e .source }
 
 -- the number q in every verdict with a rule
 abbrev pub numberInstead : ℕ → ℕ → Entry → Entry
-numberInstead q i e = record { id = e .id; rule = e .rule; required = cond (eqb (e .rule) 0) 0 q }
+numberInstead q i e = record { id = e .id; rule = e .rule; required = cond (eqb (e .rule) 0) 0 q; source = e .source }
 
 -- a pass in place of every verdict but the first
 abbrev pub passAfterFirst : ℕ → Entry → Entry

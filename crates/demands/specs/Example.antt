@@ -8,6 +8,7 @@ use lib.ListN.{take, set}
 use Rattle.gauge.specs.Ceil.{ceilOf}
 use Rattle.gauge.specs.Least.{firstFrom, leastIn}
 use Rattle.loads.specs.Loads.{sea, bottomLoad, innerLoad, deepLoad, lineLoad}
+use Rattle.loads.specs.Sources.{bottomNamed, innerNamed}
 use Rattle.sheet.specs.Refusals.{Answer, given, refused}
 use Rattle.sheet.specs.Header.{headerIn, readHeader}
 use Rattle.sheet.specs.Record.{recordIn, readRecord}
@@ -63,11 +64,11 @@ lent = 170 ∷ 170 ∷ 170 ∷ 170 ∷ 170 ∷ 170 ∷ 170 ∷ 170 ∷ 170 ∷ [
 
 -- as the document prints it: 7 3 617, 12 5 567, 2 records and 2 failures; the ninth byte is as it was lent
 pub example-answer : answerOf example 9 ≡ given (record { n = 2; failed = 2 })
-unfolding answerOf sheetIn headerFor recordsIn partsFrom soundAfter _then_ demand readHeader headerIn readRecord recordIn verdicts entryOf failures firstFrom leastIn ceilOf sea bottomLoad innerLoad deepLoad lineLoad K2 rule4 rule5 rule6 memberLine
+unfolding answerOf sheetIn headerFor recordsIn partsFrom soundAfter _then_ demand readHeader headerIn readRecord recordIn verdicts entryOf failures firstFrom leastIn ceilOf sea bottomLoad innerLoad deepLoad lineLoad K2 rule4 rule5 rule6 memberLine bottomNamed innerNamed
 example-answer = refl
 
-pub example-output : outputOf example lent ≡ (entryBytes (record { id = 7; rule = 3; required = 617 }) ++ (entryBytes (record { id = 12; rule = 5; required = 567 }) ++ (170 ∷ [])))
-unfolding outputOf sheetIn headerFor recordsIn partsFrom soundAfter _then_ demand readHeader headerIn readRecord recordIn verdicts entryOf bytesOf firstFrom leastIn ceilOf sea bottomLoad innerLoad deepLoad lineLoad K2 rule4 rule5 rule6 memberLine
+pub example-output : outputOf example lent ≡ (entryBytes (record { id = 7; rule = 3; required = 617; source = 0 }) ++ (entryBytes (record { id = 12; rule = 5; required = 567; source = 0 }) ++ (170 ∷ [])))
+unfolding outputOf sheetIn headerFor recordsIn partsFrom soundAfter _then_ demand readHeader headerIn readRecord recordIn verdicts entryOf bytesOf firstFrom leastIn ceilOf sea bottomLoad innerLoad deepLoad lineLoad K2 rule4 rule5 rule6 memberLine bottomNamed innerNamed
 example-output = refl
 
 -- and as text, byte for byte what the document shows
@@ -77,12 +78,12 @@ pub example-text :
     ∷ 49 ∷ 50 ∷ 32 ∷ 53 ∷ 32 ∷ 53 ∷ 54 ∷ 55 ∷ 10
     ∷ 50 ∷ 32 ∷ 50 ∷ 10
     ∷ [])
-unfolding textOf printed textBy linesText lineOf moreOf decimalOf digitsIn sheetIn headerFor recordsIn partsFrom soundAfter _then_ demand readHeader headerIn readRecord recordIn verdicts entryOf failures firstFrom leastIn ceilOf sea bottomLoad innerLoad deepLoad lineLoad K2 rule4 rule5 rule6 memberLine
+unfolding textOf printed textBy linesText lineOf moreOf decimalOf digitsIn sheetIn headerFor recordsIn partsFrom soundAfter _then_ demand readHeader headerIn readRecord recordIn verdicts entryOf failures firstFrom leastIn ceilOf sea bottomLoad innerLoad deepLoad lineLoad K2 rule4 rule5 rule6 memberLine bottomNamed innerNamed
 example-text = refl
 
 -- mended, nothing fails
 pub mended-answer : answerOf mended 9 ≡ given (record { n = 2; failed = 0 })
-unfolding answerOf sheetIn headerFor recordsIn partsFrom soundAfter _then_ demand readHeader headerIn readRecord recordIn verdicts entryOf failures firstFrom leastIn ceilOf sea bottomLoad innerLoad deepLoad lineLoad K2 rule4 rule5 rule6 memberLine
+unfolding answerOf sheetIn headerFor recordsIn partsFrom soundAfter _then_ demand readHeader headerIn readRecord recordIn verdicts entryOf failures firstFrom leastIn ceilOf sea bottomLoad innerLoad deepLoad lineLoad K2 rule4 rule5 rule6 memberLine bottomNamed innerNamed
 mended-answer = refl
 
 -- the example with one byte too few, one byte changed, one too many, or too short an output, for each row of the table: the version is 2, the wave height 61, the
@@ -103,9 +104,9 @@ abbrev pub lightAfter : ℕ → Answer Entry
 lightAfter count = readEntry (fourAt 0 (checker .after (raisedTimes checker lent count 0 light) lent))
 
 -- two raisings are not enough: 4 420, then 5 567, then 6 168, and a pass only after the third
-pub two-not-enough : (lightAfter 0 ≡ given (record { id = 12; rule = 4; required = 420 }))
-    × (lightAfter 1 ≡ given (record { id = 12; rule = 5; required = 567 }))
-    × (lightAfter 2 ≡ given (record { id = 12; rule = 6; required = 168 }))
-    × (lightAfter 3 ≡ given (record { id = 12; rule = 0; required = 0 }))
-unfolding raisedTimes withScantling replaced readEntry entryIn sheetIn headerFor recordsIn partsFrom soundAfter _then_ demand readHeader headerIn readRecord recordIn verdicts entryOf bytesOf firstFrom leastIn ceilOf sea bottomLoad innerLoad deepLoad lineLoad K2 rule4 rule5 rule6 memberLine
+pub two-not-enough : (lightAfter 0 ≡ given (record { id = 12; rule = 4; required = 420; source = 0 }))
+    × (lightAfter 1 ≡ given (record { id = 12; rule = 5; required = 567; source = 0 }))
+    × (lightAfter 2 ≡ given (record { id = 12; rule = 6; required = 168; source = 0 }))
+    × (lightAfter 3 ≡ given (record { id = 12; rule = 0; required = 0; source = 0 }))
+unfolding raisedTimes withScantling replaced readEntry entryIn sheetIn headerFor recordsIn partsFrom soundAfter _then_ demand readHeader headerIn readRecord recordIn verdicts entryOf bytesOf firstFrom leastIn ceilOf sea bottomLoad innerLoad deepLoad lineLoad K2 rule4 rule5 rule6 memberLine bottomNamed innerNamed
 two-not-enough = (refl, refl, refl, refl)

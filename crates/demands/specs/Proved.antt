@@ -17,14 +17,14 @@ use Rattle.sheet.specs.Record.{recordFault, recordBytes}
 use Rattle.sheet.specs.RecordBack.{record-read-fine}
 use Rattle.verdict.specs.declared.Verdict.{Verdict}
 use Rattle.verdict.specs.Raising.{Found, passes as meetsAll, fails as failsOne, found, Later as LaterVerdict, passed as passedVerdict, above as aboveVerdict}
-use Rattle.hull.specs.Hull.{rulesOf, verdict}
+use Rattle.hull.specs.Hull.{rulesOf, verdict, finding}
 use Rattle.hull.specs.Raising.{raised, raisedOnce, raisedTimes as raisedRecord}
 use Rattle.hull.specs.RaisingLaws.{three-raisings}
 use Rattle.checker.specs.declared.Entry.{Entry}
 use Rattle.checker.specs.declared.Checked.{Checked}
 use Rattle.checker.specs.declared.Checked.the-variants.{Done, Refused as notDone}
 use Rattle.checker.specs.Entry.{entryBytes, readEntry}
-use Rattle.checker.specs.Check.{_then_, recordPart, recordOf, Sheet, sheetIn, entryOf, verdicts, bytesOf, failures, Totals, toldChecked, answerOf, outputOf}
+use Rattle.checker.specs.Check.{_then_, recordPart, recordOf, Sheet, sheetIn, entryWith, entryOf, verdicts, bytesOf, failures, Totals, toldChecked, answerOf, outputOf}
 use Rattle.checker.specs.CheckLaws.{then-given, Taken, none, next, sheet-whole, record-given, verdict-at, verdict-read, verdicts-count, rest-as-lent, answer-done, output-done, bytes-length, refused-as-lent}
 use Rattle.demands.specs.Table.{countOf, HeaderSound, Row, Accepted}
 use Rattle.demands.specs.Program.{Program, Meets, fourAt, Leaves}
@@ -55,7 +55,7 @@ module _ (s out : List ℕ) (t : Sheet) (given-t : sheetIn s (length out) ≡ gi
   unfolding entryOf
   entry-is i r e =
       ap₂ entryOf (sym header-is) (sym (rows.record-sound s i r e .1))
-      ∙ ap (λ (id : ℕ). record { id = id; rule = verdict (theHeader s) (theRecord s i) .rule; required = verdict (theHeader s) (theRecord s i) .required }) (rows.record-id-field s i)
+      ∙ ap (λ (id : ℕ). entryWith id (finding (theHeader s) (theRecord s i))) (rows.record-id-field s i)
 
   failures-from : (i before : ℕ) (rs : List Record) → Taken s i before rs → failures (map (entryOf (t .header)) rs) ≡ failedFrom s i (length rs)
   unfolding failures

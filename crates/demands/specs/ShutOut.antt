@@ -13,6 +13,7 @@ use Rattle.quantity.specs.Range.{within, from, modulus}
 use Rattle.gauge.specs.Ceil.{ceilOf}
 use Rattle.gauge.specs.Least.{firstFrom, leastIn}
 use Rattle.loads.specs.Loads.{sea, bottomLoad, innerLoad, deepLoad, lineLoad}
+use Rattle.loads.specs.Sources.{bottomNamed, innerNamed}
 use Rattle.layout.specs.LineLaws.{none-all}
 use Rattle.sheet.specs.declared.Header.{Header}
 use Rattle.sheet.specs.declared.Record.{Record}
@@ -79,25 +80,29 @@ checker-demands = demands-met checker checker-meets
 -- the verdicts of a sheet that is accepted can be written and read
 abbrev AllSound : List Entry → Type 0
 AllSound [] = Unit {0}
-AllSound (e ∷ es) = (entryFault e 0 ≡ 0) × AllSound es
+AllSound (e ∷ es) = (entryFault e ≡ 0) × AllSound es
 
 taken-sound : (h : Header) (s : List ℕ) (i before : ℕ) (rs : List Record) → Taken s i before rs → AllSound (map (entryOf h) rs)
 taken-sound h s i before [] none = tt
 taken-sound h s i before (r ∷ rs) (next e l t) = (entry-sound h r (record-read-fine i (recordPart s i) r e), taken-sound h s (i + 1) (r .id) rs t)
 
 -- a verdict with no fault has an id that a verdict can carry
-id-within : (e : Entry) → entryFault e 0 ≡ 0 → within (from 1 1000) (e .id) ≡ true
+id-within : (e : Entry) → entryFault e ≡ 0 → within (from 1 1000) (e .id) ≡ true
 unfolding entryFault
-id-within e z = none-all 0 (verdictLines (e .rule)) (entryValues e 0) z .0
+id-within e z = none-all 0 (verdictLines (e .rule)) (entryValues e) z .0
 
-rule-within : (e : Entry) → entryFault e 0 ≡ 0 → within (from 0 6) (e .rule) ≡ true
+rule-within : (e : Entry) → entryFault e ≡ 0 → within (from 0 6) (e .rule) ≡ true
 unfolding entryFault
-rule-within e z = none-all 0 (verdictLines (e .rule)) (entryValues e 0) z .1 .0
+rule-within e z = none-all 0 (verdictLines (e .rule)) (entryValues e) z .1 .0
+
+source-within : (e : Entry) → entryFault e ≡ 0 → within (from 0 3) (e .source) ≡ true
+unfolding entryFault
+source-within e z = none-all 0 (verdictLines (e .rule)) (entryValues e) z .1 .1 .1 .0
 
 -- what is said of every changed verdict, which can be written where the verdict can
-module _ (change : ℕ → Entry → Entry) (Says : ℕ → Entry → Type 0) (says : (i : ℕ) (e : Entry) → entryFault e 0 ≡ 0 → (entryFault (change i e) 0 ≡ 0) × Says i (change i e)) where
+module _ (change : ℕ → Entry → Entry) (Says : ℕ → Entry → Type 0) (says : (i : ℕ) (e : Entry) → entryFault e ≡ 0 → (entryFault (change i e) ≡ 0) × Says i (change i e)) where
   changed-at : (i : ℕ) (es : List Entry) (tail : List ℕ) → AllSound es → (j : ℕ) → j < length es
-      → (e : Entry) × (entryFault e 0 ≡ 0) × Says (i + j) e × (take 4 (drop (4 * j) (bytesOf (changedFrom change i es) ++ tail)) ≡ entryBytes e)
+      → (e : Entry) × (entryFault e ≡ 0) × Says (i + j) e × (take 4 (drop (4 * j) (bytesOf (changedFrom change i es) ++ tail)) ≡ entryBytes e)
   unfolding bytesOf
   changed-at i [] tail a j l = absurd (omega arith)
   changed-at i (e ∷ es) tail a zero l = let q = says i e (a .0) in (change i e, q .0, subst (λ (n : ℕ). Says n (change i e)) (sym (add-zero i)) (q .1), refl)
@@ -123,8 +128,8 @@ module _ (change : ℕ → Entry → Entry) (Says : ℕ → Entry → Type 0) (s
           subst (λ (x : Entry). Says i x) same (subst (λ (k : ℕ). Says k (q .0)) m (q .2))
       go (refused k p) f d r = given-refused (sym (ap (λ (c : Checked). toldChecked c) d))
 
-pass-sound : (i : ℕ) (e : Entry) → entryFault e 0 ≡ 0 → entryFault (passInstead i e) 0 ≡ 0
-pass-sound i e z = allowed-entry (passInstead i e) 0 (id-within e z, (refl, (refl, (refl, tt))))
+pass-sound : (i : ℕ) (e : Entry) → entryFault e ≡ 0 → entryFault (passInstead i e) ≡ 0
+pass-sound i e z = allowed-entry (passInstead i e) (id-within e z, (refl, (refl, (source-within e z, tt))))
 
 pub idle-is : LeavesAsLent idle
 idle-is s out n failed e = refl
@@ -142,8 +147,8 @@ naming-is q l = changing-says (numberInstead q) (λ i e. 1 ≤ e .rule → e .re
     carried true = refl
     carried false = rw (le-leb 0 q (omega arith), le-leb q (modulus .high) l)
 
-    sound : (i : ℕ) (e : Entry) → entryFault e 0 ≡ 0 → entryFault (numberInstead q i e) 0 ≡ 0
-    sound i e z = allowed-entry (numberInstead q i e) 0 (id-within e z, (rule-within e z, (carried (eqb (e .rule) 0), (refl, tt))))
+    sound : (i : ℕ) (e : Entry) → entryFault e ≡ 0 → entryFault (numberInstead q i e) ≡ 0
+    sound i e z = allowed-entry (numberInstead q i e) (id-within e z, (rule-within e z, (carried (eqb (e .rule) 0), (source-within e z, tt))))
 
     named : (i : ℕ) (e : Entry) → 1 ≤ e .rule → cond (eqb (e .rule) 0) 0 q ≡ q
     named i e m = rw (ne-eqb (e .rule) 0 (λ z. omega arith))
@@ -151,7 +156,7 @@ naming-is q l = changing-says (numberInstead q) (λ i e. 1 ≤ e .rule → e .re
 pub firstOnly-is : PassesRest firstOnly
 firstOnly-is = changing-says passAfterFirst (λ i e. 1 ≤ i → e .rule ≡ 0) both
   where
-    both : (i : ℕ) (e : Entry) → entryFault e 0 ≡ 0 → (entryFault (passAfterFirst i e) 0 ≡ 0) × (1 ≤ i → passAfterFirst i e .rule ≡ 0)
+    both : (i : ℕ) (e : Entry) → entryFault e ≡ 0 → (entryFault (passAfterFirst i e) ≡ 0) × (1 ≤ i → passAfterFirst i e .rule ≡ 0)
     both zero e z = (z, λ l. absurd (omega arith))
     both (suc i) e z = (pass-sound (suc i) e z, λ l. refl)
 
@@ -164,7 +169,7 @@ counting-is count s out n failed e = go (sheetIn s (length out)) e
 
 -- one that always says 1 failure says so of the example, where it leaves two
 pub counting-miscounts : Miscounts (counting (λ h. 1))
-unfolding readEntry entryIn sheetIn headerFor recordsIn partsFrom soundAfter _then_ demand readHeader headerIn readRecord recordIn verdicts entryOf bytesOf firstFrom leastIn ceilOf sea bottomLoad innerLoad deepLoad lineLoad K2 rule4 rule5 rule6 memberLine
+unfolding readEntry entryIn sheetIn headerFor recordsIn partsFrom soundAfter _then_ demand readHeader headerIn readRecord recordIn verdicts entryOf bytesOf firstFrom leastIn ceilOf sea bottomLoad innerLoad deepLoad lineLoad K2 rule4 rule5 rule6 memberLine bottomNamed innerNamed
 counting-miscounts = (example, lent, 2, 1, refl, λ e. omega (arith, e))
 
 -- ---- and is shut out
@@ -177,20 +182,20 @@ mended-accepted : Accepted mended 9
 mended-accepted = given-fits mended 9 (record { n = 2; failed = 0 }) mended-answer
 
 -- demand 2's verdicts on the example, and its counts on both
-first-verdict : entryOn example 0 ≡ record { id = 7; rule = 3; required = 617 }
-unfolding firstFrom leastIn ceilOf sea bottomLoad innerLoad deepLoad lineLoad K2 rule4 rule5 rule6 memberLine
+first-verdict : entryOn example 0 ≡ record { id = 7; rule = 3; required = 617; source = 0 }
+unfolding firstFrom leastIn ceilOf sea bottomLoad innerLoad deepLoad lineLoad K2 rule4 rule5 rule6 memberLine bottomNamed innerNamed
 first-verdict = refl
 
-second-verdict : entryOn example 1 ≡ record { id = 12; rule = 5; required = 567 }
-unfolding firstFrom leastIn ceilOf sea bottomLoad innerLoad deepLoad lineLoad K2 rule4 rule5 rule6 memberLine
+second-verdict : entryOn example 1 ≡ record { id = 12; rule = 5; required = 567; source = 0 }
+unfolding firstFrom leastIn ceilOf sea bottomLoad innerLoad deepLoad lineLoad K2 rule4 rule5 rule6 memberLine bottomNamed innerNamed
 second-verdict = refl
 
 two-failed : failedFrom example 0 2 ≡ 2
-unfolding firstFrom leastIn ceilOf sea bottomLoad innerLoad deepLoad lineLoad K2 rule4 rule5 rule6 memberLine
+unfolding firstFrom leastIn ceilOf sea bottomLoad innerLoad deepLoad lineLoad K2 rule4 rule5 rule6 memberLine bottomNamed innerNamed
 two-failed = refl
 
 none-failed : failedFrom mended 0 2 ≡ 0
-unfolding firstFrom leastIn ceilOf sea bottomLoad innerLoad deepLoad lineLoad K2 rule4 rule5 rule6 memberLine
+unfolding firstFrom leastIn ceilOf sea bottomLoad innerLoad deepLoad lineLoad K2 rule4 rule5 rule6 memberLine bottomNamed innerNamed
 none-failed = refl
 
 module _ (P : Program) (d : Demands P) where
@@ -211,12 +216,12 @@ module _ (P : Program) (d : Demands P) where
   two = on-example .judged .number
 
   -- what is said of every verdict is said of the two that it leaves on the example
-  on-first : (Says : ℕ → Entry → Type 0) → OfVerdicts Says P → Says 0 (record { id = 7; rule = 3; required = 617 })
+  on-first : (Says : ℕ → Entry → Type 0) → OfVerdicts Says P → Says 0 (record { id = 7; rule = 3; required = 617; source = 0 })
   on-first Says f =
       let a = on-example in
       subst (λ (e : Entry). Says 0 e) first-verdict (f example lent (a .n) (a .failed) 0 _ (a .done) (omega (arith, two)) (a .judged .verdict-of-record 0 (omega (arith, two))))
 
-  on-second : (Says : ℕ → Entry → Type 0) → OfVerdicts Says P → Says 1 (record { id = 12; rule = 5; required = 567 })
+  on-second : (Says : ℕ → Entry → Type 0) → OfVerdicts Says P → Says 1 (record { id = 12; rule = 5; required = 567; source = 0 })
   on-second Says f =
       let a = on-example in
       subst (λ (e : Entry). Says 1 e) second-verdict (f example lent (a .n) (a .failed) 1 _ (a .done) (omega (arith, two)) (a .judged .verdict-of-record 1 (omega (arith, two))))

@@ -2,7 +2,7 @@
 -- Assumes nothing.
 use Prim.Native.Nat.{ℕ, _*_, _<_}
 use mathlib.Core.Bool.{Bool}
-use mathlib.Core.Path.{_≡_, sym, _∙_}
+use mathlib.Core.Path.{_≡_, refl, sym, _∙_}
 use lib.Dec.{lit<, leb}
 use Rattle.gauge.specs.Ceil.{ceilOf}
 use Rattle.gauge.specs.Least.{Monotone}
@@ -11,8 +11,11 @@ use Rattle.gauge.specs.Shape.{meetsOf}
 use Rattle.gauge.specs.ShapeLaws.{monotone, over-floor, excess}
 use Rattle.gauge.specs.declared.Shape.{Shape}
 use Rattle.gauge.specs.declared.Shape.the-variants.{Floor, Square}
+use Rattle.loads.specs.SourceLaws.{either-pressure}
 use Rattle.sheet.specs.Kinds.{isFloor, isDeep}
-use Rattle.framing.specs.Rules.{rule4, rule5, rule6, isShort, squared, stressed, byKind}
+use Rattle.sheet.specs.declared.Header.{Header}
+use Rattle.sheet.specs.declared.Member.{Member}
+use Rattle.framing.specs.Rules.{rule4, rule5, rule6, isShort, squared, stressed, byKind, memberLoad, memberNamed}
 use Rattle.framing.specs.Shapes.{stressedShape, stressed-said}
 
 -- a test that says what a shape does is monotone
@@ -46,3 +49,7 @@ pub rule6-monotone : (kind βs η q l : ℕ) → Monotone (rule6 kind βs η q l
 unfolding rule6
 rule6-monotone kind βs η q l =
     by-kind kind _ _ _ (floor-monotone _ _ (lit< tt)) (floor-monotone _ _ (lit< tt)) (floor-monotone _ _ (lit< tt))
+
+-- the pressure that names its source is the one that q is worked out of
+pub member-pressure : (h : Header) (kind : ℕ) (m : Member) → memberNamed h kind m .pressure ≡ memberLoad h kind m
+member-pressure h kind m = either-pressure (isDeep kind) _ _ refl refl

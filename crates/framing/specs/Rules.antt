@@ -6,6 +6,7 @@ use mathlib.Core.List.{List, [], _∷_}
 use lib.Dec.{leb, ltb}
 use Rattle.quantity.specs.Range.{thickness, modulus, shearArea}
 use Rattle.loads.specs.Loads.{sea, deepLoad, lineLoad}
+use Rattle.loads.specs.Sources.{Named, seaNamed, deepNamed}
 use Rattle.sheet.specs.Kinds.{isFloor, isDeep}
 use Rattle.sheet.specs.declared.Header.{Header}
 use Rattle.sheet.specs.declared.Member.{Member}
@@ -14,6 +15,7 @@ use Rattle.sheet.specs.declared.Body.{Body}
 use Rattle.sheet.specs.declared.Body.the-variants.{Plate as isPlate, Member as isMember}
 use Rattle.verdict.specs.declared.Verdict.{Verdict}
 use Rattle.verdict.specs.Verdict.{Rule, pass, verdictOf}
+use Rattle.verdict.specs.Judged.{Finding}
 
 -- X = t − short, X ≥ 0 and a·X² ≥ p
 abbrev pub squared : ℕ → ℕ → ℕ → ℕ → Bool
@@ -62,7 +64,14 @@ memberLoad h kind m =
     let H = h .wave .0 in
     cond (isDeep kind) (deepLoad D0 H (h .«two_runs»)) (sea D0 H (m .z .0))
 
--- q, the line load of that on the member's spacing
+-- the same, and what it comes from
+abbrev pub memberNamed : Header → ℕ → Member → Named
+memberNamed h kind m =
+    let D0 = h .draught .0 in
+    let H = h .wave .0 in
+    cond (isDeep kind) (deepNamed D0 H (h .«two_runs»)) (seaNamed D0 H (m .z .0))
+
+-- q, the line load of that pressure on the member's spacing
 unfoldable pub memberLine : Header → ℕ → Member → ℕ
 memberLine h kind m = lineLoad (memberLoad h kind m) (m .spacing .0)
 
@@ -88,3 +97,7 @@ memberRules h kind m = webRule h kind m ∷ bendingRule h kind m ∷ shearRule h
 -- the first of them that fails, with what it requires
 abbrev pub memberVerdict : Header → ℕ → Member → Verdict
 memberVerdict h kind m = verdictOf (memberRules h kind m)
+
+-- the verdict, and what the member's pressure comes from
+abbrev pub memberFinding : Header → ℕ → Member → Finding
+memberFinding h kind m = record { verdict = memberVerdict h kind m; source = memberNamed h kind m .source }

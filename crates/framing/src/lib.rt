@@ -1,5 +1,6 @@
 // Rules 4, 5 and 6: the web, the section modulus and the shear area of a member.
 use gauge::Shape;
+use loads::Load;
 use quantity::LineLoad;
 use quantity::Modulus;
 use quantity::ShearArea;
@@ -17,11 +18,12 @@ ghost use Prim.Native.Nat.{_*_, _<_, _≤_, _^_};
 ghost use Rattle.quantity.specs.Range.{thickness, modulus, shearArea};
 ghost use Rattle.gauge.specs.Ceil.{ceilOf};
 ghost use Rattle.gauge.specs.ShapeLaws.{Says};
+ghost use Rattle.loads.specs.Sources.{toldLoad};
 ghost use Rattle.sheet.specs.Record.{ofMember};
 ghost use Rattle.sheet.specs.Ranges.{HeaderRanges, MemberRanges};
 ghost use Rattle.verdict.specs.Verdict.{verdictOf};
 ghost use Rattle.verdict.specs.Judged.{toldJudged, judgedBy};
-ghost use Rattle.framing.specs.Rules.{rule4 as rule4Of, rule5 as rule5Of, rule6 as rule6Of, memberLine, memberRules, memberVerdict};
+ghost use Rattle.framing.specs.Rules.{rule4 as rule4Of, rule5 as rule5Of, rule6 as rule6Of, memberLoad, memberNamed, memberRules, memberFinding};
 ghost use Rattle.framing.specs.Shapes.{stressedShape};
 ghost use Rattle.framing.specs.Bounds.{Product, Bounded};
 
@@ -101,26 +103,25 @@ fn rule6(kind: u8, shear: u8, eta: u8, q: LineLoad, span: Span) -> Shape
 }
 
 // A longitudinal bears the sea at its height, the deeper members that of the whole draught.
-fn member_load(h: Header, kind: u8, m: Member) -> LineLoad
-    ensures { λ r. ⌜ r .0 ≡ memberLine h kind m ⌝ }
+fn member_load(h: Header, kind: u8, m: Member) -> Load
+    ensures { λ r. ⌜ toldLoad r ≡ memberNamed h kind m ⌝ }
 {
     if 6 <= kind {
-        return loads::line_load(loads::deep(h.draught, h.wave, h.two_runs), m.spacing);
+        return loads::deep(h.draught, h.wave, h.two_runs);
     }
-    loads::line_load(loads::sea(h.draught, h.wave, m.z), m.spacing)
+    loads::sea(h.draught, h.wave, m.z)
 }
 
-// The rules in their order; a later shape is built only where the earlier rules are met.
-fn member_verdict(h: Header, kind: u8, m: Member) -> Verdict
-    requires { ⌜ HeaderRanges h ⌝ }
-    requires { ⌜ MemberRanges kind m ⌝ }
+// The rules in their order, under the member's load; a later shape is built only where the earlier rules are met.
+fn member_verdict(h: Header, kind: u8, m: Member, load: Load) -> Verdict
+    requires { ⌜ HeaderRanges h × MemberRanges kind m × (load .pressure .0 ≡ memberLoad h kind m) ⌝ }
     ensures { λ v. ⌜ v ≡ verdictOf (memberRules h kind m) ⌝ }
 {
     let web = rule4(kind, h.length, m.factor, m.spacing);
     if !gauge::meets(web, m.thickness.0 as u32) {
         return verdict::failed(4, web, Thickness::HIGH as u32);
     }
-    let q = member_load(h, kind, m);
+    let q = loads::line_load(load, m.spacing);
     let bending = rule5(kind, m.bending, m.eta, m.stress, q, m.span);
     if !gauge::meets(bending, m.modulus.0) {
         return verdict::failed(5, bending, Modulus::HIGH);
@@ -135,13 +136,15 @@ fn member_verdict(h: Header, kind: u8, m: Member) -> Verdict
     }
 }
 
-// The verdict on a member, or why the header or the member's record is turned away.
+// The verdict on a member and what its pressure comes from, or why the header or the member's record is turned away.
 pub fn judge(h: Header, kind: u8, id: u16, m: Member) -> Judged
-    ensures { λ j. ⌜ toldJudged j ≡ judgedBy h (ofMember kind id m) (memberVerdict h kind m) ⌝ }
+    ensures { λ j. ⌜ toldJudged j ≡ judgedBy h (ofMember kind id m) (memberFinding h kind m) ⌝ }
 {
     let admitted = verdict::admitted_member(h, kind, id, m);
     if let Outcome::Refused(r) = admitted {
         return Judged::Refused(r);
     }
-    Judged::Verdict(member_verdict(h, kind, m))
+    let load = member_load(h, kind, m);
+    let source = load.source;
+    Judged::Verdict(member_verdict(h, kind, m, load), source)
 }

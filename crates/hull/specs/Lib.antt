@@ -1,4 +1,6 @@
 pub mod Hull
+pub mod Sources
 pub mod Cases
 pub mod Raising
 pub mod RaisingLaws
+pub mod SourceLaws

@@ -5,11 +5,11 @@ use sheet::Record;
 use verdict::Judged;
 ghost use mathlib.Core.Path.{_≡_};
 ghost use Rattle.verdict.specs.Judged.{toldJudged, judgedBy};
-ghost use Rattle.hull.specs.Hull.{verdict};
+ghost use Rattle.hull.specs.Hull.{finding};
 
-// The verdict, or why the header or the record is turned away.
+// The verdict and what the record's pressure comes from, or why the header or the record is turned away.
 pub fn judge(h: Header, r: Record) -> Judged
-    ensures { λ j. ⌜ toldJudged j ≡ judgedBy h r (verdict h r) ⌝ }
+    ensures { λ j. ⌜ toldJudged j ≡ judgedBy h r (finding h r) ⌝ }
 {
     let kind = r.kind;
     let id = r.id;

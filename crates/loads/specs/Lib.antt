@@ -1,3 +1,5 @@
 pub mod Loads
+pub mod Sources
 pub mod Only
 pub mod Bounds
+pub mod SourceLaws

@@ -11,10 +11,11 @@ use Rattle.quantity.specs.Range.{steelFactor}
 use Rattle.gauge.specs.Ceil.{ceil-most}
 use Rattle.gauge.specs.Least.{Monotone}
 use Rattle.gauge.specs.Monotone.{Rising, at-least, either, both, times, timed, squared, square}
+use Rattle.loads.specs.SourceLaws.{either-pressure, bottom-pressure, inner-pressure}
 use Rattle.sheet.specs.declared.Header.{Header}
 use Rattle.sheet.specs.declared.Plate.{Plate}
 use Rattle.sheet.specs.Kinds.{isLong, isBottom}
-use Rattle.plating.specs.Rules.{R, greatestK2, K2, allowance, rule1, rule2, rule3, isSecond, firstForm, secondForm, limit, plateLoad, asked1, asked2, asked3}
+use Rattle.plating.specs.Rules.{R, greatestK2, K2, allowance, rule1, rule2, rule3, isSecond, firstForm, secondForm, limit, plateLoad, plateNamed, asked1, asked2, asked3}
 use Rattle.plating.specs.Bounds.{greatestR}
 
 -- K2 is at least 1000 and at most the greatest
@@ -73,3 +74,10 @@ over-limit K S K2 R T k r =
 -- the inner bottom takes the first form always
 pub inner-first : (K S K2 R T : ℕ) → (rule3 3 K S K2 R T ≡ firstForm 3 S K2 R T) × (rule3 4 K S K2 R T ≡ firstForm 4 S K2 R T)
 inner-first K S K2 R T = (refl, refl)
+
+-- the pressure that names its source is the one that rule 2 asks of
+pub plate-pressure : (h : Header) (kind : ℕ) (p : Plate) → plateNamed h kind p .pressure ≡ plateLoad h kind p
+plate-pressure h kind p =
+    either-pressure (isBottom kind) _ _
+    (bottom-pressure (h .draught .0) (h .wave .0) (p .z .0) (p .ballast) (p .«tank_top» .0))
+    (inner-pressure (p .cargo) (p .z .0) (p .ballast) (p .«tank_top» .0))

@@ -9,11 +9,13 @@ use Rattle.sheet.specs.declared.Header.{Header}
 use Rattle.sheet.specs.declared.Plate.{Plate}
 use Rattle.sheet.specs.Kinds.{isLong, isBottom}
 use Rattle.loads.specs.Loads.{bottomLoad, innerLoad}
+use Rattle.loads.specs.Sources.{Named, bottomNamed, innerNamed}
 use Rattle.sheet.specs.declared.Record.{Record}
 use Rattle.sheet.specs.declared.Body.{Body}
 use Rattle.sheet.specs.declared.Body.the-variants.{Plate as isPlate, Member as isMember}
 use Rattle.verdict.specs.declared.Verdict.{Verdict}
 use Rattle.verdict.specs.Verdict.{Rule, pass, verdictOf}
+use Rattle.verdict.specs.Judged.{Finding}
 
 -- R = 1,000,000·M/ZB rounded up: the hull's stress at the bottom, thousandths of a N/mm²
 abbrev pub R : ℕ → ℕ → ℕ
@@ -74,6 +76,12 @@ plateLoad h kind p =
     cond (isBottom kind) (bottomLoad (h .draught .0) (h .wave .0) (p .z .0) (p .ballast) (p .«tank_top» .0))
     (innerLoad (p .cargo) (p .z .0) (p .ballast) (p .«tank_top» .0))
 
+-- the same, and what it comes from
+abbrev pub plateNamed : Header → ℕ → Plate → Named
+plateNamed h kind p =
+    cond (isBottom kind) (bottomNamed (h .draught .0) (h .wave .0) (p .z .0) (p .ballast) (p .«tank_top» .0))
+    (innerNamed (p .cargo) (p .z .0) (p .ballast) (p .«tank_top» .0))
+
 -- a rule of this number as the plate has to answer to it, with its thickness
 abbrev pub asked : Plate → ℕ → (ℕ → Bool) → Rule
 asked p number asks = record { number = number; asks = asks; top = thickness .high; has = p .thickness .0 }
@@ -95,3 +103,7 @@ plateRules h kind p = asked1 h kind p ∷ asked2 h kind p ∷ asked3 h kind p �
 -- the first of them that fails, with what it requires
 abbrev pub plateVerdict : Header → ℕ → Plate → Verdict
 plateVerdict h kind p = verdictOf (plateRules h kind p)
+
+-- the verdict, and what the plate's pressure comes from
+abbrev pub plateFinding : Header → ℕ → Plate → Finding
+plateFinding h kind p = record { verdict = plateVerdict h kind p; source = plateNamed h kind p .source }

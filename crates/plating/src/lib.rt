@@ -1,6 +1,6 @@
 // Plates of the bottom and the inner bottom: rules 1, 2 and 3.
 use gauge::Shape;
-use quantity::Pressure;
+use loads::Load;
 use quantity::Spacing;
 use quantity::Span;
 use quantity::SteelFactor;
@@ -16,13 +16,14 @@ ghost use Prim.Native.Nat.{ℕ, _-_, _*_, _^_, _≤_, _<_};
 ghost use lib.Dec.{leb};
 ghost use Rattle.quantity.specs.Range.{thickness, pressure, steelFactor};
 ghost use Rattle.gauge.specs.ShapeLaws.{Says};
+ghost use Rattle.loads.specs.Sources.{toldLoad};
 ghost use Rattle.sheet.specs.Kinds.{isLong, isBottom};
 ghost use Rattle.sheet.specs.Lines.{plateSpacing};
 ghost use Rattle.sheet.specs.Record.{ofPlate};
 ghost use Rattle.sheet.specs.Ranges.{HeaderRanges, PlateRanges};
 ghost use Rattle.verdict.specs.Verdict.{verdictOf};
 ghost use Rattle.verdict.specs.Judged.{toldJudged, judgedBy};
-ghost use Rattle.plating.specs.Rules.{R, K2, allowance, rule1, rule2, isSecond, firstForm, secondForm, rule3, plateLoad, plateRules, plateVerdict};
+ghost use Rattle.plating.specs.Rules.{R, K2, allowance, rule1, rule2, isSecond, firstForm, secondForm, rule3, plateLoad, plateNamed, plateRules, plateFinding};
 ghost use Rattle.plating.specs.Bounds.{Panel, greatestR};
 
 // The stress R at which the hull's bending leaves nothing for the plate's own.
@@ -98,13 +99,13 @@ fn rule1(kind: u8, length: Span, factor: SteelFactor, spacing: Spacing) -> Shape
 }
 
 // Rule 2: what the pressure asks.
-fn rule2(kind: u8, factor: SteelFactor, spacing: Spacing, load: Pressure) -> Shape
-    requires { ⌜ (factor .0 ≤ steelFactor .high) × (spacing .0 ≤ plateSpacing .high) × (load .0 ≤ pressure .high) ⌝ }
-    ensures { λ d. ⌜ Says d (thickness .high) (rule2 kind (factor .0) (spacing .0) (load .0)) ⌝ }
+fn rule2(kind: u8, factor: SteelFactor, spacing: Spacing, load: Load) -> Shape
+    requires { ⌜ (factor .0 ≤ steelFactor .high) × (spacing .0 ≤ plateSpacing .high) × (load .pressure .0 ≤ pressure .high) ⌝ }
+    ensures { λ d. ⌜ Says d (thickness .high) (rule2 kind (factor .0) (spacing .0) (load .pressure .0)) ⌝ }
 {
     let k = factor.0 as u64;
     let s = spacing.0 as u64;
-    let n = s * s * k * load.0;
+    let n = s * s * k * load.pressure.0;
     if is_long(kind) {
         return square(625000000000, 9 * n);
     }
@@ -187,9 +188,9 @@ fn rule3(kind: u8, factor: SteelFactor, spacing: Spacing, b1: Span, b2: Span, r:
     first_form(kind, spacing, b1, b2, r)
 }
 
-// P on the plate.
-fn load(h: Header, kind: u8, p: Plate) -> Pressure
-    ensures { λ r. ⌜ r .0 ≡ plateLoad h kind p ⌝ }
+// P on the plate, and what it comes from.
+fn load(h: Header, kind: u8, p: Plate) -> Load
+    ensures { λ r. ⌜ toldLoad r ≡ plateNamed h kind p ⌝ }
 {
     if is_bottom(kind) {
         return loads::bottom(h.draught, h.wave, p.z, p.ballast, p.tank_top);
@@ -197,9 +198,9 @@ fn load(h: Header, kind: u8, p: Plate) -> Pressure
     loads::inner(p.cargo, p.z, p.ballast, p.tank_top)
 }
 
-// The first rule that the plate fails, and the thickness that this rule requires. A later rule is formed only where the earlier ones pass.
-fn plate_verdict(h: Header, kind: u8, p: Plate) -> Verdict
-    requires { ⌜ HeaderRanges h × PlateRanges kind p ⌝ }
+// The first rule that the plate fails under its load, and the thickness that this rule requires. A later rule is formed only where the earlier ones pass.
+fn plate_verdict(h: Header, kind: u8, p: Plate, load: Load) -> Verdict
+    requires { ⌜ HeaderRanges h × PlateRanges kind p × (load .pressure .0 ≡ plateLoad h kind p) ⌝ }
     ensures { λ v. ⌜ v ≡ verdictOf (plateRules h kind p) ⌝ }
 {
     let top = Thickness::HIGH as u32;
@@ -208,7 +209,7 @@ fn plate_verdict(h: Header, kind: u8, p: Plate) -> Verdict
     if !gauge::meets(d1, t) {
         return verdict::failed(1, d1, top);
     }
-    let d2 = rule2(kind, p.factor, p.spacing, load(h, kind, p));
+    let d2 = rule2(kind, p.factor, p.spacing, load);
     if !gauge::meets(d2, t) {
         return verdict::failed(2, d2, top);
     }
@@ -223,13 +224,15 @@ fn plate_verdict(h: Header, kind: u8, p: Plate) -> Verdict
     }
 }
 
-// The verdict on a plate, or why the header or the plate's record is turned away.
+// The verdict on a plate and what its pressure comes from, or why the header or the plate's record is turned away.
 pub fn judge(h: Header, kind: u8, id: u16, p: Plate) -> Judged
-    ensures { λ j. ⌜ toldJudged j ≡ judgedBy h (ofPlate kind id p) (plateVerdict h kind p) ⌝ }
+    ensures { λ j. ⌜ toldJudged j ≡ judgedBy h (ofPlate kind id p) (plateFinding h kind p) ⌝ }
 {
     let admitted = verdict::admitted_plate(h, kind, id, p);
     if let Outcome::Refused(r) = admitted {
         return Judged::Refused(r);
     }
-    Judged::Verdict(plate_verdict(h, kind, p))
+    let load = load(h, kind, p);
+    let source = load.source;
+    Judged::Verdict(plate_verdict(h, kind, p, load), source)
 }

@@ -9,19 +9,20 @@ use lib.ListN.{length, length-append}
 use Rattle.checker.specs.Check.{part}
 use Rattle.decimal.specs.Laid.{laid, Laid}
 use Rattle.decimal.specs.LaidLaws.{laid-length, laid-laid, laid-none}
+use Rattle.report.specs.Page.{longestLine}
 use Rattle.report.specs.Pieces.{verdictText, verdictsText}
 use Rattle.report.specs.PiecesLaws.{verdict-most, verdicts-most}
 
 -- of n lines, those from i on are left, and go to `at` on
 pub record Putting (out : List ℕ) (n : ℕ) (page₀ page : List ℕ) (at i : ℕ) : Type 0 where
   pub upto : i ≤ n
-  pub short : at ≤ 14 * i
-  pub room : 14 * n ≤ length page
+  pub short : at ≤ longestLine * i
+  pub room : longestLine * n ≤ length page
   pub same : length page ≡ length page₀
   pub place : at + length (verdictsText out i (n - i)) ≡ length (verdictsText out 0 n)
   pub bytes : laid page at (verdictsText out i (n - i)) ≡ laid page₀ 0 (verdictsText out 0 n)
 
-pub begin : {out : List ℕ} {n : ℕ} {page : List ℕ} → 14 * n ≤ length page → Putting out n page page 0 0
+pub begin : {out : List ℕ} {n : ℕ} {page : List ℕ} → longestLine * n ≤ length page → Putting out n page page 0 0
 begin {out} {n} {page} l = record {
   upto = omega arith;
   short = omega arith;

@@ -13,9 +13,10 @@ use Rattle.decimal.specs.LineLaws.{pieces-first, line-end, line-without, line-b
 use Rattle.sheet.specs.Refusals.{Answer, given, refused}
 use Rattle.sheet.specs.RefusalLaws.{given-same}
 use Rattle.checker.specs.declared.Entry.{Entry}
+use Rattle.checker.specs.Entry.{entryValues}
 use Rattle.checker.specs.Check.{_then_, Sheet, sheetIn, verdicts, failures}
 use Rattle.checker.specs.Unjudged.{room}
-use Rattle.report.specs.Text.{entryNumbers, linesOf, printed, line, linesText, textBy, textOf}
+use Rattle.report.specs.Text.{linesOf, printed, line, linesText, textBy, textOf}
 use Rattle.report.specs.Reading.{linesIn, refusalIn, answerIn}
 
 -- ---- the lines
@@ -65,7 +66,7 @@ refusal-answer k p =
     let one : line (k ∷ p ∷ []) ≡ linesText ((k ∷ p ∷ []) ∷ []) = sym (append-nil (line (k ∷ p ∷ []))) in
     ap (λ (t : List ℕ). refusalIn (linesIn t)) one ∙ ap refusalIn (lines-back (more {n = k} {ns = p ∷ []} last))
 
-filled-lines : (es : List Entry) (n failed : ℕ) → Filled (map entryNumbers es ++ ((n ∷ failed ∷ []) ∷ []))
+filled-lines : (es : List Entry) (n failed : ℕ) → Filled (map entryValues es ++ ((n ∷ failed ∷ []) ∷ []))
 filled-lines [] n failed = more last
 filled-lines (e ∷ es) n failed = more (filled-lines es n failed)
 
@@ -84,21 +85,22 @@ same-text s t e = sym (text-back s) ∙ ap answerIn e ∙ text-back t
 
 -- ---- and the same verdicts
 
-one-left : (x : List ℕ) (es : List Entry) (a y : List ℕ) → _≡_ {A = List (List ℕ)} (x ∷ []) (a ∷ (map entryNumbers es ++ (y ∷ []))) → ⊥
+one-left : (x : List ℕ) (es : List Entry) (a y : List ℕ) → _≡_ {A = List (List ℕ)} (x ∷ []) (a ∷ (map entryValues es ++ (y ∷ []))) → ⊥
 one-left x [] a y e = let z : _≡_ {A = ℕ} 0 1 = cc in omega arith
 one-left x (f ∷ es) a y e = let z : _≡_ {A = ℕ} 0 1 = cc in omega arith
 
-entries-same : (es fs : List Entry) (x y : List ℕ) → map entryNumbers es ++ (x ∷ []) ≡ map entryNumbers fs ++ (y ∷ []) → (es ≡ fs) × (x ≡ y)
+entries-same : (es fs : List Entry) (x y : List ℕ) → map entryValues es ++ (x ∷ []) ≡ map entryValues fs ++ (y ∷ []) → (es ≡ fs) × (x ≡ y)
 entries-same [] [] x y e = (refl, cc)
-entries-same [] (f ∷ fs) x y e = absurd (one-left x fs (entryNumbers f) y e)
-entries-same (d ∷ es) [] x y e = absurd (one-left y es (entryNumbers d) x (sym e))
+entries-same [] (f ∷ fs) x y e = absurd (one-left x fs (entryValues f) y e)
+entries-same (d ∷ es) [] x y e = absurd (one-left y es (entryValues d) x (sym e))
 entries-same (d ∷ es) (f ∷ fs) x y e =
-    let tails : map entryNumbers es ++ (x ∷ []) ≡ map entryNumbers fs ++ (y ∷ []) = cc in
+    let tails : map entryValues es ++ (x ∷ []) ≡ map entryValues fs ++ (y ∷ []) = cc in
     let rest = entries-same es fs x y tails in
     let one : d .id ≡ f .id = cc in
     let two : d .rule ≡ f .rule = cc in
     let three : d .required ≡ f .required = cc in
-    let same : d ≡ f = ap₂ {C = Entry} (λ (a : ℕ) (bc : ℕ × ℕ). record { id = a; rule = bc .0; required = bc .1 }) one (ap₂ {C = ℕ × ℕ} (λ b c. (b, c)) two three) in
+    let four : d .source ≡ f .source = cc in
+    let same : d ≡ f = ap₂ {C = Entry} (λ (a b : ℕ × ℕ). record { id = a .0; rule = a .1; required = b .0; source = b .1 }) (ap₂ {C = ℕ × ℕ} (λ a b. (a, b)) one two) (ap₂ {C = ℕ × ℕ} (λ a b. (a, b)) three four) in
     (ap₂ {C = List Entry} (λ a b. a ∷ b) same (rest .0), rest .1)
 
 pub same-verdicts : (s t : List ℕ) (a b : Sheet) → sheetIn s room ≡ given a → sheetIn t room ≡ given b → textOf s ≡ textOf t → verdicts a ≡ verdicts b

@@ -14,8 +14,8 @@ pub nothing-text : textOf [] ≡ (114 ∷ 101 ∷ 102 ∷ 117 ∷ 115 ∷ 101 �
 unfolding textOf printed textBy lineOf moreOf decimalOf digitsIn sheetIn headerFor readHeader _then_
 nothing-text = refl
 
--- a verdict and the totals: `1000 6 100000`, `400 0`
-pub lines-text : textBy (given ((1000 ∷ 6 ∷ 100_000 ∷ []) ∷ (400 ∷ 0 ∷ []) ∷ []))
-    ≡ (49 ∷ 48 ∷ 48 ∷ 48 ∷ 32 ∷ 54 ∷ 32 ∷ 49 ∷ 48 ∷ 48 ∷ 48 ∷ 48 ∷ 48 ∷ 10 ∷ 52 ∷ 48 ∷ 48 ∷ 32 ∷ 48 ∷ 10 ∷ [])
+-- a verdict and the totals: `1000 6 100000 3`, `400 0`
+pub lines-text : textBy (given ((1000 ∷ 6 ∷ 100_000 ∷ 3 ∷ []) ∷ (400 ∷ 0 ∷ []) ∷ []))
+    ≡ (49 ∷ 48 ∷ 48 ∷ 48 ∷ 32 ∷ 54 ∷ 32 ∷ 49 ∷ 48 ∷ 48 ∷ 48 ∷ 48 ∷ 48 ∷ 32 ∷ 51 ∷ 10 ∷ 52 ∷ 48 ∷ 48 ∷ 32 ∷ 48 ∷ 10 ∷ [])
 unfolding textBy linesText lineOf moreOf decimalOf digitsIn
 lines-text = refl

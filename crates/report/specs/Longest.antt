@@ -11,25 +11,26 @@ use Rattle.sheet.specs.declared.Record.{Record}
 use Rattle.sheet.specs.Refusals.{Answer, given, refused}
 use Rattle.sheet.specs.RecordBack.{record-read-fine}
 use Rattle.checker.specs.Check.{_then_, recordPart, Sheet, sheetIn, entryOf, verdicts, failures}
+use Rattle.checker.specs.Entry.{entryValues}
 use Rattle.checker.specs.Unjudged.{room}
 use Rattle.checker.specs.CheckLaws.{Taken, next, sheet-whole}
 use Rattle.checker.specs.Sound.{entry-sound}
 use Rattle.checker.specs.Longer.{enough, sheet-cut}
 use Rattle.checker.specs.Bounds.{Refusable, sheet-told, sheet-counts}
-use Rattle.report.specs.Text.{entryNumbers, linesOf, printed, line, linesText, refusedWord, textBy, textOf}
+use Rattle.report.specs.Text.{linesOf, printed, line, linesText, refusedWord, textBy, textOf}
 use Rattle.report.specs.TextLaws.{pair-most, entry-most, lines-last}
 use Rattle.report.specs.declared.Told.{Told}
-use Rattle.report.specs.Page.{longest, toldLength, Tells}
+use Rattle.report.specs.Page.{longestLine, longest, toldLength, Tells}
 use Rattle.report.specs.PageLaws.{told-all}
 
 -- ---- the longest
 
-lines-most : (h : Header) (s : List ℕ) (i before : ℕ) (rs : List Record) → Taken s i before rs → length (linesText (map entryNumbers (map (entryOf h) rs))) ≤ 14 * length rs
+lines-most : (h : Header) (s : List ℕ) (i before : ℕ) (rs : List Record) → Taken s i before rs → length (linesText (map entryValues (map (entryOf h) rs))) ≤ longestLine * length rs
 unfolding linesText
 lines-most h s i before [] t = omega arith
 lines-most h s i before (r ∷ rs) (next e o t) =
-    let x = line (entryNumbers (entryOf h r)) in
-    let rest = linesText (map entryNumbers (map (entryOf h) rs)) in
+    let x = line (entryValues (entryOf h r)) in
+    let rest = linesText (map entryValues (map (entryOf h) rs)) in
     omega (arith, length-append x rest, entry-most (entryOf h r) (entry-sound h r (record-read-fine i (recordPart s i) r e)), lines-most h s (i + 1) (r .id) rs t)
 
 sheet-most : (s : List ℕ) (t : Sheet) → sheetIn s room ≡ given t → length (linesText (linesOf t)) ≤ longest
@@ -37,11 +38,11 @@ unfolding verdicts
 sheet-most s t e =
     let w = sheet-whole s room t e in
     let k = sheet-counts s room t e in
-    let vs = linesText (map entryNumbers (verdicts t)) in
+    let vs = linesText (map entryValues (verdicts t)) in
     let totals = t .header .count ∷ failures (verdicts t) ∷ [] in
     omega (
       arith,
-      ap length (lines-last (map entryNumbers (verdicts t)) totals),
+      ap length (lines-last (map entryValues (verdicts t)) totals),
       length-append vs (line totals),
       lines-most (t .header) s 0 0 (t .records) (w .records),
       w .number,

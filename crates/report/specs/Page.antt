@@ -12,9 +12,13 @@ use Rattle.report.specs.declared.Told.{Told}
 use Rattle.report.specs.declared.Told.the-variants.{Length, Refused as notTold}
 use Rattle.report.specs.Text.{textOf}
 
--- the length of the longest text: 400 lines of 14 bytes for the verdicts, and one of 8
+-- the length of a verdict's longest line: four digits, one, six and one, and what stands after each
+abbrev pub longestLine : ℕ
+longestLine = 16
+
+-- that of the longest text: 400 such lines, and one of 8 bytes
 abbrev pub longest : ℕ
-longest = 5608
+longest = 6408
 
 -- so many bytes of 0
 abbrev pub blank : ℕ → List ℕ

@@ -7,15 +7,15 @@ use Rattle.sheet.specs.Refusals.{Answer, given, refused, numberOf, placeOf}
 use Rattle.checker.specs.declared.Entry.{Entry}
 use Rattle.checker.specs.declared.Checked.{Checked}
 use Rattle.checker.specs.declared.Checked.the-variants.{Done, Refused as notDone}
-use Rattle.checker.specs.Entry.{readEntry}
+use Rattle.checker.specs.Entry.{entryValues, readEntry}
 use Rattle.checker.specs.Check.{part}
-use Rattle.report.specs.Text.{entryNumbers, line, refusedWord}
+use Rattle.report.specs.Text.{line, refusedWord}
 use Rattle.report.specs.declared.Told.{Told}
 use Rattle.report.specs.Page.{longest, Tells}
 
 -- the line of a verdict that was read; none where none was
 abbrev pub readText : Answer Entry → List ℕ
-readText (given e) = line (entryNumbers e)
+readText (given e) = line (entryValues e)
 readText (refused k p) = []
 
 -- the line of the verdict in four bytes

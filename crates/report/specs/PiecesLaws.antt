@@ -16,20 +16,21 @@ use Rattle.sheet.specs.RefusalLaws.{given-refused, refused-number, refused-plac
 use Rattle.checker.specs.declared.Entry.{Entry}
 use Rattle.checker.specs.declared.Checked.{Checked}
 use Rattle.checker.specs.declared.Checked.the-variants.{Done, Refused as notDone}
-use Rattle.checker.specs.Entry.{readEntry}
+use Rattle.checker.specs.Entry.{entryValues, readEntry}
 use Rattle.checker.specs.EntryLaws.{read-sound}
 use Rattle.checker.specs.Check.{_then_, part, recordOf, Sheet, sheetIn, entryOf, verdicts, failures, Totals, answerOf, outputOf, Checks}
 use Rattle.checker.specs.Unjudged.{room}
 use Rattle.checker.specs.CheckLaws.{Taken, next, sheet-whole, verdict-read, answer-sheet}
 use Rattle.checker.specs.Bounds.{sheet-counts}
-use Rattle.report.specs.Text.{entryNumbers, linesOf, printed, line, linesText, refusedWord, textBy, textOf}
+use Rattle.report.specs.Text.{linesOf, printed, line, linesText, refusedWord, textBy, textOf}
+use Rattle.report.specs.Page.{longestLine}
 use Rattle.report.specs.TextLaws.{entry-most, lines-last}
 use Rattle.report.specs.Pieces.{readText, verdictText, verdictsText, refusalText, checkedText, Counted}
 
 -- ---- how long they are
 
 -- the line of a verdict that was read, and of none
-pub verdict-line : (b : List ℕ) (e : Entry) → given e ≡ readEntry b → line (entryNumbers e) ≡ verdictText b
+pub verdict-line : (b : List ℕ) (e : Entry) → given e ≡ readEntry b → line (entryValues e) ≡ verdictText b
 unfolding verdictText
 verdict-line b e f = ap readText f
 
@@ -37,15 +38,15 @@ pub verdict-none : (b : List ℕ) (k p : ℕ) → refused k p ≡ readEntry b �
 unfolding verdictText
 verdict-none b k p f = ap readText f
 
-pub verdict-most : (b : List ℕ) → length (verdictText b) ≤ 14
+pub verdict-most : (b : List ℕ) → length (verdictText b) ≤ longestLine
 unfolding verdictText
 verdict-most b = go (readEntry b) refl
   where
-    go : (x : Answer Entry) → readEntry b ≡ x → length (readText x) ≤ 14
+    go : (x : Answer Entry) → readEntry b ≡ x → length (readText x) ≤ longestLine
     go (given e) f = entry-most e (read-sound b e f)
     go (refused k p) f = omega arith
 
-pub verdicts-most : (out : List ℕ) (i count : ℕ) → length (verdictsText out i count) ≤ 14 * count
+pub verdicts-most : (out : List ℕ) (i count : ℕ) → length (verdictsText out i count) ≤ longestLine * count
 unfolding verdictsText
 verdicts-most out i zero = omega arith
 verdicts-most out i (suc count) =
@@ -83,7 +84,7 @@ four out i = let e : 4 * i + 4 - 4 * i ≡ 4 = omega arith in ap (λ (k : ℕ). 
 
 -- each verdict's line, for the records from i on of n
 lines-taken : (h : Header) (s out : List ℕ) (n i before : ℕ) (rs : List Record) → ((j : ℕ) → j < n → (r : Record) → recordOf s j ≡ given r → readEntry (take 4 (drop (4 * j) out)) ≡ given (entryOf h r))
-    → i + length rs ≤ n → Taken s i before rs → verdictsText out i (length rs) ≡ linesText (map entryNumbers (map (entryOf h) rs))
+    → i + length rs ≤ n → Taken s i before rs → verdictsText out i (length rs) ≡ linesText (map entryValues (map (entryOf h) rs))
 unfolding verdictsText verdictText linesText
 lines-taken h s out n i before [] read l t = refl
 lines-taken h s out n i before (r ∷ rs) read l (next e o t) =
@@ -92,7 +93,7 @@ lines-taken h s out n i before (r ∷ rs) read l (next e o t) =
     (lines-taken h s out n (i + 1) (r .id) rs read (omega arith) t)
 
 module _ (s out : List ℕ) (t : Sheet) (given-t : sheetIn s (length out) ≡ given t) where
-  lines-verdicts : verdictsText (outputOf s out) 0 (t .header .count) ≡ linesText (map entryNumbers (verdicts t))
+  lines-verdicts : verdictsText (outputOf s out) 0 (t .header .count) ≡ linesText (map entryValues (verdicts t))
   unfolding verdicts
   lines-verdicts =
       let w = sheet-whole s (length out) t given-t in
@@ -128,6 +129,6 @@ text-checked s out after (Done n failed) c l =
     let totals : _≡_ {A = List ℕ} (n ∷ failed ∷ []) (t .header .count ∷ failures (verdicts t) ∷ []) = ap (λ (w : Totals). w .n ∷ w .failed ∷ []) (a .2) in
     ap₂ {C = List ℕ} (λ o k. verdictsText o 0 k ++ line (n ∷ failed ∷ [])) (c .bytes) (ap (λ (w : Totals). w .n) (a .2))
     ∙ ap₂ {C = List ℕ} (λ x w. x ++ line w) (lines-verdicts s out t (a .1)) totals
-    ∙ sym (lines-last (map entryNumbers (verdicts t)) (t .header .count ∷ failures (verdicts t) ∷ []))
+    ∙ sym (lines-last (map entryValues (verdicts t)) (t .header .count ∷ failures (verdicts t) ∷ []))
     ∙ sym (printed-given s t (ap (sheetIn s) (sym l) ∙ a .1))
 text-checked s out after (notDone r) c l = sym (printed-refused s (numberOf r) (placeOf r) (ap (sheetIn s) (sym l) ∙ answer-refused s (length out) (numberOf r) (placeOf r) (sym (c .answer))))

@@ -3,19 +3,15 @@ use Prim.Native.Nat.{ℕ}
 use mathlib.Core.List.{List, [], _∷_, _++_, map}
 use Rattle.decimal.specs.Line.{lineOf}
 use Rattle.sheet.specs.Refusals.{Answer, given, refused}
-use Rattle.checker.specs.declared.Entry.{Entry}
+use Rattle.checker.specs.Entry.{entryValues}
 use Rattle.checker.specs.Check.{_then_, Sheet, sheetIn, verdicts, failures}
 use Rattle.checker.specs.Unjudged.{room}
 
 -- ---- the numbers
 
--- the numbers of a verdict's line
-abbrev pub entryNumbers : Entry → List ℕ
-entryNumbers e = e .id ∷ e .rule ∷ e .required ∷ []
-
--- a line for each verdict, and one with n and the failures
+-- a line for each verdict, with the values of its fields, and one with n and the failures
 abbrev pub linesOf : Sheet → List (List ℕ)
-linesOf t = map entryNumbers (verdicts t) ++ ((t .header .count ∷ failures (verdicts t) ∷ []) ∷ [])
+linesOf t = map entryValues (verdicts t) ++ ((t .header .count ∷ failures (verdicts t) ∷ []) ∷ [])
 
 -- the lines that a sheet is answered with, or the refusal's number and place
 unfoldable pub printed : List ℕ → Answer (List (List ℕ))

@@ -9,9 +9,10 @@ use Rattle.decimal.specs.Decimal.{decimalOf}
 use Rattle.decimal.specs.DecimalLaws.{decimal-most}
 use Rattle.decimal.specs.LineLaws.{line-one, line-more}
 use Rattle.checker.specs.declared.Entry.{Entry}
-use Rattle.checker.specs.Entry.{entryFault}
+use Rattle.checker.specs.Entry.{entryValues, entryFault}
 use Rattle.checker.specs.EntryLaws.{entry-fit}
-use Rattle.report.specs.Text.{entryNumbers, line, linesText}
+use Rattle.report.specs.Text.{line, linesText}
+use Rattle.report.specs.Page.{longestLine}
 
 -- ---- how long a line is
 
@@ -28,11 +29,18 @@ more-length n m ns =
 pub pair-most : (j k m n : ℕ) → m < 10 ^ suc j → n < 10 ^ suc k → length (line (m ∷ n ∷ [])) ≤ suc j + suc k + 2
 pair-most j k m n a b = omega (arith, more-length m n [], one-length n, decimal-most j m a, decimal-most k n b)
 
--- a verdict: at most four digits, one and six
-pub entry-most : (e : Entry) → entryFault e 0 ≡ 0 → length (line (entryNumbers e)) ≤ 14
+-- a verdict's line
+pub entry-most : (e : Entry) → entryFault e ≡ 0 → length (line (entryValues e)) ≤ longestLine
 entry-most e z =
     let fit = entry-fit e z in
-    omega (arith, more-length (e .id) (e .rule) (e .required ∷ []), decimal-most 3 (e .id) (omega (arith, fit .0)), pair-most 0 5 (e .rule) (e .required) (omega (arith, fit .1 .0)) (omega (arith, fit .1 .1 .0)))
+    omega (
+      arith,
+      more-length (e .id) (e .rule) (e .required ∷ e .source ∷ []),
+      decimal-most 3 (e .id) (omega (arith, fit .0)),
+      more-length (e .rule) (e .required) (e .source ∷ []),
+      decimal-most 0 (e .rule) (omega (arith, fit .1 .0)),
+      pair-most 5 0 (e .required) (e .source) (omega (arith, fit .1 .1 .0)) (omega (arith, fit .1 .1 .1 .0)),
+    )
 
 -- ---- one after another
 

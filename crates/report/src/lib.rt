@@ -1,5 +1,5 @@
-// What the programs print of a sheet, as text: a line with id, rule and required for each record, then one with n and the failures; of a sheet that is
-// turned away the refusal's number and place.
+// What the programs print of a sheet, as text: a line with id, rule, required and source for each record, then one with n and the failures; of a
+// sheet that is turned away the refusal's number and place.
 use checker::Checked;
 use checker::Entry;
 use checker::EntryRead;
@@ -9,14 +9,16 @@ ghost use Prim.Native.Nat.{_+_, _*_, _≤_};
 ghost use lib.ListN.{length};
 ghost use Rattle.decimal.specs.Decimal.{decimalOf};
 ghost use Rattle.decimal.specs.Laid.{Laid};
-ghost use Rattle.report.specs.Text.{entryNumbers, line, textOf};
-ghost use Rattle.report.specs.Page.{Tells, Pages};
+ghost use Rattle.decimal.specs.Line.{lineOf};
+ghost use Rattle.checker.specs.Entry.{entryValues};
+ghost use Rattle.report.specs.Text.{line, textOf};
+ghost use Rattle.report.specs.Page.{longestLine, Tells, Pages};
 ghost use Rattle.report.specs.Pieces.{verdictText, verdictsText, refusalText, checkedText, Roomy, TellsRefusal};
 
-// Room for the verdicts of the longest sheet, and for its text: 400 lines of 14 bytes, and one of 8.
+// Room for the verdicts of the longest sheet, and for its text: 400 lines of 16 bytes, and one of 8.
 const VERDICTS: usize = 1600;
 
-const LONGEST: usize = 5608;
+const LONGEST: usize = 6408;
 
 // Room for a refusal's line: the word, and numbers of at most two digits and ten.
 const REFUSAL: usize = 22;
@@ -40,27 +42,27 @@ fn put_number(page: &mut [u8], at: usize, n: u32, after: &[u8]) -> usize
     at + decimal::write_number(n, after, &mut page[at..])
 }
 
-// A line of two numbers.
-fn put_pair(page: &mut [u8], at: usize, m: u32, n: u32) -> usize
-    requires { ⌜ at + length (line (m ∷ n ∷ [])) ≤ length (now page) ⌝ }
-    ensures { λ r. ⌜ Laid (now (page .entry)) at (line (m ∷ n ∷ [])) r (now (page .exit)) ⌝ }
+// Two numbers, and what comes after them.
+fn put_pair(page: &mut [u8], at: usize, m: u32, n: u32, after: &[u8]) -> usize
+    requires { ⌜ at + length (lineOf 32 (now after) (m ∷ n ∷ [])) ≤ length (now page) ⌝ }
+    ensures { λ r. ⌜ Laid (now (page .entry)) at (lineOf 32 (now (after .entry)) (m ∷ n ∷ [])) r (now (page .exit)) ⌝ }
 {
     let next = put_number(page, at, m, b" ");
-    put_number(page, next, n, b"\n")
+    put_number(page, next, n, after)
 }
 
 // A verdict's line.
 fn put_entry(page: &mut [u8], at: usize, e: Entry) -> usize
-    requires { ⌜ at + length (line (entryNumbers e)) ≤ length (now page) ⌝ }
-    ensures { λ r. ⌜ Laid (now (page .entry)) at (line (entryNumbers e)) r (now (page .exit)) ⌝ }
+    requires { ⌜ at + length (line (entryValues e)) ≤ length (now page) ⌝ }
+    ensures { λ r. ⌜ Laid (now (page .entry)) at (line (entryValues e)) r (now (page .exit)) ⌝ }
 {
-    let next = put_number(page, at, e.id as u32, b" ");
-    put_pair(page, next, e.rule as u32, e.required)
+    let next = put_pair(page, at, e.id as u32, e.rule as u32, b" ");
+    put_pair(page, next, e.required, e.source as u32, b"\n")
 }
 
 // The line of the verdict in four bytes of the output. In the output of a check there always is one.
 fn put_verdict(verdict: &[u8], page: &mut [u8], at: usize) -> usize
-    requires { ⌜ at + 14 ≤ length (now page) ⌝ }
+    requires { ⌜ at + longestLine ≤ length (now page) ⌝ }
     ensures { λ r. ⌜ Laid (now (page .entry)) at (verdictText (now (verdict .entry))) r (now (page .exit)) ⌝ }
 {
     let read = checker::read_verdict(verdict);
@@ -71,7 +73,7 @@ fn put_verdict(verdict: &[u8], page: &mut [u8], at: usize) -> usize
 }
 
 fn put_verdicts(out: &[u8], n: u16, page: &mut [u8]) -> usize
-    requires { ⌜ (4 * n ≤ length (now out)) × (14 * n ≤ length (now page)) ⌝ }
+    requires { ⌜ (4 * n ≤ length (now out)) × (longestLine * n ≤ length (now page)) ⌝ }
     ensures { λ r. ⌜ Laid (now (page .entry)) 0 (verdictsText (now (out .entry)) 0 n) r (now (page .exit)) ⌝ }
 {
     let mut at: usize = 0;
@@ -92,7 +94,7 @@ fn put_refusal(page: &mut [u8], r: Refusal) -> usize
     let number = r.number() as u32;
     let place = r.place();
     let at = decimal::write_text(b"refused ", page);
-    put_pair(page, at, number, place)
+    put_pair(page, at, number, place, b"\n")
 }
 
 // The text of what a check answered, with the output that it left.
@@ -104,7 +106,7 @@ fn put_checked(checked: Checked, out: &[u8], page: &mut [u8]) -> usize
         Checked::Refused(r) => put_refusal(page, r),
         Checked::Done { n, failed } => {
             let at = put_verdicts(out, n, page);
-            put_pair(page, at, n as u32, failed as u32)
+            put_pair(page, at, n as u32, failed as u32, b"\n")
         }
     }
 }

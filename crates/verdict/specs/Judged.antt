@@ -5,13 +5,19 @@ use Rattle.sheet.specs.declared.Record.{Record}
 use Rattle.sheet.specs.Header.{headerFault}
 use Rattle.sheet.specs.Record.{recordFault}
 use Rattle.sheet.specs.Refusals.{Answer, given, told, headerRefused, recordRefused}
+use Rattle.loads.specs.Sources.{numberOf}
 use Rattle.verdict.specs.declared.Verdict.{Verdict}
 use Rattle.verdict.specs.declared.Judged.{Judged}
 use Rattle.verdict.specs.declared.Judged.the-variants.{Verdict as isVerdict, Refused as notJudged}
 
+-- the verdict on a record, and the number of what its pressure comes from
+pub record Finding : Type 0 where
+  pub verdict : Verdict
+  pub source : ℕ
+
 -- what the code's answer says
-abbrev pub toldJudged : Judged → Answer Verdict
-toldJudged (isVerdict v) = given v
+abbrev pub toldJudged : Judged → Answer Finding
+toldJudged (isVerdict v s) = given (record { verdict = v; source = numberOf s })
 toldJudged (notJudged r) = told r
 
 -- 2 and 3 for the header, then 6 and 7 for the record as record 0, and else what is given

@@ -11,10 +11,10 @@ use Rattle.sheet.specs.Header.{headerFault}
 use Rattle.sheet.specs.Record.{recordFault}
 use Rattle.sheet.specs.Refusals.{Answer, given, refused, headerRefused, recordRefused}
 use Rattle.sheet.specs.RefusalLaws.{given-refused, refusal-only, refused-number, refused-place, given-same, by-none}
-use Rattle.verdict.specs.declared.Verdict.{Verdict}
+use Rattle.loads.specs.Only.{source-only}
 use Rattle.verdict.specs.declared.Judged.{Judged}
 use Rattle.verdict.specs.declared.Judged.the-variants.{Verdict as isVerdict, Refused as notJudged}
-use Rattle.verdict.specs.Judged.{toldJudged, judgedBy}
+use Rattle.verdict.specs.Judged.{Finding, toldJudged, judgedBy}
 
 -- neither the header nor the record is at fault
 pub record Sound (h : Header) (r : Record) : Type 0 where
@@ -62,10 +62,12 @@ module _ (h : Header) (r : Record) where
       tested-refused (eqb (headerFault h 0) 0) (eqb (headerFault h 0) 1) (eqb (recordFault r 0) 0) (eqb (recordFault r 0) 1) (headerFault h 0) (32 * 0 + recordFault r 0) a b k p e
 
 -- two answers that say the same are equal
-pub judged-only : (a : Answer Verdict) (i j : Judged) → toldJudged i ≡ a → toldJudged j ≡ a → i ≡ j
-judged-only a (isVerdict v) (isVerdict w) p q = ap isVerdict (given-same (p ∙ sym q))
-judged-only a (isVerdict v) (notJudged s) p q = given-refused (p ∙ sym q)
-judged-only a (notJudged r) (isVerdict w) p q = given-refused (q ∙ sym p)
+pub judged-only : (a : Answer Finding) (i j : Judged) → toldJudged i ≡ a → toldJudged j ≡ a → i ≡ j
+judged-only a (isVerdict v s) (isVerdict w t) p q =
+    let e = given-same (p ∙ sym q) in
+    ap₂ isVerdict (ap (λ (f : Finding). f .verdict) e) (source-only s t (ap (λ (f : Finding). f .source) e))
+judged-only a (isVerdict v s) (notJudged r) p q = given-refused (p ∙ sym q)
+judged-only a (notJudged r) (isVerdict w t) p q = given-refused (q ∙ sym p)
 judged-only a (notJudged r) (notJudged s) p q = ap notJudged (refusal-only r s (refused-number (p ∙ sym q)) (refused-place (p ∙ sym q)))
 
 -- the header goes first

@@ -1,6 +1,7 @@
 // The verdict on one member: the first of its rules that fails, with the scantling that the rule requires.
 use gauge::Least;
 use gauge::Shape;
+use loads::Source;
 use sheet::Header;
 use sheet::Member;
 use sheet::Outcome;
@@ -21,7 +22,8 @@ pub struct Verdict {
 
 // What judging a record gives.
 pub enum Judged {
-    Verdict(Verdict),
+    // the verdict, and what the record's pressure comes from
+    Verdict(Verdict, Source),
     Refused(Refusal),
 }
 

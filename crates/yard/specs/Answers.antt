@@ -5,7 +5,7 @@ use mathlib.Core.Path.{_≡_, refl, sym, ap, subst}
 use mathlib.Core.Bool.{Bool, true, false, cond}
 use mathlib.Core.List.{List, [], _∷_, _++_}
 use native.Mathlib.Omega.{arith}
-use lib.ListN.{length, getD, take}
+use lib.ListN.{length, take}
 use lib.Dec.{ltb, eqb}
 use Rattle.layout.specs.Layout.{pack, unpack, bytes}
 use Rattle.layout.specs.Line.{faultFrom}
@@ -18,7 +18,7 @@ use Rattle.sheet.specs.Written.{written, written-answer}
 use Rattle.sheet.specs.HeaderExactly.{headerCases}
 use Rattle.sheet.specs.RecordExactly.{recordCases}
 use Rattle.checker.specs.declared.Entry.{Entry}
-use Rattle.checker.specs.Entry.{verdictLines, verdictWidths, entryAt, entryIn, readEntry}
+use Rattle.checker.specs.Entry.{verdictLines, verdictWidths, entryValues, entryAt, entryFault, entryIn, readEntry}
 use Rattle.checker.specs.Check.{_then_, sheetIn, failures, verdicts, Totals, answerOf}
 use Rattle.checker.specs.CheckLaws.{answer-sheet}
 use Rattle.checker.specs.Bounds.{Row, Refusable, row, most, fault-told as fault-row, by-test, then-told, read-header-told as read-header-row, record-told as record-row, sheet-told, sheet-counts}
@@ -40,13 +40,13 @@ pub read-record-told : (s : List ℕ) → Told (readRecord 0 s)
 read-record-told s = row-told (readRecord 0 s) (record-row 0 s (omega arith))
 
 pub read-verdict-told : (s : List ℕ) → Told (readEntry s)
-unfolding readEntry entryIn
+unfolding readEntry entryIn entryFault
 read-verdict-told s =
-    let vs = unpack verdictWidths (pack (bytes 4) (take 4 s)) in
-    let f = faultFrom 1 (verdictLines (getD vs 1 0)) vs in
-    row-told (cond (ltb (length s) 4) (refused 1 0) (cond (eqb f 0) (given (entryAt vs)) (refused 7 f)))
-    (by-test (ltb (length s) 4) 1 0 (cond (eqb f 0) (given (entryAt vs)) (refused 7 f)) (row 1 0 (omega arith) (omega arith) (omega arith))
-    (go f (eqb f 0) (entryAt vs) (omega (arith, most (verdictLines (getD vs 1 0)) vs refl))))
+    let e = entryAt (unpack verdictWidths (pack (bytes 4) (take 4 s))) in
+    let f = entryFault e in
+    row-told (cond (ltb (length s) 4) (refused 1 0) (cond (eqb f 0) (given e) (refused 7 f)))
+    (by-test (ltb (length s) 4) 1 0 (cond (eqb f 0) (given e) (refused 7 f)) (row 1 0 (omega arith) (omega arith) (omega arith))
+    (go f (eqb f 0) e (omega (arith, most (verdictLines (e .rule)) (entryValues e) refl))))
   where
     go : (f : ℕ) (t : Bool) (e : Entry) → f ≤ 4 → Refusable (cond t (given e) (refused 7 f))
     go f true e l = tt

@@ -6,11 +6,11 @@ use mathlib.Core.List.{List}
 use Rattle.sheet.specs.Refusals.{Answer, Wrote as WroteBy}
 use Rattle.sheet.specs.Header.{readHeader}
 use Rattle.sheet.specs.Record.{readRecord}
-use Rattle.checker.specs.Entry.{readEntry}
+use Rattle.checker.specs.Entry.{entryValues, readEntry}
 use Rattle.numbers.specs.Fields.{headerNumbers, recordNumbers}
 use Rattle.edit.specs.Edit.{After, putNumbersIn, removeIn}
 use Rattle.yard.specs.Packed.{Checks, Reads, Wrote}
-use Rattle.yard.specs.Fields.{numbered, entryNumbers}
+use Rattle.yard.specs.Fields.{numbered}
 use Rattle.yard.specs.Editing.{Edits}
 use Rattle.yard.specs.Writing.{writeHeaderNumbers, writeRecordNumbers}
 
@@ -21,8 +21,8 @@ reads-only : (a : Answer (List ℕ)) (before : List ℕ) (q r : ℕ) (x y : List
 reads-only a before q r x y f g = (f .answer ∙ sym (g .answer), f .fields ∙ sym (g .fields))
 
 pub read-verdict-only : (s before : List ℕ) (q r : ℕ) (x y : List ℕ)
-    → Reads (numbered entryNumbers (readEntry s)) before q x → Reads (numbered entryNumbers (readEntry s)) before r y → (q ≡ r) × (x ≡ y)
-read-verdict-only s = reads-only (numbered entryNumbers (readEntry s))
+    → Reads (numbered entryValues (readEntry s)) before q x → Reads (numbered entryValues (readEntry s)) before r y → (q ≡ r) × (x ≡ y)
+read-verdict-only s = reads-only (numbered entryValues (readEntry s))
 
 pub read-header-only : (s before : List ℕ) (q r : ℕ) (x y : List ℕ)
     → Reads (numbered headerNumbers (readHeader s)) before q x → Reads (numbered headerNumbers (readHeader s)) before r y → (q ≡ r) × (x ≡ y)

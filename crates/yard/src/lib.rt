@@ -10,13 +10,13 @@ use sheet::RecordRead;
 use sheet::Refusal;
 ghost use mathlib.Core.Path.{_≡_};
 ghost use Rattle.checker.specs.Check.{toldChecked};
-ghost use Rattle.checker.specs.Entry.{readEntry};
+ghost use Rattle.checker.specs.Entry.{entryValues, readEntry};
 ghost use Rattle.sheet.specs.Refusals.{told, toldOutcome};
 ghost use Rattle.sheet.specs.Header.{readHeader};
 ghost use Rattle.sheet.specs.Record.{readRecord};
 ghost use Rattle.yard.specs.Packed.{packed, fine, Checks, Reads, Wrote};
 ghost use Rattle.yard.specs.Writing.{writeHeaderNumbers, writeRecordNumbers};
-ghost use Rattle.yard.specs.Fields.{entryNumbers, numbered};
+ghost use Rattle.yard.specs.Fields.{numbered};
 ghost use Rattle.yard.specs.Editing.{resized, Edits};
 ghost use Rattle.edit.specs.Edit.{putNumbersIn, removeIn, toldEdited};
 ghost use Rattle.numbers.specs.Fields.{headerNumbers, recordNumbers};
@@ -59,17 +59,18 @@ pub extern "C" fn yard_check(sheet: &[u8], out: &mut [u8]) -> u64
     packed_checked(checker::check(sheet, out))
 }
 
-fn entry_numbers(e: Entry) -> [u32; 3]
-    ensures { λ r. ⌜ r ≡ entryNumbers e ⌝ }
+fn entry_numbers(e: Entry) -> [u32; 4]
+    ensures { λ r. ⌜ r ≡ entryValues e ⌝ }
 {
     let id = e.id as u32;
     let rule = e.rule as u32;
-    [id, rule, e.required]
+    let source = e.source as u32;
+    [id, rule, e.required, source]
 }
 
 #[no_mangle]
-pub extern "C" fn yard_read_verdict(bytes: &[u8], fields: &mut [u32; 3]) -> u64
-    ensures { λ r. ⌜ Reads (numbered entryNumbers (readEntry (now (bytes .entry)))) (now (fields .entry)) r (now (fields .exit)) ⌝ }
+pub extern "C" fn yard_read_verdict(bytes: &[u8], fields: &mut [u32; 4]) -> u64
+    ensures { λ r. ⌜ Reads (numbered entryValues (readEntry (now (bytes .entry)))) (now (fields .entry)) r (now (fields .exit)) ⌝ }
 {
     let read = checker::read_verdict(bytes);
     match read {

@@ -1,9 +1,12 @@
 -- `checker::judged_after` meets its contract.
 -- Assumes nothing.
 use borrow.Author.Needs.{needs}
-use mathlib.Core.Path.{sym, ap, _∙_}
+use Prim.Native.Nat.{ℕ}
+use mathlib.Core.Path.{_≡_, sym, ap, _∙_}
 use denote.Ref.{now}
-use Rattle.verdict.specs.Judged.{toldJudged}
+use Rattle.loads.specs.Sources.{numberOf}
+use Rattle.verdict.specs.Judged.{Finding, toldJudged}
+use Rattle.checker.specs.Check.{entryWith}
 use Rattle.checker.proofs.Pass.{judged-refused, spare-refused, order-refused, judging-refused, judged-good}
 use Rattle.checker.proofs.judged_after.Statement.{statement}
 use Rattle.checker.proofs.judged_after.Tie as tie
@@ -46,13 +49,18 @@ returns-3 c =
 
 returns-4 : tie.Need-returns-4
 returns-4 c =
-    let at-judge = c .before .before .before in
+    let at-number = c .before in
+    let at-found = at-number .before .before in
+    let at-judge = at-found .before .before in
     let at-order = at-judge .before in
     let at-record = at-order .before .before .before .before in
     let start = at-record .before .before in
     let a = start .args in
-    judged-good (a .h) (a .i) (a .before) (now (a .bytes)) (at-record .record-in .result) (at-record .record-in .ensures) (start .pre) _ (at-order .before .if1 .left) (at-order .if2 .left)
-    (sym (ap toldJudged (c .before .judged .given .1)) ∙ at-judge .judge .ensures)
+    let id = at-record .record-in .result .values .id in
+    let found : Finding = record { verdict = at-found .judged .given .0 .0; source = numberOf (at-found .judged .given .0 .1 .0) } in
+    let entry : c .entry-with .result ≡ entryWith id found = c .entry-with .ensures ∙ ap (λ (s : ℕ). entryWith id (record { verdict = found .verdict; source = s })) (at-number .number .ensures) in
+    judged-good (a .h) (a .i) (a .before) (now (a .bytes)) (at-record .record-in .result) (at-record .record-in .ensures) (start .pre) found (at-order .before .if1 .left)
+    (at-order .if2 .left) (sym (ap toldJudged (at-found .judged .given .1)) ∙ at-judge .judge .ensures) (c .entry-with .result) entry
 
 pub judged-after-spec : {M : Type 1} → statement M
 judged-after-spec =
@@ -68,4 +76,6 @@ judged-after-spec =
     (λ c. search needs)
     why-refused-requires-3
     returns-3
+    (λ c κs. search needs)
+    (λ c κs. search needs)
     returns-4)

@@ -10,13 +10,13 @@ returns-2 : tie.Need-returns-2
 returns-2 c =
     let at-entry = c .before .before in
     let at-read = at-entry .before in
-    read-good (now (at-read .before .before .before .args .s)) _ _ _ _ (at-read .before .if1 .left) (at-read .read-half .ensures) (at-entry .entry-of .ensures) (search needs) (c .before .fault .ensures) (c .if2 .taken)
+    read-good (now (at-read .before .before .before .args .s)) _ _ _ (at-read .before .if1 .left) (at-read .read-half .ensures) (at-entry .entry-of .ensures) (c .before .fault .ensures) (c .if2 .taken)
 
 returns-3 : tie.Need-returns-3
 returns-3 c =
     let at-entry = c .before .before in
     let at-read = at-entry .before in
-    read-bad (now (at-read .before .before .before .args .s)) _ _ _ _ (at-read .before .if1 .left) (at-read .read-half .ensures) (at-entry .entry-of .ensures) (search needs) (c .before .fault .ensures) (c .if2 .left)
+    read-bad (now (at-read .before .before .before .args .s)) _ _ _ (at-read .before .if1 .left) (at-read .read-half .ensures) (at-entry .entry-of .ensures) (c .before .fault .ensures) (c .if2 .left)
 
 pub read-verdict-spec : {M : Type 1} → statement M
 read-verdict-spec =

@@ -1,13 +1,16 @@
 -- `framing::judge` meets its contract.
 -- Assumes nothing.
 use borrow.Author.Needs.{needs}
-use mathlib.Core.Path.{_≡_, sym, ap, _∙_}
+use mathlib.Core.Path.{_≡_, sym, ap, ap₂, _∙_}
+use Rattle.loads.specs.Sources.{Named, toldLoad}
 use Rattle.sheet.specs.Refusals.{given, toldOutcome}
 use Rattle.sheet.specs.Record.{ofMember}
 use Rattle.sheet.specs.HeaderLaws.{header-ranges}
 use Rattle.sheet.specs.RecordLaws.{member-ranges}
+use Rattle.verdict.specs.declared.Verdict.{Verdict}
 use Rattle.verdict.specs.JudgedLaws.{Sound, given-sound, sound-given, refused-same}
-use Rattle.framing.specs.Rules.{memberVerdict}
+use Rattle.framing.specs.Rules.{memberLoad, memberNamed, memberVerdict, memberFinding}
+use Rattle.framing.specs.Laws.{member-pressure}
 use Rattle.framing.proofs.judge.Statement.{statement}
 use Rattle.framing.proofs.judge.Tie as tie
 
@@ -21,20 +24,29 @@ returns : tie.Need-returns
 returns c =
     let at-admitted = c .before .before .before in
     let a = at-admitted .before .args in
-    sym (refused-same (a .h) (ofMember (a .kind) (a .id) (a .m)) (tt {0}) (memberVerdict (a .h) (a .kind) (a .m)) _ _ (sym (at-admitted .admitted-member .ensures) ∙ ap toldOutcome (c .before .admitted .given .1)))
+    sym (refused-same (a .h) (ofMember (a .kind) (a .id) (a .m)) (tt {0}) (memberFinding (a .h) (a .kind) (a .m)) _ _ (sym (at-admitted .admitted-member .ensures) ∙ ap toldOutcome (c .before .admitted .given .1)))
+
+-- the load's pressure is the one that the rules go by
+load-pressure : (c : tie.After-member-load) → let a = c .before .before .before .before .args in c .member-load .result .pressure .0 ≡ memberLoad (a .h) (a .kind) (a .m)
+load-pressure c =
+    let a = c .before .before .before .before .args in
+    ap (λ (n : Named). n .pressure) (c .member-load .ensures) ∙ member-pressure (a .h) (a .kind) (a .m)
 
 member-verdict-requires : tie.Need-member-verdict-requires
 member-verdict-requires c κs =
-    let a = c .before .before .before .args in
-    let s = sound c in
-    (header-ranges (a .h) 0 (s .header), member-ranges (a .kind) (a .id) (a .m) (s .body))
+    let a = c .before .before .before .before .args in
+    let s = sound (c .before) in
+    (header-ranges (a .h) 0 (s .header), member-ranges (a .kind) (a .id) (a .m) (s .body), load-pressure c)
 
 returns-2 : tie.Need-returns-2
 returns-2 c =
-    let told = c .before in
+    let load = c .before in
+    let told = load .before in
     let a = told .before .before .before .args in
-    let named : c .member-verdict .result ≡ memberVerdict (a .h) (a .kind) (a .m) = c .member-verdict .ensures in
-    ap given named ∙ sym (sound-given (a .h) (ofMember (a .kind) (a .id) (a .m)) (memberVerdict (a .h) (a .kind) (a .m)) (sound told))
+    let judged : c .member-verdict .result ≡ memberVerdict (a .h) (a .kind) (a .m) = c .member-verdict .ensures in
+    let named : toldLoad (load .member-load .result) ≡ memberNamed (a .h) (a .kind) (a .m) = load .member-load .ensures in
+    ap₂ (λ (v : Verdict) (n : Named). given (record { verdict = v; source = n .source })) judged named
+    ∙ sym (sound-given (a .h) (ofMember (a .kind) (a .id) (a .m)) (memberFinding (a .h) (a .kind) (a .m)) (sound told))
 
 pub judge-spec : {M : Type 1} → statement M
 judge-spec =
@@ -44,5 +56,6 @@ judge-spec =
     (λ c. search needs)
     returns
     (λ c. search needs)
+    (λ c κs. search needs)
     member-verdict-requires
     returns-2)

@@ -1,14 +1,15 @@
 -- `framing::member_verdict` meets its contract: rule by rule the shape fails, or is met and leaves the verdict to the later rules.
 -- Assumes nothing.
-use Prim.Native.Nat.{_≤_}
+use Prim.Native.Nat.{ℕ, _≤_}
 use mathlib.Core.List.{[], _∷_}
-use mathlib.Core.Path.{_≡_, sym, _∙_}
+use mathlib.Core.Path.{_≡_, sym, ap, _∙_}
 use borrow.Author.Needs.{needs}
 use borrow.Author.Tests.{not-true, not-false}
 use Rattle.quantity.specs.Range.{thickness, modulus, shearArea, lineLoad}
 use Rattle.gauge.specs.ShapeLaws.{Says}
+use Rattle.loads.specs.Loads.{lineLoad as lineLoadOf}
 use Rattle.verdict.specs.Verdict.{Rule, verdictOf, failedOf}
-use Rattle.framing.specs.Rules.{webRule, bendingRule, shearRule}
+use Rattle.framing.specs.Rules.{memberLine, webRule, bendingRule, shearRule}
 use Rattle.framing.specs.Bounds.{member-line-high}
 use Rattle.verdict.specs.Steps.{first-failed, first-met}
 use Rattle.framing.proofs.member_verdict.Statement.{statement}
@@ -30,16 +31,21 @@ start c = c .before .before .before .before
 abbrev start2 : tie.Else2 → tie.Start
 start2 c = start (c .before .before .before .before)
 
-line-high : (c : tie.After-member-load) → c .member-load .result .0 ≤ lineLoad .high
+-- q is the line load of the member's pressure
+line : (c : tie.After-line-load) → let s = start (c .before) in c .line-load .result .0 ≡ memberLine (s .args .h) (s .args .kind) (s .args .m)
+unfolding memberLine
+line c = let s = start (c .before) in c .line-load .ensures ∙ ap (λ (P : ℕ). lineLoadOf P (s .args .m .spacing .0)) (s .pre .2)
+
+line-high : (c : tie.After-line-load) → c .line-load .result .0 ≤ lineLoad .high
 line-high c =
     let s = start (c .before) in
-    rw (c .member-load .ensures) (member-line-high (s .args .h) (s .args .kind) (s .args .m) (s .pre .0) (s .pre .1))
+    rw (line c) (member-line-high (s .args .h) (s .args .kind) (s .args .m) (s .pre .0) (s .pre .1))
 
 bending-said : (c : tie.After-rule5) → Says (c .rule5 .result) (modulus .high) (bending (start (c .before .before)) .asks)
-bending-said c = rw (c .before .member-load .ensures) at (c .rule5 .ensures)
+bending-said c = rw (line (c .before)) at (c .rule5 .ensures)
 
 shear-said : (c : tie.After-rule6) → Says (c .rule6 .result) (shearArea .high) (shear (start2 (c .before)) .asks)
-shear-said c = rw (c .before .before .before .before .member-load .ensures) at (c .rule6 .ensures)
+shear-said c = rw (line (c .before .before .before .before)) at (c .rule6 .ensures)
 
 web-met : (c : tie.Else1) →
     verdictOf (bending (start c) ∷ shear (start c) ∷ []) ≡ verdictOf (web (start c) ∷ bending (start c) ∷ shear (start c) ∷ [])

@@ -7,25 +7,23 @@ use Rattle.sheet.specs.declared.Record.{Record}
 use Rattle.sheet.specs.declared.Body.{Body}
 use Rattle.sheet.specs.Record.{ofPlate, ofMember}
 use Rattle.sheet.specs.Refusals.{Answer}
-use Rattle.verdict.specs.declared.Verdict.{Verdict}
-use Rattle.verdict.specs.Verdict.{verdictOf}
-use Rattle.verdict.specs.Judged.{toldJudged, judgedBy}
-use Rattle.plating.specs.Rules.{plateVerdict}
-use Rattle.framing.specs.Rules.{memberVerdict}
-use Rattle.hull.specs.Hull.{bodyRules}
+use Rattle.verdict.specs.Judged.{Finding, toldJudged, judgedBy}
+use Rattle.plating.specs.Rules.{plateFinding}
+use Rattle.framing.specs.Rules.{memberFinding}
+use Rattle.hull.specs.Hull.{finding}
 use Rattle.hull.proofs.judge.Statement.{statement}
 use Rattle.hull.proofs.judge.Tie as tie
 
 -- what judging gives, by what the record carries
-abbrev judgedAs : Header → Record → Body → Answer Verdict
-judgedAs h r b = judgedBy h (record { kind = r .kind; id = r .id; body = b }) (verdictOf (bodyRules h (r .kind) b))
+abbrev judgedAs : Header → Record → Body → Answer Finding
+judgedAs h r b = let q : Record = record { kind = r .kind; id = r .id; body = b } in judgedBy h q (finding h q)
 
 returns : tie.Need-returns
 returns c =
     let at-body = c .before .before in
     let a = at-body .before .before .args in
     let p = at-body .body .given .0 .0 in
-    let judged : toldJudged (c .judge .result) ≡ judgedBy (a .h) (ofPlate (a .r .kind) (a .r .id) p) (plateVerdict (a .h) (a .r .kind) p) = c .judge .ensures in
+    let judged : toldJudged (c .judge .result) ≡ judgedBy (a .h) (ofPlate (a .r .kind) (a .r .id) p) (plateFinding (a .h) (a .r .kind) p) = c .judge .ensures in
     judged ∙ sym (ap (judgedAs (a .h) (a .r)) (at-body .body .given .1))
 
 returns-2 : tie.Need-returns-2
@@ -33,7 +31,7 @@ returns-2 c =
     let at-body = c .before .before in
     let a = at-body .before .before .args in
     let m = at-body .body2 .given .0 .0 in
-    let judged : toldJudged (c .judge2 .result) ≡ judgedBy (a .h) (ofMember (a .r .kind) (a .r .id) m) (memberVerdict (a .h) (a .r .kind) m) = c .judge2 .ensures in
+    let judged : toldJudged (c .judge2 .result) ≡ judgedBy (a .h) (ofMember (a .r .kind) (a .r .id) m) (memberFinding (a .h) (a .r .kind) m) = c .judge2 .ensures in
     judged ∙ sym (ap (judgedAs (a .h) (a .r)) (at-body .body2 .given .1))
 
 pub judge-spec : {M : Type 1} → statement M

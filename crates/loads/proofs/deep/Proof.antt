@@ -8,11 +8,11 @@ use Rattle.loads.proofs.deep.Tie as tie
 
 returns : tie.Need-returns
 unfolding deepLoad ceilOf
-returns c = rw (c .if1 .taken)
+returns c = rw (c .before .if1 .taken) (c .load-of .ensures)
 
 returns-2 : tie.Need-returns-2
 unfolding deepLoad
-returns-2 c = rw (c .if1 .left)
+returns-2 c = rw (c .before .if1 .left) (c .load-of2 .ensures)
 
 pub deep-spec : {M : Type 1} → statement M
 deep-spec =
@@ -24,8 +24,10 @@ deep-spec =
     (λ c. search needs)
     (λ c. search needs)
     (λ c. search needs)
+    (λ c κs. search needs)
     returns
     (λ c. search needs)
     (λ c. search needs)
     (λ c. search needs)
+    (λ c κs. search needs)
     returns-2)

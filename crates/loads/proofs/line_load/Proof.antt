@@ -15,10 +15,10 @@ record InRange (P S : ℕ) : Type 0 where
   whole : P / 1000000 * S ≤ 18446744073709 * 65535
   part : P % 1000000 * S ≤ 999999 * 65535
 
-in-range : (c : tie.After-struct-known2) → InRange (c .before .before .args .p .0) (c .before .before .args .s .0)
+in-range : (c : tie.After-struct-known) → InRange (c .before .args .load .pressure .0) (c .before .args .s .0)
 in-range c =
-    let P = c .before .before .args .p .0 in
-    let w : c .before .before .args .s .0 ≤ 65535 = omega arith in
+    let P = c .before .args .load .pressure .0 in
+    let w : c .before .args .s .0 ≤ 65535 = omega arith in
     let k : P / 1000000 ≤ 18446744073709 = omega arith in
     let m : P % 1000000 ≤ 999999 = omega arith in
     record { whole = mul-le-mul k w; part = mul-le-mul m w }
@@ -33,7 +33,7 @@ line-load-spec =
     (tie.spec
     (λ c. search needs)
     (λ c. omega (arith, in-range c))
-    (λ c. omega (arith, in-range (c .before)))
-    (λ c. omega (arith, in-range (c .before)))
-    (λ c. omega (arith, in-range (c .before)))
+    (λ c. omega (arith, in-range c))
+    (λ c. omega (arith, in-range c))
+    (λ c. omega (arith, in-range c))
     returns)

@@ -13,10 +13,10 @@ use Rattle.loads.proofs.sea.Tie as tie
 
 returns : tie.Need-returns
 unfolding sea
-returns c = rw (le-leb _ _ (c .if1 .taken))
+returns c = rw (le-leb _ _ (c .before .if1 .taken)) (c .load-of .ensures)
 
-add-t15 : tie.Need-add-t15
-add-t15 c =
+add-load-of-2 : tie.Need-add-load-of-2
+add-load-of-2 c =
     let H = c .before .before .before .before .before .before .args .wave .0 in
     let w : wind H ≤ 222819000 = either (eqb H 120) _ _ _ (omega arith) (omega arith) in
     let m : crest H ≤ 3286580250 = max-le (omega arith) (omega arith) in
@@ -24,7 +24,9 @@ add-t15 c =
 
 returns-2 : tie.Need-returns-2
 unfolding sea
-returns-2 c = rw (lt-leb _ _ (c .before .before .if1 .left), c .wind .ensures, c .before .greater .ensures)
+returns-2 c =
+    let w = c .before in
+    rw (lt-leb _ _ (w .before .before .if1 .left)) (rw (w .wind .ensures, w .before .greater .ensures) at (c .load-of2 .ensures))
 
 pub sea-spec : {M : Type 1} → statement M
 sea-spec =
@@ -36,9 +38,11 @@ sea-spec =
     (λ c. search needs)
     (λ c. search needs)
     (λ c. search needs)
+    (λ c κs. search needs)
     returns
     (λ c. search needs)
     (λ c κs. search needs)
     (λ c κs. search needs)
-    add-t15
+    add-load-of-2
+    (λ c κs. search needs)
     returns-2)

@@ -1,13 +1,16 @@
 -- `plating::judge` meets its contract.
 -- Assumes nothing.
 use borrow.Author.Needs.{needs}
-use mathlib.Core.Path.{_≡_, sym, ap, _∙_}
+use mathlib.Core.Path.{_≡_, sym, ap, ap₂, _∙_}
+use Rattle.loads.specs.Sources.{Named, toldLoad}
 use Rattle.sheet.specs.Refusals.{given, toldOutcome}
 use Rattle.sheet.specs.Record.{ofPlate}
 use Rattle.sheet.specs.HeaderLaws.{header-ranges}
 use Rattle.sheet.specs.RecordLaws.{plate-ranges}
+use Rattle.verdict.specs.declared.Verdict.{Verdict}
 use Rattle.verdict.specs.JudgedLaws.{Sound, given-sound, sound-given, refused-same}
-use Rattle.plating.specs.Rules.{plateVerdict}
+use Rattle.plating.specs.Rules.{plateLoad, plateNamed, plateVerdict, plateFinding}
+use Rattle.plating.specs.Laws.{plate-pressure}
 use Rattle.plating.proofs.judge.Statement.{statement}
 use Rattle.plating.proofs.judge.Tie as tie
 
@@ -21,20 +24,29 @@ returns : tie.Need-returns
 returns c =
     let at-admitted = c .before .before .before in
     let a = at-admitted .before .args in
-    sym (refused-same (a .h) (ofPlate (a .kind) (a .id) (a .p)) (tt {0}) (plateVerdict (a .h) (a .kind) (a .p)) _ _ (sym (at-admitted .admitted-plate .ensures) ∙ ap toldOutcome (c .before .admitted .given .1)))
+    sym (refused-same (a .h) (ofPlate (a .kind) (a .id) (a .p)) (tt {0}) (plateFinding (a .h) (a .kind) (a .p)) _ _ (sym (at-admitted .admitted-plate .ensures) ∙ ap toldOutcome (c .before .admitted .given .1)))
+
+-- the load's pressure is the one that the rules go by
+load-pressure : (c : tie.After-load) → let a = c .before .before .before .before .args in c .load .result .pressure .0 ≡ plateLoad (a .h) (a .kind) (a .p)
+load-pressure c =
+    let a = c .before .before .before .before .args in
+    ap (λ (n : Named). n .pressure) (c .load .ensures) ∙ plate-pressure (a .h) (a .kind) (a .p)
 
 plate-verdict-requires : tie.Need-plate-verdict-requires
 plate-verdict-requires c κs =
-    let a = c .before .before .before .args in
-    let s = sound c in
-    (header-ranges (a .h) 0 (s .header), plate-ranges (a .kind) (a .id) (a .p) 0 (s .body))
+    let a = c .before .before .before .before .args in
+    let s = sound (c .before) in
+    (header-ranges (a .h) 0 (s .header), plate-ranges (a .kind) (a .id) (a .p) 0 (s .body), load-pressure c)
 
 returns-2 : tie.Need-returns-2
 returns-2 c =
-    let told = c .before in
+    let load = c .before in
+    let told = load .before in
     let a = told .before .before .before .args in
-    let named : c .plate-verdict .result ≡ plateVerdict (a .h) (a .kind) (a .p) = c .plate-verdict .ensures in
-    ap given named ∙ sym (sound-given (a .h) (ofPlate (a .kind) (a .id) (a .p)) (plateVerdict (a .h) (a .kind) (a .p)) (sound told))
+    let judged : c .plate-verdict .result ≡ plateVerdict (a .h) (a .kind) (a .p) = c .plate-verdict .ensures in
+    let named : toldLoad (load .load .result) ≡ plateNamed (a .h) (a .kind) (a .p) = load .load .ensures in
+    ap₂ (λ (v : Verdict) (n : Named). given (record { verdict = v; source = n .source })) judged named
+    ∙ sym (sound-given (a .h) (ofPlate (a .kind) (a .id) (a .p)) (plateFinding (a .h) (a .kind) (a .p)) (sound told))
 
 pub judge-spec : {M : Type 1} → statement M
 judge-spec =
@@ -44,5 +56,6 @@ judge-spec =
     (λ c. search needs)
     returns
     (λ c. search needs)
+    (λ c κs. search needs)
     plate-verdict-requires
     returns-2)

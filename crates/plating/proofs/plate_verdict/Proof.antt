@@ -30,7 +30,7 @@ abbrev start1 : tie.After-meets → tie.Start
 start1 c = c .before .before .before
 
 abbrev start2 : tie.After-meets2 → tie.Start
-start2 c = start1 (c .before .before .before .before)
+start2 c = start1 (c .before .before .before)
 
 abbrev start3 : tie.After-meets3 → tie.Start
 start3 c = start2 (c .before .before .before .before)
@@ -47,9 +47,9 @@ r3 s = asked3 (s .args .h) (s .args .kind) (s .args .p)
 
 rule2-requires : tie.Need-rule2-requires
 rule2-requires c κs =
-    let s = start1 (c .before .before) in
+    let s = start1 (c .before) in
     let p = s .pre .1 in
-    (p .factor-high, p .spacing-high, rw (c .load .ensures) (load-high (s .args .h) (s .args .kind) (s .args .p) (s .pre .0) p))
+    (p .factor-high, p .spacing-high, rw (s .pre .2) (load-high (s .args .h) (s .args .kind) (s .args .p) (s .pre .0) p))
 
 rule3-requires : tie.Need-rule3-requires
 rule3-requires c κs =
@@ -72,7 +72,7 @@ step2 c =
     let a = start2 c .args in
     let d = c .before .rule2 .result in
     let says : Says d (thickness .high) (r2 (start2 c) .asks) =
-    subst (λ (P : ℕ). Says d (thickness .high) (rule2 (a .kind) (a .p .factor .0) (a .p .spacing .0) P)) (c .before .before .load .ensures) (c .before .rule2 .ensures) in
+    subst (λ (P : ℕ). Says d (thickness .high) (rule2 (a .kind) (a .p .factor .0) (a .p .spacing .0) P)) (start2 c .pre .2) (c .before .rule2 .ensures) in
     step d (r2 (start2 c)) _ says (p .thickness-low) (p .thickness-high) (c .meets2 .ensures)
 
 step3 : (c : tie.After-meets3) → Step (c .before .rule3 .result) (r3 (start3 c)) [] (c .meets3 .result)
@@ -88,7 +88,7 @@ passed1 : (c : tie.Else1) → let s = start1 (c .before) in verdictOf (r1 s ∷ 
 passed1 c = step1 (c .before) .passes (c .if1 .left)
 
 passed2 : (c : tie.Else2) → let s = start2 (c .before) in verdictOf (r1 s ∷ r2 s ∷ r3 s ∷ []) ≡ verdictOf (r3 s ∷ [])
-passed2 c = passed1 (c .before .before .before .before) ∙ step2 (c .before) .passes (c .if2 .left)
+passed2 c = passed1 (c .before .before .before) ∙ step2 (c .before) .passes (c .if2 .left)
 
 returns : tie.Need-returns
 returns c =
@@ -100,7 +100,7 @@ returns-2 : tie.Need-returns-2
 returns-2 c =
     let m = c .before .before in
     let named : c .failed2 .result ≡ failedOf 2 (m .before .rule2 .result) (thickness .high) = c .failed2 .ensures in
-    named ∙ step2 m .fails (c .before .if2 .taken) ∙ sym (passed1 (m .before .before .before))
+    named ∙ step2 m .fails (c .before .if2 .taken) ∙ sym (passed1 (m .before .before))
 
 returns-3 : tie.Need-returns-3
 returns-3 c =
@@ -123,7 +123,6 @@ plate-verdict-spec =
     (λ c κs. search needs)
     (λ c κs. search needs)
     returns
-    (λ c κs. search needs)
     rule2-requires
     (λ c κs. search needs)
     (λ c κs. search needs)

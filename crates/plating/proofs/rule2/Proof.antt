@@ -11,7 +11,7 @@ use Rattle.plating.proofs.rule2.Tie as tie
 
 -- S²KP
 load-in-range : (c : tie.Start) → let a = c .args in
-    a .spacing .0 * a .spacing .0 * a .factor .0 * a .load .0 ≤ 800000000000000000
+    a .spacing .0 * a .spacing .0 * a .factor .0 * a .load .pressure .0 ≤ 800000000000000000
 load-in-range c = mul-le-mul (in-range (c .pre .1) (c .pre .0) .1) (c .pre .2)
 
 returns : tie.Need-returns

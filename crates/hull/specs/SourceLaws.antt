@@ -1,0 +1,70 @@
+-- The source that a finding names is right, raising does not change it, and without it a finding is the verdict.
+-- Assumes nothing.
+use Prim.Native.Nat.{ℕ, _≤_}
+use mathlib.Core.Path.{_≡_, refl, ap, subst}
+use mathlib.Core.Bool.{Bool, true, false, cond}
+use mathlib.Core.List.{List, []}
+use lib.Dec.{lit≤}
+use Rattle.loads.specs.declared.Source.the-variants.{Cargo}
+use Rattle.loads.specs.Sources.{numberOf, Named, deepNamed, bottomNamed, innerNamed, Decides}
+use Rattle.loads.specs.SourceLaws.{deciding-decides, either-most, sea-most, bottom-most, inner-most}
+use Rattle.sheet.specs.Kinds.{isBottom, isDeep}
+use Rattle.sheet.specs.declared.Header.{Header}
+use Rattle.sheet.specs.declared.Record.{Record}
+use Rattle.sheet.specs.declared.Body.{Body}
+use Rattle.sheet.specs.declared.Body.the-variants.{Plate as isPlate, Member as isMember}
+use Rattle.verdict.specs.declared.Verdict.{Verdict}
+use Rattle.plating.specs.Laws.{plate-pressure}
+use Rattle.framing.specs.Laws.{member-pressure}
+use Rattle.hull.specs.Hull.{verdict, bodyNamed, sourceOf, finding}
+use Rattle.hull.specs.Raising.{raisedBody, raised}
+use Rattle.hull.specs.Sources.{bodyLoads, loadsOn, bodyPressure, pressureOn}
+
+-- ---- right
+
+either : (b : Bool) (x y : Named) (xs ys : List Named) → Decides x xs → Decides y ys → Decides (cond b x y) (cond b xs ys)
+either true x y xs ys p q = p
+either false x y xs ys p q = q
+
+named-decides : (h : Header) (kind : ℕ) (b : Body) → Decides (bodyNamed h kind b) (bodyLoads h kind b)
+unfolding bottomNamed innerNamed
+named-decides h kind (isPlate p) = either (isBottom kind) _ _ _ _ (deciding-decides _ _) (deciding-decides _ _)
+named-decides h kind (isMember m) = deciding-decides _ []
+
+-- its pressure is the one that the rules go by
+named-pressure : (h : Header) (kind : ℕ) (b : Body) → bodyNamed h kind b .pressure ≡ bodyPressure h kind b
+named-pressure h kind (isPlate p) = plate-pressure h kind p
+named-pressure h kind (isMember m) = member-pressure h kind m
+
+-- the source named, with the pressure that the rules go by, is one of the loads on the record; none of them is greater, and none that is as great has a
+-- lower number
+pub source-right : (h : Header) (r : Record) → Decides (record { pressure = pressureOn h r; source = sourceOf h r }) (loadsOn h r)
+source-right h r =
+    subst (λ (P : ℕ). Decides (record { pressure = P; source = sourceOf h r }) (loadsOn h r)) (named-pressure h (r .kind) (r .body)) (named-decides h (r .kind) (r .body))
+
+-- its number is one of the four
+pub source-most : (h : Header) (r : Record) → sourceOf h r ≤ numberOf Cargo
+source-most h r = go (r .kind) (r .body)
+  where
+    go : (kind : ℕ) (b : Body) → bodyNamed h kind b .source ≤ numberOf Cargo
+    go kind (isPlate p) =
+        either-most (isBottom kind) _ _
+        (bottom-most (h .draught .0) (h .wave .0) (p .z .0) (p .ballast) (p .«tank_top» .0))
+        (inner-most (p .cargo) (p .z .0) (p .ballast) (p .«tank_top» .0))
+    go kind (isMember m) = either-most (isDeep kind) (deepNamed (h .draught .0) (h .wave .0) (h .«two_runs»)) _ (lit≤ tt) (sea-most (h .draught .0) (h .wave .0) (m .z .0))
+
+-- ---- unchanged
+
+body-source : (h : Header) (kind : ℕ) (v : Verdict) (b : Body) → bodyNamed h kind (raisedBody v b) ≡ bodyNamed h kind b
+body-source h kind v (isPlate p) = refl
+body-source h kind v (isMember m) = refl
+
+-- another number in place of a scantling leaves the source as it was
+pub raising-source : (h : Header) (v : Verdict) (r : Record) → sourceOf h (raised v r) ≡ sourceOf h r
+raising-source h v r = ap (λ (n : Named). n .source) (body-source h (r .kind) v (r .body))
+
+-- ---- forgotten
+
+-- without its source a finding is the verdict by the rules alone
+pub source-forgotten : (h : Header) (r : Record) → finding h r .verdict ≡ verdict h r
+source-forgotten h r = refl
