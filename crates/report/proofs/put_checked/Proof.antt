@@ -55,7 +55,7 @@ module _ (c : tie.After-checked2) where
 returns-2 : tie.Need-returns-2
 returns-2 c =
     let q = c .before .before in
-    let p = q .before .before .before .before in
+    let p = q .before .before .before .before .before in
     let m = p .before .before .before in
     let l = laid-both (now (start m .args .page)) 0 (first m) (totals m) (split m) (fits m) (p .put-verdicts .ensures) (q .put-pair .ensures) in
     record { place = l .place; bytes = l .bytes }
@@ -68,7 +68,7 @@ put-verdicts-requires c κs =
 
 put-pair-requires : tie.Need-put-pair-requires
 put-pair-requires c κs =
-    let p = c .before .before .before in
+    let p = c .before .before .before .before in
     let m = p .before .before .before in
     second-fits (now (start m .args .page)) 0 (first m) (totals m) (split m) (fits m) (p .put-verdicts .ensures)
 
@@ -80,6 +80,7 @@ put-checked-spec =
     (λ c κs. search needs)
     (λ c. search needs)
     put-verdicts-requires
+    (λ c. search needs)
     (λ c. search needs)
     (λ c. search needs)
     put-pair-requires

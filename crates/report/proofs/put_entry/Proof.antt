@@ -35,21 +35,21 @@ split e =
 returns : tie.Need-returns
 returns c =
     let q = c .before .before in
-    let p = q .before .before .before .before .before in
-    let s = p .before .before .before .before .before in
-    let l = laid-both (now (s .args .page)) (s .args .at) (first (s .args .e)) (second (s .args .e)) (split (s .args .e)) (s .pre) (p .put-number .ensures) (q .put-pair .ensures) in
+    let p = q .before .before .before .before .before .before in
+    let s = p .before .before .before .before .before .before in
+    let l = laid-both (now (s .args .page)) (s .args .at) (first (s .args .e)) (second (s .args .e)) (split (s .args .e)) (s .pre) (p .put-pair .ensures) (q .put-pair2 .ensures) in
     record { place = l .place; bytes = l .bytes }
-
-put-number-requires : tie.Need-put-number-requires
-put-number-requires c κs =
-    let s = c .before .before .before .before in
-    first-fits (now (s .args .page)) (s .args .at) (first (s .args .e)) (second (s .args .e)) (split (s .args .e)) (s .pre)
 
 put-pair-requires : tie.Need-put-pair-requires
 put-pair-requires c κs =
-    let p = c .before .before .before .before in
-    let s = p .before .before .before .before .before in
-    second-fits (now (s .args .page)) (s .args .at) (first (s .args .e)) (second (s .args .e)) (split (s .args .e)) (s .pre) (p .put-number .ensures)
+    let s = c .before .before .before .before .before in
+    first-fits (now (s .args .page)) (s .args .at) (first (s .args .e)) (second (s .args .e)) (split (s .args .e)) (s .pre)
+
+put-pair-requires-2 : tie.Need-put-pair-requires-2
+put-pair-requires-2 c κs =
+    let p = c .before .before .before .before .before in
+    let s = p .before .before .before .before .before .before in
+    second-fits (now (s .args .page)) (s .args .at) (first (s .args .e)) (second (s .args .e)) (split (s .args .e)) (s .pre) (p .put-pair .ensures)
 
 pub put-entry-spec : {M : Type 1} → statement M
 put-entry-spec =
@@ -57,8 +57,10 @@ put-entry-spec =
     (tie.spec
     (λ c. search needs)
     (λ c. search needs)
-    put-number-requires
     (λ c. search needs)
     put-pair-requires
+    (λ c. search needs)
+    (λ c. search needs)
+    put-pair-requires-2
     (λ c. search needs)
     returns)

@@ -25,21 +25,24 @@ split m n after = line-more 32 after m n [] ∙ ap (λ (t : List ℕ). first m +
 returns : tie.Need-returns
 returns c =
     let q = c .before .before in
-    let p = q .before .before .before .before .before in
-    let s = p .before .before .before .before in
-    let l = laid-both (now (s .args .page)) (s .args .at) (first (s .args .m)) (second (s .args .n) (now (s .args .after))) (split (s .args .m) (s .args .n) (now (s .args .after))) (s .pre) (p .put-number .ensures) (q .put-number2 .ensures) in
+    let p = q .before .before .before .before in
+    let s = p .before .before .before .before .before in
+    let a = s .args in
+    let l = laid-both (now (a .page)) (a .at) (first (a .m)) (second (a .n) (now (a .after))) (split (a .m) (a .n) (now (a .after))) (s .pre) (p .put-number .ensures) (q .put-number2 .ensures) in
     record { place = l .place; bytes = l .bytes }
 
 put-number-requires : tie.Need-put-number-requires
 put-number-requires c κs =
-    let s = c .before .before .before in
-    first-fits (now (s .args .page)) (s .args .at) (first (s .args .m)) (second (s .args .n) (now (s .args .after))) (split (s .args .m) (s .args .n) (now (s .args .after))) (s .pre)
+    let s = c .before .before .before .before in
+    let a = s .args in
+    first-fits (now (a .page)) (a .at) (first (a .m)) (second (a .n) (now (a .after))) (split (a .m) (a .n) (now (a .after))) (s .pre)
 
 put-number-requires-2 : tie.Need-put-number-requires-2
 put-number-requires-2 c κs =
-    let p = c .before .before .before .before in
-    let s = p .before .before .before .before in
-    second-fits (now (s .args .page)) (s .args .at) (first (s .args .m)) (second (s .args .n) (now (s .args .after))) (split (s .args .m) (s .args .n) (now (s .args .after))) (s .pre) (p .put-number .ensures)
+    let p = c .before .before .before in
+    let s = p .before .before .before .before .before in
+    let a = s .args in
+    second-fits (now (a .page)) (a .at) (first (a .m)) (second (a .n) (now (a .after))) (split (a .m) (a .n) (now (a .after))) (s .pre) (p .put-number .ensures)
 
 pub put-pair-spec : {M : Type 1} → statement M
 put-pair-spec =
@@ -47,7 +50,6 @@ put-pair-spec =
     (tie.spec
     (λ c. search needs)
     put-number-requires
-    (λ c. search needs)
     put-number-requires-2
     (λ c. search needs)
     returns)

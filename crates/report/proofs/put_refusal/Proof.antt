@@ -43,14 +43,14 @@ word c =
 returns : tie.Need-returns
 returns c =
     let q = c .before .before in
-    let w = q .before .before .before .before in
+    let w = q .before .before .before .before .before in
     let p = w .before .before .before in
     let l = laid-both (now (start p .args .page)) 0 refusedWord (line (numbers p)) (split p) (fits p) (word w) (q .put-pair .ensures) in
     record { place = l .place; bytes = l .bytes }
 
 put-pair-requires : tie.Need-put-pair-requires
 put-pair-requires c κs =
-    let w = c .before .before .before in
+    let w = c .before .before .before .before in
     let p = w .before .before .before in
     second-fits (now (start p .args .page)) 0 refusedWord (line (numbers p)) (split p) (fits p) (word w)
 
@@ -63,6 +63,7 @@ put-refusal-spec =
     (λ c κs. search needs)
     (λ c. search needs)
     (λ c κs. search needs)
+    (λ c. search needs)
     put-pair-requires
     (λ c. search needs)
     returns)
