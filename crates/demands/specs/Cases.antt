@@ -16,7 +16,7 @@ use Rattle.sheet.specs.Record.{recordIn, readRecord}
 use Rattle.plating.specs.Rules.{K2}
 use Rattle.framing.specs.Rules.{rule4, rule5, rule6, memberLine}
 use Rattle.checker.specs.declared.Checked.the-variants.{Done}
-use Rattle.checker.specs.Entry.{entryBytes, entryIn, readEntry}
+use Rattle.checker.specs.Entry.{entryBytes, entryFault, entryIn, readEntry}
 use Rattle.checker.specs.Check.{_then_, demand, headerFor, partsFrom, soundAfter, recordsIn, sheetIn, entryOf, verdicts, bytesOf, failures}
 use Rattle.demands.specs.Table.{Row, HeaderSound}
 use Rattle.demands.specs.Program.{Program, fourAt, Leaves}
@@ -58,7 +58,7 @@ bare-accepted P d out = d .first bare out .none-judged refl bare-sound refl
 -- what the checker answers and leaves on a sheet with a number and on one with none
 checker-numbers : (checker .answer example lent ≡ Done 2 2) × Leaves checker example lent 0 (record { id = 7; rule = 3; required = 617; source = 0 })
     × (checker .answer stressed lent ≡ Done 1 1) × Leaves checker stressed lent 0 (record { id = 12; rule = 5; required = 0; source = 0 })
-unfolding readEntry entryIn sheetIn headerFor recordsIn partsFrom soundAfter _then_ demand readHeader headerIn readRecord recordIn verdicts entryOf bytesOf failures firstFrom leastIn ceilOf sea bottomLoad innerLoad deepLoad lineLoad K2 rule4 rule5 rule6 memberLine bottomNamed innerNamed
+unfolding readEntry entryIn entryFault sheetIn headerFor recordsIn partsFrom soundAfter _then_ demand readHeader headerIn readRecord recordIn verdicts entryOf bytesOf failures firstFrom leastIn ceilOf sea bottomLoad innerLoad deepLoad lineLoad K2 rule4 rule5 rule6 memberLine bottomNamed innerNamed
 checker-numbers = (refl, refl, refl, refl)
 
 -- demand 3 on both

@@ -15,7 +15,7 @@ use Rattle.sheet.specs.Record.{recordIn, readRecord}
 use Rattle.plating.specs.Rules.{K2}
 use Rattle.framing.specs.Rules.{rule4, rule5, rule6, memberLine}
 use Rattle.checker.specs.declared.Entry.{Entry}
-use Rattle.checker.specs.Entry.{entryBytes, entryIn, readEntry}
+use Rattle.checker.specs.Entry.{entryBytes, entryFault, entryIn, readEntry}
 use Rattle.decimal.specs.Decimal.{digitsIn, decimalOf}
 use Rattle.decimal.specs.Line.{moreOf, lineOf}
 use Rattle.report.specs.Text.{printed, linesText, textBy, textOf}
@@ -62,7 +62,7 @@ bare = vessel ++ (0 ∷ [])
 abbrev pub lent : List ℕ
 lent = 170 ∷ 170 ∷ 170 ∷ 170 ∷ 170 ∷ 170 ∷ 170 ∷ 170 ∷ 170 ∷ []
 
--- as the document prints it: 7 3 617, 12 5 567, 2 records and 2 failures; the ninth byte is as it was lent
+-- as the document prints it: 7 3 617, 12 5 567, each with source 0, 2 records and 2 failures; the ninth byte is as it was lent
 pub example-answer : answerOf example 9 ≡ given (record { n = 2; failed = 2 })
 unfolding answerOf sheetIn headerFor recordsIn partsFrom soundAfter _then_ demand readHeader headerIn readRecord recordIn verdicts entryOf failures firstFrom leastIn ceilOf sea bottomLoad innerLoad deepLoad lineLoad K2 rule4 rule5 rule6 memberLine bottomNamed innerNamed
 example-answer = refl
@@ -71,11 +71,11 @@ pub example-output : outputOf example lent ≡ (entryBytes (record { id = 7; rul
 unfolding outputOf sheetIn headerFor recordsIn partsFrom soundAfter _then_ demand readHeader headerIn readRecord recordIn verdicts entryOf bytesOf firstFrom leastIn ceilOf sea bottomLoad innerLoad deepLoad lineLoad K2 rule4 rule5 rule6 memberLine bottomNamed innerNamed
 example-output = refl
 
--- and as text, byte for byte what the document shows
+-- and as text, byte for byte what the document shows, with the sources
 pub example-text :
     textOf example
-    ≡ (55 ∷ 32 ∷ 51 ∷ 32 ∷ 54 ∷ 49 ∷ 55 ∷ 10
-    ∷ 49 ∷ 50 ∷ 32 ∷ 53 ∷ 32 ∷ 53 ∷ 54 ∷ 55 ∷ 10
+    ≡ (55 ∷ 32 ∷ 51 ∷ 32 ∷ 54 ∷ 49 ∷ 55 ∷ 32 ∷ 48 ∷ 10
+    ∷ 49 ∷ 50 ∷ 32 ∷ 53 ∷ 32 ∷ 53 ∷ 54 ∷ 55 ∷ 32 ∷ 48 ∷ 10
     ∷ 50 ∷ 32 ∷ 50 ∷ 10
     ∷ [])
 unfolding textOf printed textBy linesText lineOf moreOf decimalOf digitsIn sheetIn headerFor recordsIn partsFrom soundAfter _then_ demand readHeader headerIn readRecord recordIn verdicts entryOf failures firstFrom leastIn ceilOf sea bottomLoad innerLoad deepLoad lineLoad K2 rule4 rule5 rule6 memberLine bottomNamed innerNamed
@@ -108,5 +108,5 @@ pub two-not-enough : (lightAfter 0 ≡ given (record { id = 12; rule = 4; requir
     × (lightAfter 1 ≡ given (record { id = 12; rule = 5; required = 567; source = 0 }))
     × (lightAfter 2 ≡ given (record { id = 12; rule = 6; required = 168; source = 0 }))
     × (lightAfter 3 ≡ given (record { id = 12; rule = 0; required = 0; source = 0 }))
-unfolding raisedTimes withScantling replaced readEntry entryIn sheetIn headerFor recordsIn partsFrom soundAfter _then_ demand readHeader headerIn readRecord recordIn verdicts entryOf bytesOf firstFrom leastIn ceilOf sea bottomLoad innerLoad deepLoad lineLoad K2 rule4 rule5 rule6 memberLine bottomNamed innerNamed
+unfolding raisedTimes withScantling replaced readEntry entryIn entryFault sheetIn headerFor recordsIn partsFrom soundAfter _then_ demand readHeader headerIn readRecord recordIn verdicts entryOf bytesOf firstFrom leastIn ceilOf sea bottomLoad innerLoad deepLoad lineLoad K2 rule4 rule5 rule6 memberLine bottomNamed innerNamed
 two-not-enough = (refl, refl, refl, refl)

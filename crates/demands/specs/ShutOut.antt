@@ -169,7 +169,7 @@ counting-is count s out n failed e = go (sheetIn s (length out)) e
 
 -- one that always says 1 failure says so of the example, where it leaves two
 pub counting-miscounts : Miscounts (counting (λ h. 1))
-unfolding readEntry entryIn sheetIn headerFor recordsIn partsFrom soundAfter _then_ demand readHeader headerIn readRecord recordIn verdicts entryOf bytesOf firstFrom leastIn ceilOf sea bottomLoad innerLoad deepLoad lineLoad K2 rule4 rule5 rule6 memberLine bottomNamed innerNamed
+unfolding readEntry entryIn entryFault sheetIn headerFor recordsIn partsFrom soundAfter _then_ demand readHeader headerIn readRecord recordIn verdicts entryOf bytesOf firstFrom leastIn ceilOf sea bottomLoad innerLoad deepLoad lineLoad K2 rule4 rule5 rule6 memberLine bottomNamed innerNamed
 counting-miscounts = (example, lent, 2, 1, refl, λ e. omega (arith, e))
 
 -- ---- and is shut out
