@@ -3,6 +3,7 @@ pub mod Table
 pub mod Program
 pub mod Raise
 pub mod Demands
+pub mod Sources
 pub mod Empty
 pub mod EmptyPrograms
 -- how it is proved
@@ -11,6 +12,7 @@ pub mod Replace
 pub mod Exchange
 pub mod Scantling
 pub mod Proved
+pub mod SourcesProved
 pub mod ShutOut
 pub mod Only
 -- sheets of bytes, computed

@@ -211,7 +211,7 @@ module _ (P : Program) (meets : Meets P) where
 
     -- what the program does on a sheet in which only record i is another
     module _ (s' : List ℕ) (r : Record) (holds : exchange.Holds s out t given-t i inside s' r) where
-      holds-leaves : Leaves P s' out i (entryOf (t .header) r)
+      pub holds-leaves : Leaves P s' out i (entryOf (t .header) r)
       holds-leaves = ap (λ (o : List ℕ). readEntry (fourAt i o)) (left s' out) ∙ exchange.own-verdict s out t given-t i inside s' r holds
 
       holds-done : (failed : ℕ) × (P .answer s' out ≡ Done (t .header .count) failed)
@@ -225,7 +225,7 @@ module _ (P : Program) (meets : Meets P) where
 
       -- with x in place of the scantling that fails
       module _ (some : 1 ≤ verdict (t .header) r .rule) (x : ℕ) (gauge : InGauge (verdict (t .header) r .rule) x) where
-        put-holds : exchange.Holds s out t given-t i inside (withScantling i (verdict (t .header) r .rule) x s') (putRecord (verdict (t .header) r .rule) x r)
+        pub put-holds : exchange.Holds s out t given-t i inside (withScantling i (verdict (t .header) r .rule) x s') (putRecord (verdict (t .header) r .rule) x r)
         unfolding withScantling
         put-holds =
             let k = verdict (t .header) r .rule in
@@ -259,7 +259,7 @@ module _ (P : Program) (meets : Meets P) where
               let some = rule-of (t .header) r l in
               put-holds some (verdict (t .header) r .required) (l, number-in-gauge (t .header) r some)
 
-    times-holds : (count : ℕ) (s' : List ℕ) (r : Record) → Holds s' r → Holds (raisedTimes P out count i s') (raisedRecord count (t .header) r)
+    pub times-holds : (count : ℕ) (s' : List ℕ) (r : Record) → Holds s' r → Holds (raisedTimes P out count i s') (raisedRecord count (t .header) r)
     unfolding raisedTimes raisedRecord
     times-holds zero s' r holds = holds
     times-holds (suc count) s' r holds = times-holds count _ (raisedOnce (t .header) r) (raised-holds s' r holds)
@@ -280,7 +280,7 @@ module _ (P : Program) (meets : Meets P) where
             none-meets some (λ x g. not-true _ (λ w. omega (arith, put-met-exactly s' r holds some x g .0 w .0)))
 
     module _ (r : Record) (read : recordOf s i ≡ given r) where
-      at-first : exchange.Holds s out t given-t i inside s r
+      pub at-first : exchange.Holds s out t given-t i inside s r
       at-first = exchange.holds-at-first s out t given-t i inside r read
 
       third-of : 1 ≤ verdict (t .header) r .rule → Third P s out (t .header .count) i (entryOf (t .header) r)
@@ -319,13 +319,13 @@ module _ (P : Program) (meets : Meets P) where
           }
 
   module _ (s out : List ℕ) (n failed i : ℕ) (e : P .answer s out ≡ Done n failed) (l : i < n) where
-    taken : (t : Sheet) × (sheetIn s (length out) ≡ given t) × (n ≡ t .header .count)
+    pub taken : (t : Sheet) × (sheetIn s (length out) ≡ given t) × (n ≡ t .header .count)
     taken = let q = sheet-of s (length out) (record { n = n; failed = failed }) (done-given s out n failed e) in (q .0, q .1, ap (λ (w : Totals). w .n) (q .2))
 
-    inside : i < taken .0 .header .count
+    pub inside : i < taken .0 .header .count
     inside = omega (arith, taken .2)
 
-    its : (r : Record) × (recordOf s i ≡ given r)
+    pub its : (r : Record) × (recordOf s i ≡ given r)
     its = record-given s out (taken .0) (taken .1) i inside
 
     pub third-demand : (f : Entry) → Leaves P s out i f → 1 ≤ f .rule → Third P s out n i f

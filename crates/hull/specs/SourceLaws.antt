@@ -1,10 +1,10 @@
 -- The source that a finding names is right, raising does not change it, and without it a finding is the verdict.
 -- Assumes nothing.
-use Prim.Native.Nat.{ℕ, _≤_}
-use mathlib.Core.Path.{_≡_, refl, ap, subst}
+use Prim.Native.Nat.{ℕ, zero, suc, _≤_}
+use mathlib.Core.Path.{_≡_, refl, ap, subst, _∙_}
 use mathlib.Core.Bool.{Bool, true, false, cond}
 use mathlib.Core.List.{List, []}
-use lib.Dec.{lit≤}
+use lib.Dec.{eqb, lit≤}
 use Rattle.loads.specs.declared.Source.the-variants.{Cargo}
 use Rattle.loads.specs.Sources.{numberOf, Named, deepNamed, bottomNamed, innerNamed, Decides}
 use Rattle.loads.specs.SourceLaws.{deciding-decides, either-most, sea-most, bottom-most, inner-most}
@@ -17,7 +17,7 @@ use Rattle.verdict.specs.declared.Verdict.{Verdict}
 use Rattle.plating.specs.Laws.{plate-pressure}
 use Rattle.framing.specs.Laws.{member-pressure}
 use Rattle.hull.specs.Hull.{verdict, bodyNamed, sourceOf, finding}
-use Rattle.hull.specs.Raising.{raisedBody, raised}
+use Rattle.hull.specs.Raising.{raisedBody, raised, raisedOnce, raisedTimes}
 use Rattle.hull.specs.Sources.{bodyLoads, loadsOn, bodyPressure, pressureOn}
 
 -- ---- right
@@ -62,6 +62,16 @@ body-source h kind v (isMember m) = refl
 -- another number in place of a scantling leaves the source as it was
 pub raising-source : (h : Header) (v : Verdict) (r : Record) → sourceOf h (raised v r) ≡ sourceOf h r
 raising-source h v r = ap (λ (n : Named). n .source) (body-source h (r .kind) v (r .body))
+
+-- so do any raisings
+pub times-source : (count : ℕ) (h : Header) (r : Record) → sourceOf h (raisedTimes count h r) ≡ sourceOf h r
+unfolding raisedTimes raisedOnce
+times-source zero h r = refl
+times-source (suc count) h r = times-source count h (raisedOnce h r) ∙ once (eqb (verdict h r .required) 0)
+  where
+    once : (b : Bool) → sourceOf h (cond b r (raised (verdict h r) r)) ≡ sourceOf h r
+    once true = refl
+    once false = raising-source h (verdict h r) r
 
 -- ---- forgotten
 

@@ -28,7 +28,7 @@ fn put_apart(sheet: &[u8], text: &mut [u8]) -> usize
 }
 
 fn print_apart(sheet: &[u8]) {
-    let mut text = [0u8; 5609];
+    let mut text = [0u8; 6409];
     let end = put_apart(sheet, &mut text);
     io::write_all(STDOUT_FILENO, &text[..end]);
 }
