@@ -2,8 +2,7 @@
 use Prim.Native.Nat.{ℕ}
 use mathlib.Core.Bool.{cond}
 use mathlib.Core.List.{List, [], _∷_}
-use Rattle.loads.specs.Loads.{ballast}
-use Rattle.loads.specs.Sources.{Named, seaNamed, cargoNamed, deepNamed, withBallast, relieved}
+use Rattle.loads.specs.Sources.{Named, seaNamed, deepNamed, onBottom, onInner}
 use Rattle.sheet.specs.Kinds.{isBottom, isDeep}
 use Rattle.sheet.specs.declared.Header.{Header}
 use Rattle.sheet.specs.declared.Record.{Record}
@@ -12,15 +11,14 @@ use Rattle.sheet.specs.declared.Body.the-variants.{Plate as isPlate, Member as 
 use Rattle.plating.specs.Rules.{plateLoad}
 use Rattle.framing.specs.Rules.{memberLoad}
 
--- bottom plate: sea, and with ballast the tank less the relief; inner bottom plate: cargo, and with ballast the tank; kind 5: sea; kinds 6 to 8: that of
--- the whole draught
+-- kinds 1, 2 those of the bottom, kinds 3, 4 those of the inner bottom; kind 5: sea at z; kinds 6 to 8: that of the whole draught
 abbrev pub bodyLoads : Header → ℕ → Body → List Named
 bodyLoads h kind (isPlate p) =
     let D0 = h .draught .0 in
     let H = h .wave .0 in
     let z = p .z .0 in
     let zL = p .«tank_top» .0 in
-    cond (isBottom kind) (seaNamed D0 H z ∷ relieved D0 H z (p .ballast) zL) (cargoNamed (p .cargo) ∷ withBallast (p .ballast) (ballast zL z))
+    cond (isBottom kind) (onBottom D0 H z (p .ballast) zL) (onInner (p .cargo) z (p .ballast) zL)
 bodyLoads h kind (isMember m) =
     let D0 = h .draught .0 in
     let H = h .wave .0 in

@@ -3,3 +3,4 @@ pub mod Sources
 pub mod Only
 pub mod Bounds
 pub mod SourceLaws
+pub mod Cases

@@ -88,7 +88,7 @@ among-second : {d h a b : Named} {bs : List Named} → h ≡ b → Among d (h �
 among-second e (first f) = later (first (f ∙ e))
 among-second e (later m) = later (later m)
 
-pub deciding-decides : (a : Named) (bs : List Named) → Decides (deciding a bs) (a ∷ bs)
+pub deciding-decides : (a : Named) (bs : List Named) → Decides (deciding (a ∷ bs)) (a ∷ bs)
 deciding-decides a [] = record { one-of-them = first refl; none-greater = greater; lowest-number = lowest }
   where
     greater : (l : Named) → Among l (a ∷ []) → l .pressure ≤ a .pressure
@@ -98,7 +98,7 @@ deciding-decides a [] = record { one-of-them = first refl; none-greater = greate
     lowest l (first e) g = let f = ap (λ (n : Named). n .source) e in omega arith
 deciding-decides a (b ∷ bs) = step (heavier-of a b) (deciding-decides (heavier a b) bs)
   where
-    step : Heavier a b (heavier a b) → Decides (deciding (heavier a b) bs) (heavier a b ∷ bs) → Decides (deciding (heavier a b) bs) (a ∷ b ∷ bs)
+    step : Heavier a b (heavier a b) → Decides (deciding (heavier a b ∷ bs)) (heavier a b ∷ bs) → Decides (deciding (a ∷ b ∷ bs)) (a ∷ b ∷ bs)
     step (is-first e p q) w = of-both _ _ bs w a b p q (among-first e (w .one-of-them))
     step (is-second e p q) w = of-both _ _ bs w a b p q (among-second e (w .one-of-them))
 

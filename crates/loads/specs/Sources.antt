@@ -47,9 +47,14 @@ deepNamed D0 H twoRuns = record { pressure = deepLoad D0 H twoRuns; source = num
 abbrev pub withBallast : Bool → ℕ → List Named
 withBallast isBallast P = cond isBallast (tankNamed P ∷ []) []
 
--- a bottom plate's tank: pB − pM, or 0 where that is negative; the sea has the lower number and is never negative, so that the cut-off decides nothing
-abbrev pub relieved : ℕ → ℕ → ℕ → Bool → ℕ → List Named
-relieved D0 H z isBallast zL = withBallast isBallast (ballast zL z - relief D0 H)
+-- those on a bottom plate: the sea, and with ballast pB − pM, or 0 where that is negative; the sea is never negative and has the lower number, so that
+-- the cut-off decides nothing
+abbrev pub onBottom : ℕ → ℕ → ℕ → Bool → ℕ → List Named
+onBottom D0 H z isBallast zL = seaNamed D0 H z ∷ withBallast isBallast (ballast zL z - relief D0 H)
+
+-- those on an inner bottom plate: cargo, and with ballast pB
+abbrev pub onInner : ℕ → ℕ → Bool → ℕ → List Named
+onInner cargo z isBallast zL = cargoNamed cargo ∷ withBallast isBallast (ballast zL z)
 
 -- ---- the one that decides
 
@@ -59,17 +64,22 @@ heavier a b =
     cond (ltb (a .pressure) (b .pressure)) b (cond (ltb (b .pressure) (a .pressure)) a (cond (ltb (a .source) (b .source)) a b))
 
 -- of a first one and others
-abbrev pub deciding : Named → List Named → Named
-deciding a [] = a
-deciding a (b ∷ bs) = deciding (heavier a b) bs
+abbrev pub decidingFrom : Named → List Named → Named
+decidingFrom a [] = a
+decidingFrom a (b ∷ bs) = decidingFrom (heavier a b) bs
 
--- on a bottom plate: of the sea, and with ballast the tank
+-- of several; of none, no pressure
+abbrev pub deciding : List Named → Named
+deciding [] = record { pressure = 0; source = 0 }
+deciding (a ∷ bs) = decidingFrom a bs
+
+-- on a bottom plate
 unfoldable pub bottomNamed : ℕ → ℕ → ℕ → Bool → ℕ → Named
-bottomNamed D0 H z isBallast zL = deciding (seaNamed D0 H z) (relieved D0 H z isBallast zL)
+bottomNamed D0 H z isBallast zL = deciding (onBottom D0 H z isBallast zL)
 
--- on an inner bottom plate: of the cargo, and with ballast the tank
+-- on an inner bottom plate
 unfoldable pub innerNamed : ℕ → ℕ → Bool → ℕ → Named
-innerNamed cargo z isBallast zL = deciding (cargoNamed cargo) (withBallast isBallast (ballast zL z))
+innerNamed cargo z isBallast zL = deciding (onInner cargo z isBallast zL)
 
 -- ---- what it is to decide
 
