@@ -307,7 +307,7 @@ fn half_that_shows(chance: &mut Chance, header: &Header, form: &mut Form) {
     let Record::Member(data) = Record::of(form) else {
         return;
     };
-    let P = member_pressure(header, &data);
+    let P = member_pressure(header, &data).P;
     let first = chance.between(100, 4000);
     let shows = |S: &i128| line_load(P, *S) != line_load(P - 1, *S);
     if let Some(S) = (first..=4000).chain(100..first).find(shows) {
