@@ -2,6 +2,7 @@
 //! above what a rule needs.
 
 use super::chance::Chance;
+use super::tie::even_loads;
 use crate::form::{Form, MEMBER, PLATE};
 use crate::loads::{hull_stress, line_load, member_pressure};
 use crate::rules::{demands, Demand};
@@ -141,6 +142,7 @@ fn plate(chance: &mut Chance, header: &Header, kind: i128) -> Form {
     match chance.below(5) {
         0 => round_plate(chance, &mut form),
         1 if kind == 3 => heavy_cargo(chance, &mut form),
+        2 => even_loads(chance, header, &mut form),
         _ => {}
     }
     form
