@@ -117,29 +117,33 @@ static uint64_t up(u128 p, u128 a) { return (uint64_t)((p + a - 1) / a); }
 
 static uint64_t most(uint64_t a, uint64_t b) { return a > b ? a : b; }
 
-static uint64_t sea(const Header *h, uint32_t z) {
-    if (z <= h->draught) return 98100ull * (h->draught - z) + 50031ull * h->wave;
-    return most(50150ull * h->wave, 3000000) + (h->wave == 120 ? 3400ull * h->wave : 250000);
+// A pressure and where it comes from, by the verdict's number.
+typedef struct {
+    uint64_t pressure;
+    enum { SEA, SEA_ABOVE, BALLAST, CARGO } source;
+} Load;
+
+static Load sea(const Header *h, uint32_t z) {
+    if (z <= h->draught) return (Load){98100ull * (h->draught - z) + 50031ull * h->wave, SEA};
+    return (Load){most(50150ull * h->wave, 3000000) + (h->wave == 120 ? 3400ull * h->wave : 250000), SEA_ABOVE};
 }
 
-static uint64_t plate_load(const Header *h, const Record *r) {
+static Load plate_load(const Header *h, const Record *r) {
     uint64_t tank = 98100ull * (r->tank_top + 100 - r->z);
     if (r->kind > 2) {
         uint64_t cargo = 1000ull * r->cargo;
-        return r->ballast ? most(cargo, tank) : cargo;
+        return r->ballast && tank >= cargo ? (Load){tank, BALLAST} : (Load){cargo, CARGO};
     }
-    uint64_t load = sea(h, r->z);
+    Load load = sea(h, r->z);
     if (!r->ballast) return load;
     int64_t relief = 14715ll * h->draught - 50031ll * h->wave;
     if (relief < 0) relief = 0;
-    return (int64_t)tank - relief > (int64_t)load ? tank - relief : load;
+    return (int64_t)tank - relief > (int64_t)load.pressure ? (Load){tank - relief, BALLAST} : load;
 }
 
-static uint64_t line_load(const Header *h, const Record *r) {
-    uint64_t load;
-    if (r->kind == 5) load = sea(h, r->z);
-    else load = (h->two_runs ? (564075ull * h->draught + 9) / 10 : 98100ull * h->draught) + 50031ull * h->wave;
-    return (load * r->spacing + 999999) / 1000000;
+static Load member_load(const Header *h, const Record *r) {
+    if (r->kind == 5) return sea(h, r->z);
+    return (Load){(h->two_runs ? (564075ull * h->draught + 9) / 10 : 98100ull * h->draught) + 50031ull * h->wave, SEA};
 }
 
 // The least whole number whose square is at least n.
@@ -167,14 +171,13 @@ typedef struct {
     uint32_t rule, required;
 } Verdict;
 
-static Verdict judge_plate(const Header *h, const Record *r) {
+static Verdict judge_plate(const Header *h, const Record *r, uint64_t P) {
     uint64_t kind = r->kind, K = r->factor, S = r->spacing, T = r->thickness, L = h->length;
     uint64_t less = (kind == 1 ? 18500 : kind == 2 ? 11000 : 15000) + 36 * S;
     u128 a = kind <= 2 ? 1000 : 3125, p = (u128)(kind <= 2 ? 9 : 8) * L * L * K;
     int64_t X = 100 * (int64_t)T - (int64_t)less;
     if (X < 0 || a * X * X < p) return (Verdict){1, least(100, less, a, p, 4000)};
     int lengthwise = kind == 2 || kind == 4;
-    u128 P = plate_load(h, r);
     a = lengthwise ? 625000000000ull : 39062500000ull;
     p = (u128)(lengthwise ? 9 : 1) * S * S * K * P;
     if (a * T * T < p) return (Verdict){2, least(1, 0, a, p, 4000)};
@@ -196,7 +199,7 @@ static Verdict judge_plate(const Header *h, const Record *r) {
     return (Verdict){0, 0};
 }
 
-static Verdict judge_member(const Header *h, const Record *r) {
+static Verdict judge_member(const Header *h, const Record *r, uint64_t P) {
     uint64_t kind = r->kind, K = r->factor, S = r->spacing, T = r->thickness, L = h->length, l = r->span;
     uint64_t step = 100, less = 38000;
     u128 a = 3125, p = (u128)8 * L * L * K;
@@ -204,7 +207,7 @@ static Verdict judge_member(const Header *h, const Record *r) {
     else if (kind == 5) step = 10, less = S, a = 1, p = 15210 * K;
     int64_t X = (int64_t)(step * T) - (int64_t)less;
     if (X < 0 || a * X * X < p) return (Verdict){4, least(step, less, a, p, 4000)};
-    u128 q = line_load(h, r);
+    u128 q = (P * S + 999999) / 1000000;
     uint64_t limit = kind == 5 ? 214 : kind == 8 ? 197 : 256;
     if (r->stress >= limit) return (Verdict){5, 0};
     if (kind == 5) a = (u128)100000000000 * (limit - r->stress), p = q * 833 * r->bending * r->eta * l * l;
@@ -236,8 +239,9 @@ uint64_t peer_check(const uint8_t *sheet, uint64_t sheet_len, uint8_t *out, uint
     uint32_t failed = 0;
     for (uint32_t i = 0; i < h.count; i++) {
         read_record(sheet + 12 + 16 * i, &r);
-        Verdict v = r.kind <= 4 ? judge_plate(&h, &r) : judge_member(&h, &r);
-        uint32_t bits = __builtin_bswap32(r.id << 22 | v.rule << 19 | v.required << 2);
+        Load load = r.kind <= 4 ? plate_load(&h, &r) : member_load(&h, &r);
+        Verdict v = r.kind <= 4 ? judge_plate(&h, &r, load.pressure) : judge_member(&h, &r, load.pressure);
+        uint32_t bits = __builtin_bswap32(r.id << 22 | v.rule << 19 | v.required << 2 | load.source);
         __builtin_memcpy(out + 4 * i, &bits, 4);
         failed += v.rule != 0;
     }

@@ -28,7 +28,8 @@ static inline uint64_t root_up(uint64_t n) { // least x with x*x >= n, n < 2^52
 static inline uint64_t up(uint64_t p, uint64_t a) { return (p + a - 1) / a; }
 static inline uint32_t clip(uint64_t x, uint32_t top) { return x > top ? 0 : x < 1 ? 1 : (uint32_t)x; }
 static inline uint64_t sea(const H *h, uint64_t z) { return z <= h->draught ? h->below - 98100 * z : h->above; }
-#define V(rule, req) ((rule) << 19 | (req) << 2)
+// What follows the id where a rule fails; on a pass that is the source alone.
+#define V(rule, req) ((rule) << 19 | (req) << 2 | source)
 
 static inline uint32_t plate(const H *h, uint64_t hi, uint64_t lo, uint32_t kind, int *f) {
     uint32_t K = hi >> 40 & 1023, z = hi >> 30 & 1023, S = hi >> 18 & 4095, T = hi >> 6 & 4095, b1 = (hi & 63) << 4 | lo >> 60, b2 = lo >> 50 & 1023;
@@ -71,22 +72,26 @@ static inline uint32_t plate(const H *h, uint64_t hi, uint64_t lo, uint32_t kind
         *f = 12;
         return 0;
     }
+    uint64_t P;
+    uint32_t source;
+    if (kind > 2) {
+        P = 1000ull * cargo, source = 3;
+        if (ballast) {
+            uint64_t t = 98100ull * (top + 100 - z);
+            if (t >= P) P = t, source = 2;
+        }
+    } else {
+        P = sea(h, z), source = z > h->draught;
+        if (ballast) {
+            uint64_t t = 98100ull * (top + 100 - z);
+            if (t > P + h->relief) P = t - h->relief, source = 2;
+        }
+    }
     uint64_t less = (kind == 1 ? 18500 : kind == 2 ? 11000 : 15000) + 36 * (uint64_t)S;
     int64_t X = 100 * (int64_t)T - (int64_t)less;
     uint64_t p = (kind <= 2 ? h->L2_9 : h->L2_8) * K;
     if (X < 0 || (kind <= 2 ? 1000 : 3125) * (uint64_t)(X * X) < p)
         return V(1u, clip((less + root_up(kind <= 2 ? up(p, 1000) : up(p, 3125)) + 99) / 100, 4000));
-    uint64_t P;
-    if (kind > 2) {
-        P = 1000ull * cargo;
-        if (ballast) P = most(P, 98100ull * (top + 100 - z));
-    } else {
-        P = sea(h, z);
-        if (ballast) {
-            uint64_t t = 98100ull * (top + 100 - z);
-            P = most(P, t > h->relief ? t - h->relief : 0);
-        }
-    }
     uint64_t S2 = (uint64_t)S * S, T2 = (uint64_t)T * T, S2K = S2 * K;
     p = S2K * P;
     if (lengthwise) {
@@ -109,7 +114,7 @@ static inline uint32_t plate(const H *h, uint64_t hi, uint64_t lo, uint32_t kind
         u128 q = (u128)((lengthwise ? 1521 : 1156) * S2) * R;
         if (a * T2 < q) return V(3u, a * 16000000 < q ? 0 : clip(root_up(up((uint64_t)q, a)), 4000));
     }
-    return 0;
+    return source;
 }
 
 static inline uint32_t member(const H *h, uint64_t hi, uint64_t lo, uint32_t kind, int *f) {
@@ -161,6 +166,7 @@ static inline uint32_t member(const H *h, uint64_t hi, uint64_t lo, uint32_t kin
         *f = 13;
         return 0;
     }
+    uint32_t source = z > h->draught; // z is 0 in kinds 6 to 8
     uint64_t less = 38000, p = h->L2_8 * K;
     if (kind != 5) {
         int64_t X = 100 * (int64_t)T - 38000;
@@ -193,7 +199,7 @@ static inline uint32_t member(const H *h, uint64_t hi, uint64_t lo, uint32_t kin
         p = ql * 9 * bs;
         if (20000000ull * A < p) return V(6u, clip(up(p, 20000000), 16000));
     }
-    return 0;
+    return source;
 }
 
 uint64_t strong_check(const uint8_t *sheet, uint64_t sheet_len, uint8_t *to, uint64_t out_len) {
@@ -231,7 +237,7 @@ uint64_t strong_check(const uint8_t *sheet, uint64_t sheet_len, uint8_t *to, uin
         if (unlikely(f)) return refused(7, 32 * i + (uint32_t)f);
         if (unlikely(id <= before)) return refused(8, i);
         before = id;
-        failed += v != 0;
+        failed += v > 3;
         draft[i] = __builtin_bswap32(id << 22 | v);
     }
     __builtin_memcpy(to, draft, 4 * n);

@@ -18,7 +18,7 @@ extern "C" {
 /* How many numbers a header, a record and a verdict are. */
 #define YARD_HEADER_FIELDS 8
 #define YARD_RECORD_FIELDS 13
-#define YARD_VERDICT_FIELDS 3
+#define YARD_VERDICT_FIELDS 4
 
 /* How many bytes they take. */
 #define YARD_HEADER_BYTES 12
@@ -45,8 +45,10 @@ uint64_t yard_read_record(const uint8_t *bytes, uint64_t bytes_len, uint32_t fie
    plate must be 0, and are refused as field 12, the zero bits, where they are not. */
 uint64_t yard_write_record(const uint32_t fields[13], uint8_t *out, uint64_t out_len);
 
-/* Reads one verdict in the first four bytes: 0, and fields are id, rule (0 is a pass) and required (0 on a pass, and where nothing will do). */
-uint64_t yard_read_verdict(const uint8_t *bytes, uint64_t bytes_len, uint32_t fields[3]);
+/* Reads one verdict in the first four bytes: 0, and fields are id, rule (0 is a pass), required (0 on a pass, and where nothing will do) and source,
+   the load that the record's pressure comes from, on a pass too and whichever rule fails: 0 the sea at or below the draught (kinds 6 to 8 always), 1 the
+   sea above it, 2 ballast, 3 cargo; of two equal loads the lower number. */
+uint64_t yard_read_verdict(const uint8_t *bytes, uint64_t bytes_len, uint32_t fields[4]);
 
 /* Puts the record that the fields are into the sheet in the first len bytes of buf, a buffer of buf_len bytes: it replaces the record with its id, or
    goes in at its place in the id order, and those from there on move up by sixteen bytes. The answer is the sheet's new length: len, or len + 16. A

@@ -195,6 +195,18 @@ static void records(void) {
   read_as("member with K 232", 13, yard_read_record, 16);
 }
 
+/* The example with its plate as thick as it must be, under a tank that presses more than the sea. */
+static void ballast(void) {
+  example();
+  with(plate, 13, 5, 617);
+  damaged[8] = 1;
+  damaged[9] = 400;
+  if (yard_write_record(damaged, sheet + 12, 16)) {
+    printf("the plate with ballast was not written\n");
+    exit(1);
+  }
+}
+
 static void sheets(void) {
   example();
   check("example", 44, 8);
@@ -211,6 +223,8 @@ static void sheets(void) {
   example();
   for (int i = 28; i < 44; i++) sheet[i] = sheet[i - 16];
   check("equal ids", 44, 8);
+  ballast();
+  check("a plate under ballast", 44, 8);
 }
 
 static void verdicts(void) {
@@ -218,12 +232,19 @@ static void verdicts(void) {
   fill();
   yard_check(sheet, 44, out, 8);
   for (int i = 0; i < 8; i++) sheet[i] = out[i];
-  read_as("verdict read", 3, yard_read_verdict, 8);
-  read_as("verdict in 3 bytes", 3, yard_read_verdict, 3);
+  read_as("verdict read", 4, yard_read_verdict, 8);
+  read_as("verdict in 3 bytes", 4, yard_read_verdict, 3);
+  sheet[3] |= 2;
+  read_as("verdict with a source", 4, yard_read_verdict, 4);
   sheet[3] |= 1;
-  read_as("verdict with a spare bit", 3, yard_read_verdict, 4);
+  read_as("verdict with the highest source", 4, yard_read_verdict, 4);
   sheet[1] &= 0xC7;
-  read_as("pass that requires", 3, yard_read_verdict, 4);
+  read_as("pass that requires", 4, yard_read_verdict, 4);
+  ballast();
+  fill();
+  yard_check(sheet, 44, out, 8);
+  for (int i = 0; i < 4; i++) sheet[i] = out[i];
+  read_as("pass under ballast", 4, yard_read_verdict, 4);
 }
 
 /* What must stand in the sheet's buffer and around it, whatever an edit does; and the length of the sheet. */
@@ -423,8 +444,8 @@ static void as_barge(void) {
       printf("verdict %u cannot be read\n", i);
       exit(1);
     }
-    intact("verdict", 4 * (int)yard_n(answer), 3);
-    printf("%u %u %u\n", fields[0], fields[1], fields[2]);
+    intact("verdict", 4 * (int)yard_n(answer), 4);
+    printf("%u %u %u %u\n", fields[0], fields[1], fields[2], fields[3]);
   }
   printf("%u %u\n", yard_n(answer), yard_failed(answer));
 }

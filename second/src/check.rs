@@ -2,6 +2,7 @@
 //! record by record.
 
 use crate::form::{Form, HEADER_BYTES, RECORD_BYTES, VERDICT, VERDICT_BYTES};
+use crate::loads::pressure;
 use crate::refusal::Refusal;
 use crate::rules::demands;
 use crate::sheet::{read_header, read_record, Header, Record};
@@ -14,11 +15,13 @@ pub struct Outcome {
 }
 
 /// Rule 0 is a pass; required is 0 on a pass and where nothing in the gauge will do.
+/// The source is what the record's pressure comes from, whichever rule is named.
 #[derive(Clone, Copy, Debug, PartialEq, Eq)]
 pub struct Verdict {
     pub id: i128,
     pub rule: i128,
     pub required: i128,
+    pub source: i128,
 }
 
 impl Verdict {
@@ -27,6 +30,7 @@ impl Verdict {
             ("id", self.id),
             ("rule", self.rule),
             ("required", self.required),
+            ("source", self.source),
         ];
         Form::filled(VERDICT, &fields).pack()
     }
@@ -37,27 +41,25 @@ impl Verdict {
             id: form.get("id"),
             rule: form.get("rule"),
             required: form.get("required"),
+            source: form.get("source"),
         }
     }
 }
 
 /// Names the first rule, in their order, that the record fails.
 pub fn judge(header: &Header, record: &Record) -> Verdict {
-    let id = record.id();
-    for demand in demands(header, record) {
-        if !demand.is_met() {
-            return Verdict {
-                id,
-                rule: demand.rule,
-                required: demand.least().unwrap_or(0),
-            };
-        }
-    }
-    Verdict {
-        id,
+    let mut verdict = Verdict {
+        id: record.id(),
         rule: 0,
         required: 0,
+        source: pressure(header, record).source,
+    };
+    let demands = demands(header, record);
+    if let Some(failed) = demands.iter().find(|demand| !demand.is_met()) {
+        verdict.rule = failed.rule;
+        verdict.required = failed.least().unwrap_or(0);
     }
+    verdict
 }
 
 /// Reads the whole sheet or refuses it; the steps stand in the order of the table.

@@ -50,7 +50,7 @@ pub const MEMBER: Layout = &[
     ("K", 10),
 ];
 
-pub const VERDICT: Layout = &[("id", 10), ("rule", 3), ("required", 17), ("zero", 2)];
+pub const VERDICT: Layout = &[("id", 10), ("rule", 3), ("required", 17), ("source", 2)];
 
 pub const HEADER_BYTES: usize = 12;
 pub const RECORD_BYTES: usize = 16;

@@ -9,6 +9,7 @@ mod edits;
 mod faults;
 mod record;
 mod spoil;
+mod tie;
 mod vessel;
 mod whole;
 

@@ -13,14 +13,24 @@ pub fn verdicts(sheet: &[u8]) -> Result<(Vec<Verdict>, Outcome), Refusal> {
     Ok((written.map(Verdict::unpack).collect(), outcome))
 }
 
-/// `id rule required` for each record and then `n failures`, or `refused number place`.
+fn line(verdict: &Verdict) -> String {
+    let Verdict {
+        id,
+        rule,
+        required,
+        source,
+    } = verdict;
+    format!("{id} {rule} {required} {source}\n")
+}
+
+/// `id rule required source` for each record and then `n failures`, or `refused number place`.
 pub fn answer(sheet: &[u8]) -> String {
     match verdicts(sheet) {
         Err(Refusal { number, place }) => format!("refused {number} {place}\n"),
         Ok((verdicts, Outcome { n, failures })) => {
             let mut text = String::new();
-            for Verdict { id, rule, required } in verdicts {
-                text += &format!("{id} {rule} {required}\n");
+            for verdict in verdicts {
+                text += &line(&verdict);
             }
             text + &format!("{n} {failures}\n")
         }

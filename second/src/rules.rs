@@ -146,7 +146,7 @@ pub fn demands(header: &Header, record: &Record) -> [Demand; 3] {
 fn plate_demands(header: &Header, plate: &Plate) -> [Demand; 3] {
     let L = header.L;
     let Plate { kind, K, S, T, .. } = *plate;
-    let P = plate_pressure(header, plate);
+    let P = plate_pressure(header, plate).P;
     let R = hull_stress(header);
     let rule_3 = if kind == 1 || kind == 3 {
         let K2 = panel_factor(plate);
@@ -177,7 +177,7 @@ fn member_demands(header: &Header, member: &Member) -> [Demand; 3] {
         A,
         ..
     } = member;
-    let q = line_load(member_pressure(header, &member), S);
+    let q = line_load(member_pressure(header, &member).P, S);
     [
         Demand::new(4, T, T_HIGHEST, move |T| rule_4(kind, L, K, S, T)),
         Demand::new(5, W, W_HIGHEST, move |W| rule_5(&member, q, W)),

@@ -9,10 +9,10 @@ use common::{member, plate, required, sheet, vessel_v, with};
 use second::form::Form;
 use second::loads;
 use second::print::answer;
-use second::sheet::{Header, Member, Plate, Record};
+use second::sheet::{Header, Plate, Record};
 
 fn sea(header: &Form, z: i128) -> i128 {
-    loads::sea(&Header::of(header), z)
+    loads::sea(&Header::of(header), z).P
 }
 
 fn relief(header: &Form) -> i128 {
@@ -26,19 +26,8 @@ fn as_plate(form: &Form) -> Plate {
     }
 }
 
-fn as_member(form: &Form) -> Member {
-    match Record::of(form) {
-        Record::Member(member) => member,
-        Record::Plate(_) => panic!("not a member"),
-    }
-}
-
 fn pressure(header: &Form, record: &Form) -> i128 {
-    let header = Header::of(header);
-    match Record::of(record) {
-        Record::Plate(plate) => loads::plate_pressure(&header, &plate),
-        Record::Member(member) => loads::member_pressure(&header, &member),
-    }
+    loads::pressure(&Header::of(header), &Record::of(record)).P
 }
 
 fn numbers(a: i128, b: i128, c: i128) -> [Option<i128>; 3] {
@@ -113,8 +102,7 @@ fn case_9_inner_bottom() {
 
 #[test]
 fn case_10_bottom_longitudinal() {
-    let header = Header::of(&vessel_v());
-    let P = loads::member_pressure(&header, &as_member(&member(5)));
+    let P = pressure(&vessel_v(), &member(5));
     assert_eq!(loads::line_load(P, 500), 13_764);
     assert_eq!(required(&vessel_v(), &member(5)), numbers(420, 567, 168));
 }
@@ -141,7 +129,7 @@ fn printed_example() {
         &[("id", 12), ("T", 420), ("W", 560), ("A", 168)],
     );
     let sheet = sheet(&vessel_v(), &[bottom, longitudinal]);
-    assert_eq!(answer(&sheet), "7 3 617\n12 5 567\n2 2\n");
+    assert_eq!(answer(&sheet), "7 3 617 0\n12 5 567 0\n2 2\n");
 }
 
 #[test]
@@ -152,16 +140,16 @@ fn passes_print_zeros_and_an_empty_sheet_is_accepted() {
         &[("id", 12), ("T", 420), ("W", 567), ("A", 168)],
     );
     let full = sheet(&vessel_v(), &[bottom, longitudinal]);
-    assert_eq!(answer(&full), "7 0 0\n12 0 0\n2 0\n");
+    assert_eq!(answer(&full), "7 0 0 0\n12 0 0 0\n2 0\n");
     assert_eq!(answer(&sheet(&vessel_v(), &[])), "0 0\n");
 }
 
 #[test]
 fn the_first_failed_rule_is_named() {
     let thin = with(&plate(2), &[("T", 1)]);
-    assert_eq!(answer(&sheet(&vessel_v(), &[thin])), "1 1 530\n1 1\n");
+    assert_eq!(answer(&sheet(&vessel_v(), &[thin])), "1 1 530 0\n1 1\n");
     let weak = with(&member(5), &[("T", 420), ("W", 567), ("A", 167)]);
-    assert_eq!(answer(&sheet(&vessel_v(), &[weak])), "1 6 168\n1 1\n");
+    assert_eq!(answer(&sheet(&vessel_v(), &[weak])), "1 6 168 0\n1 1\n");
 }
 
 #[test]

@@ -84,9 +84,10 @@ fn verdicts_stand_in_their_own_four_bytes() {
         id: 1000,
         rule: 5,
         required: 100_000,
+        source: 2,
     };
-    // 1111101000 | 101 | 11000011010100000 | 00
-    assert_eq!(verdict.pack(), [0xfa, 0x2e, 0x1a, 0x80]);
+    // 1111101000 | 101 | 11000011010100000 | 10
+    assert_eq!(verdict.pack(), [0xfa, 0x2e, 0x1a, 0x82]);
     assert_eq!(Verdict::unpack(&verdict.pack()), verdict);
 
     let mut second = plate(2);
@@ -100,7 +101,8 @@ fn verdicts_stand_in_their_own_four_bytes() {
             Verdict {
                 id,
                 rule: 1,
-                required: 530
+                required: 530,
+                source: 0,
             }
         );
     }

@@ -31,6 +31,13 @@ fn a_short_run_brings_up_every_row() {
     for rule in [2, 3, 5, 6] {
         assert!(tally.without[rule] >= 6, "rule {rule} without a number");
     }
+    for source in 0..4 {
+        assert!(tally.on_passes[source] >= 6, "source {source} on a pass");
+        assert!(tally.on_failures[source] >= 6, "source {source}");
+    }
+    // Ballast as great as the sea, at or below the draught alone, and as the cargo.
+    assert!(tally.ties[0] >= 6 && tally.ties[3] >= 6);
+    assert_eq!(tally.ties[1..3], [0, 0]);
     for number in [1, 2, 3, 4, 6, 7, 8] {
         assert!(tally.refusals[number] >= 6, "refusal {number}");
     }

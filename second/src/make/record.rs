@@ -2,6 +2,7 @@
 //! above what a rule needs.
 
 use super::chance::Chance;
+use super::tie::even_loads;
 use crate::form::{Form, MEMBER, PLATE};
 use crate::loads::{hull_stress, line_load, member_pressure};
 use crate::rules::{demands, Demand};
@@ -141,6 +142,7 @@ fn plate(chance: &mut Chance, header: &Header, kind: i128) -> Form {
     match chance.below(5) {
         0 => round_plate(chance, &mut form),
         1 if kind == 3 => heavy_cargo(chance, &mut form),
+        2 => even_loads(chance, header, &mut form),
         _ => {}
     }
     form
@@ -307,7 +309,7 @@ fn half_that_shows(chance: &mut Chance, header: &Header, form: &mut Form) {
     let Record::Member(data) = Record::of(form) else {
         return;
     };
-    let P = member_pressure(header, &data);
+    let P = member_pressure(header, &data).P;
     let first = chance.between(100, 4000);
     let shows = |S: &i128| line_load(P, *S) != line_load(P - 1, *S);
     if let Some(S) = (first..=4000).chain(100..first).find(shows) {

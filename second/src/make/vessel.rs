@@ -31,13 +31,15 @@ fn length(chance: &mut Chance) -> i128 {
 }
 
 /// Deep draughts make floors and girders fail in shear with nothing in the
-/// gauge; odd ones make the half of 56407.5 D0 show.
+/// gauge; odd ones make the half of 56407.5 D0 show; with multiples of 20, from 100
+/// on, ballast less relief can equal the sea.
 fn draught(chance: &mut Chance) -> i128 {
-    match chance.below(5) {
+    match chance.below(6) {
         0 => *chance.of(&[1, 2, 999, 1000]),
         1 => chance.between(850, 1000),
         2 => *chance.of(&[100, 250, 500, 750, 1000]),
         3 => 2 * chance.between(0, 499) + 1,
+        4 => 20 * chance.between(5, 50),
         _ => chance.between(1, 1000),
     }
 }

@@ -160,7 +160,7 @@ fn press(chance: &mut Chance, header: &mut Form, plate: &mut Form, P: i128) -> b
             let Record::Plate(data) = Record::of(plate) else {
                 return false;
             };
-            if plate_pressure(&Header::of(header), &data) == P {
+            if plate_pressure(&Header::of(header), &data).P == P {
                 return true;
             }
         }
@@ -298,7 +298,7 @@ fn load(chance: &mut Chance, header: &mut Form, member: &mut Form, q: i128) -> b
         let Record::Member(data) = Record::of(member) else {
             return false;
         };
-        let P = member_pressure(&Header::of(header), &data);
+        let P = member_pressure(&Header::of(header), &data).P;
         let S = q * 1_000_000 / P;
         if (100..=4000).contains(&S) && line_load(P, S) == q {
             member.set("S", S);

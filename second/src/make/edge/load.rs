@@ -94,7 +94,7 @@ fn plate(
     let Record::Plate(data) = Record::of(&plate) else {
         return None;
     };
-    let P = plate_pressure(&Header::of(header), &data);
+    let P = plate_pressure(&Header::of(header), &data).P;
     let (a, b) = if kind == 1 || kind == 3 {
         (39_062_500_000, 1)
     } else {
@@ -128,7 +128,7 @@ fn member(chance: &mut Chance, header: &Form, kind: i128, z: i128, side: Side) -
     let Record::Member(data) = Record::of(&member) else {
         return None;
     };
-    let P = member_pressure(&Header::of(header), &data);
+    let P = member_pressure(&Header::of(header), &data).P;
     let (q, q_beside) = (line_load(P, S), line_load(beside(P, side), S));
     if q == q_beside {
         return None;
