@@ -226,9 +226,10 @@ fn why_refused(bytes: &[u8], i: u16, before: u16) -> Refusal
 fn entry_with(id: u16, v: Verdict, source: u8) -> Entry
     ensures { λ r. ⌜ r ≡ entryWith id (record { verdict = v; source = source }) ⌝ }
 {
+    let rule = v.rule;
     Entry {
         id,
-        rule: v.rule,
+        rule,
         required: v.required,
         source,
     }

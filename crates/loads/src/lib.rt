@@ -134,7 +134,8 @@ pub fn bottom(draught: Span, wave: Span, z: Span, ballast: bool, tank_top: Span)
 {
     let outside = sea(draught, wave, z);
     if ballast {
-        return heavier(outside, relieved(draught, wave, z, tank_top));
+        let inside = relieved(draught, wave, z, tank_top);
+        return heavier(outside, inside);
     }
     outside
 }

@@ -30,7 +30,8 @@ returns c =
 load-pressure : (c : tie.After-member-load) → let a = c .before .before .before .before .args in c .member-load .result .pressure .0 ≡ memberLoad (a .h) (a .kind) (a .m)
 load-pressure c =
     let a = c .before .before .before .before .args in
-    ap (λ (n : Named). n .pressure) (c .member-load .ensures) ∙ member-pressure (a .h) (a .kind) (a .m)
+    let named : toldLoad (c .member-load .result) ≡ memberNamed (a .h) (a .kind) (a .m) = c .member-load .ensures in
+    ap (λ (n : Named). n .pressure) named ∙ member-pressure (a .h) (a .kind) (a .m)
 
 member-verdict-requires : tie.Need-member-verdict-requires
 member-verdict-requires c κs =

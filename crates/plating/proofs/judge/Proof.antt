@@ -30,7 +30,8 @@ returns c =
 load-pressure : (c : tie.After-load) → let a = c .before .before .before .before .args in c .load .result .pressure .0 ≡ plateLoad (a .h) (a .kind) (a .p)
 load-pressure c =
     let a = c .before .before .before .before .args in
-    ap (λ (n : Named). n .pressure) (c .load .ensures) ∙ plate-pressure (a .h) (a .kind) (a .p)
+    let named : toldLoad (c .load .result) ≡ plateNamed (a .h) (a .kind) (a .p) = c .load .ensures in
+    ap (λ (n : Named). n .pressure) named ∙ plate-pressure (a .h) (a .kind) (a .p)
 
 plate-verdict-requires : tie.Need-plate-verdict-requires
 plate-verdict-requires c κs =
