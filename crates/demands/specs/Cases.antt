@@ -22,11 +22,13 @@ use Rattle.demands.specs.Table.{Row, HeaderSound}
 use Rattle.demands.specs.Program.{Program, fourAt, Leaves}
 use Rattle.demands.specs.Raise.{raisedBy, raisedTimes, withScantling, InGauge, meetsRule}
 use Rattle.demands.specs.Demands.{Third, Demands}
+use Rattle.demands.specs.Sources.{Says}
 use Rattle.demands.specs.EmptyPrograms.{checker, passing, naming, firstOnly, counting}
 use Rattle.demands.specs.Rows.{refused-exactly}
-use Rattle.demands.specs.ShutOut.{checker-demands}
+use Rattle.demands.specs.SourcesProved.{sources-said}
+use Rattle.demands.specs.ShutOut.{checker-meets, checker-demands}
 use Rattle.demands.specs.Only.{demands-only}
-use Rattle.demands.specs.Example.{example, light, stressed, bare, lent, row-by-row, two-not-enough}
+use Rattle.demands.specs.Example.{example, light, stressed, flooded, bare, lent, row-by-row, two-not-enough}
 
 -- each row of the table holds for a sheet
 pub each-row : Row (take 11 example) 9 1 0
@@ -69,6 +71,19 @@ pub no-number-example : (x : ℕ) → InGauge 5 x → meetsRule (withScantling 0
 no-number-example x g e =
     let w = checker-demands .third stressed lent 1 1 0 (record { id = 12; rule = 5; required = 0; source = 0 }) (checker-numbers .2) (lit< tt) (checker-numbers .3) (lit≤ tt) .least-number x g .0 e in
     omega (arith, w .0)
+
+-- what it answers and leaves on a plate under ballast: at T 620 it fails rule 2, at 676 it passes, both with source 2
+flooded-numbers : (checker .answer (flooded 155) lent ≡ Done 1 1) × Leaves checker (flooded 155) lent 0 (record { id = 5; rule = 2; required = 676; source = 2 })
+    × (checker .answer (flooded 169) lent ≡ Done 1 0) × Leaves checker (flooded 169) lent 0 (record { id = 5; rule = 0; required = 0; source = 2 })
+unfolding readEntry entryIn entryFault sheetIn headerFor recordsIn partsFrom soundAfter _then_ demand readHeader headerIn readRecord recordIn verdicts entryOf bytesOf failures firstFrom leastIn ceilOf sea bottomLoad innerLoad deepLoad lineLoad K2 rule4 rule5 rule6 memberLine bottomNamed innerNamed
+flooded-numbers = (refl, refl, refl, refl)
+
+-- what is said of the source, of a failure and of a pass
+pub source-example : Says checker (flooded 155) lent 0 (record { id = 5; rule = 2; required = 676; source = 2 })
+source-example = sources-said checker checker-meets (flooded 155) lent 1 1 0 _ (flooded-numbers .0) (lit< tt) (flooded-numbers .1)
+
+pub source-of-pass : Says checker (flooded 169) lent 0 (record { id = 5; rule = 0; required = 0; source = 2 })
+source-of-pass = sources-said checker checker-meets (flooded 169) lent 1 0 0 _ (flooded-numbers .2) (lit< tt) (flooded-numbers .3)
 
 -- raising by what a program leaves is raising by what the checker leaves
 raised-same : (P : Program) → Demands P → (out : List ℕ) (count i : ℕ) (s : List ℕ) → raisedTimes P out count i s ≡ raisedTimes checker out count i s

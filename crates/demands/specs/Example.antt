@@ -54,6 +54,10 @@ light = vessel ++ (8 ∷ 80 ∷ 48 ∷ 0 ∷ 31 ∷ 68 ∷ 176 ∷ 0 ∷ 114 ∷
 abbrev pub stressed : List ℕ
 stressed = vessel ++ (8 ∷ 80 ∷ 48 ∷ 0 ∷ 31 ∷ 68 ∷ 176 ∷ 105 ∷ 50 ∷ 100 ∷ 181 ∷ 172 ∷ 2 ∷ 48 ∷ 2 ∷ 163 ∷ 232 ∷ [])
 
+-- a plate as in case 4, as id 5, under ballast with zL 1200; its T is four times the number
+abbrev pub flooded : ℕ → List ℕ
+flooded quarter = vessel ++ (8 ∷ 32 ∷ 23 ∷ 232 ∷ 0 ∷ 7 ∷ 208 ∷ quarter ∷ 0 ∷ 0 ∷ 3 ∷ 44 ∷ 0 ∷ 0 ∷ 0 ∷ 0 ∷ 0 ∷ [])
+
 -- no records
 abbrev pub bare : List ℕ
 bare = vessel ++ (0 ∷ [])

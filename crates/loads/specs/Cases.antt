@@ -1,11 +1,14 @@
 -- Loads and what they come from, worked out.
 -- Assumes nothing.
-use Prim.Native.Nat.{ℕ}
+use Prim.Native.Nat.{ℕ, _-_, _<_}
 use mathlib.Core.Path.{_≡_, refl}
 use mathlib.Core.Bool.{true, false}
 use mathlib.Core.List.{List, [], _∷_, map}
+use native.Mathlib.Omega.{arith}
+use lib.Dec.{leb}
+use borrow.Author.Tests.{lt-leb}
 use Rattle.gauge.specs.Ceil.{ceilOf}
-use Rattle.loads.specs.Loads.{sea, deepLoad}
+use Rattle.loads.specs.Loads.{sea, ballast, relief, deepLoad}
 use Rattle.loads.specs.Sources.{Named, seaNamed, deepNamed, bottomNamed, innerNamed}
 
 -- a pressure and its source's number
@@ -49,3 +52,11 @@ pub source-cases : computed
     ∷ []
 unfolding sea deepLoad ceilOf bottomNamed innerNamed
 source-cases = refl
+
+-- above the draught a tank is never as heavy as the sea: the pressures differ by a number that no whole centimetres make up
+pub no-tie-above : (D0 z zL : ℕ) → D0 < z
+    → (sea D0 0 z ≡ ballast zL z - relief D0 0 → ⊥) × (sea D0 60 z ≡ ballast zL z - relief D0 60 → ⊥) × (sea D0 120 z ≡ ballast zL z - relief D0 120 → ⊥)
+unfolding sea
+no-tie-above D0 z zL l =
+    let above : leb z D0 ≡ false = lt-leb z D0 l in
+    (λ e. omega (arith, rw above at e), λ e. omega (arith, rw above at e), λ e. omega (arith, rw above at e))
