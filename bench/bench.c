@@ -36,9 +36,10 @@ static uint64_t header(uint8_t *s, unsigned n) {
     return 12 + 16 * (uint64_t)n;
 }
 
-static void plate(uint8_t *p, unsigned id, unsigned kind, unsigned thickness) {
+// The tank top is 0 where there is no ballast.
+static void plate(uint8_t *p, unsigned id, unsigned kind, unsigned z, unsigned thickness, unsigned tank_top) {
     unsigned across = kind % 2, cargo = kind > 2 ? 30000 : 0;
-    uint64_t fields[][2] = {{kind, 4}, {id, 10}, {1000, 10}, {0, 10}, {500, 12}, {thickness, 12}, {across * 250, 10}, {across * 50, 10}, {0, 1}, {0, 11}, {cargo, 18}};
+    uint64_t fields[][2] = {{kind, 4}, {id, 10}, {1000, 10}, {z, 10}, {500, 12}, {thickness, 12}, {across * 250, 10}, {across * 50, 10}, {tank_top > 0, 1}, {tank_top, 11}, {cargo, 18}};
     unsigned at = 0;
     for (unsigned i = 0; i < 11; i++) put(p, &at, fields[i][0], (unsigned)fields[i][1]);
 }
@@ -61,7 +62,9 @@ static uint64_t sheet(uint8_t *s, unsigned n, enum Mix mix) {
         unsigned step = mix == ALL_PASS ? 3 : mix == LAST_RULE ? 2 : i / 8 % 4;
         // by step: the first rule fails, the second, the last, none
         static const unsigned plates[] = {300, 520, 615, 4000}, moduli[] = {1, 1, 60000, 60000}, areas[] = {1, 1, 10, 9000};
-        if (kind <= 4) plate(p, id, kind, plates[step]);
+        // among all sorts some plates are above the draught and some under ballast, so that each load decides somewhere
+        unsigned turn = mix == ALL_SORTS ? i / 32 % 3 : 0;
+        if (kind <= 4) plate(p, id, kind, turn == 1 ? 300 : 0, plates[step], turn == 2 ? 400 : 0);
         else member(p, id, kind, step == 0 ? 100 : 600, moduli[step], areas[step]);
     }
     return size;
