@@ -1,14 +1,14 @@
 -- Which answer the verdict's reader and writer give in each case.
 -- Assumes nothing.
 use Prim.Native.Nat.{ℕ, _<_, _≤_}
-use mathlib.Core.Path.{_≡_, refl, sym, ap, ap₂, _∙_}
+use mathlib.Core.Path.{_≡_, sym, ap, ap₂, _∙_}
 use mathlib.Core.List.{List, _++_}
 use lib.ListN.{length, drop}
 use borrow.Author.Tests.{lt-ltb, le-ltb, eq-eqb, ne-eqb}
 use Rattle.layout.specs.Layout.{pack, unpack, bytes}
 use Rattle.layout.specs.Bytes.{readOf, writtenOf}
 use Rattle.layout.specs.BytesLaws.{read-all, write-all}
-use Rattle.sheet.specs.Refusals.{Answer, given, refused, toldOutcome}
+use Rattle.sheet.specs.Refusals.{given, refused, toldOutcome}
 use Rattle.sheet.specs.Writes.{Writes}
 use Rattle.sheet.specs.declared.Refusal.the-variants.{SheetShort, OutputShort, Field}
 use Rattle.sheet.specs.declared.Outcome.the-variants.{Fine, Refused as notFine}

@@ -1,21 +1,19 @@
 -- A verdict in the output: when it is read and written, and that nothing is lost there and back.
 -- Assumes nothing.
 use Prim.Native.Nat.{ℕ, _≤_, _<_, _^_}
-use mathlib.Core.Path.{_≡_, refl, sym, ap, ap₂, _∙_}
+use mathlib.Core.Path.{_≡_, refl, sym, ap, _∙_}
 use mathlib.Core.Bool.{Bool, true, false, cond}
-use mathlib.Core.List.{List, [], _∷_, _++_}
+use mathlib.Core.List.{List, _++_}
 use native.Mathlib.Omega.{arith}
 use native.Mathlib.Decide.{decLt}
-use lib.ListN.{length, getD, take, drop, length-append, take-append-drop}
-use lib.Seq.{take-at}
+use lib.ListN.{length, take, drop, take-append-drop}
 use lib.Dec.{eqb}
 use borrow.Author.Tests.{lt-ltb, le-ltb, eq-eqb, eqb-true}
-use Rattle.quantity.specs.Range.{from}
 use Rattle.layout.specs.Layout.{pack, unpack, bytes, Fit}
-use Rattle.layout.specs.Laws.{pack-lt, pack-unpack-lt, unpack-pack, length-unpack}
-use Rattle.layout.specs.Line.{Allowed, linesFit, faultFrom}
-use Rattle.layout.specs.LineLaws.{none-all, all-none, allowed-fit, low-high}
-use Rattle.sheet.specs.Refusals.{Answer, given, refused}
+use Rattle.layout.specs.Laws.{pack-lt, pack-unpack-lt, unpack-pack}
+use Rattle.layout.specs.Line.{Allowed, linesFit}
+use Rattle.layout.specs.LineLaws.{none-all, all-none, allowed-fit}
+use Rattle.sheet.specs.Refusals.{given, refused}
 use Rattle.sheet.specs.RefusalLaws.{given-refused, given-same}
 use Rattle.checker.specs.declared.Entry.{Entry}
 use Rattle.checker.specs.Entry.{verdictTable, verdictLines, verdictWidths, entryValues, entryAt, entryFault, entryRefused, entryIn, readEntry, entryBytes, writeEntry}

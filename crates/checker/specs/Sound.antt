@@ -12,6 +12,8 @@ use Rattle.gauge.specs.declared.Least.{Least}
 use Rattle.gauge.specs.declared.Least.the-variants.{At, Nothing}
 use Rattle.gauge.specs.Least.{leastIn, numberOf, Answer as LeastAnswer}
 use Rattle.gauge.specs.LeastLaws.{least-answers}
+use Rattle.loads.specs.declared.Source.the-variants.{Cargo}
+use Rattle.loads.specs.Sources.{numberOf as sourceNumber}
 use Rattle.layout.specs.LineLaws.{none-all}
 use Rattle.sheet.specs.declared.Header.{Header}
 use Rattle.sheet.specs.declared.Record.{Record}
@@ -21,7 +23,7 @@ use Rattle.sheet.specs.Lines.{plateLines, memberLines}
 use Rattle.sheet.specs.Record.{plateValues, memberValues, plateFault, memberFault, bodyFault, recordFault}
 use Rattle.verdict.specs.declared.Verdict.{Verdict}
 use Rattle.verdict.specs.Verdict.{Rule, failing, verdictOf}
-use Rattle.hull.specs.Hull.{bodyRules, verdict, sourceOf}
+use Rattle.hull.specs.Hull.{bodyRules, sourceOf}
 use Rattle.hull.specs.SourceLaws.{source-most}
 use Rattle.plating.specs.Rules.{plateRules}
 use Rattle.framing.specs.Rules.{memberRules}
@@ -86,4 +88,4 @@ pub entry-sound : (h : Header) (r : Record) → recordFault r 0 ≡ 0 → entryF
 unfolding entryOf
 entry-sound h r e =
     let c = body-carried h (r .kind) (r .body) in
-    allowed-entry (entryOf h r) (id-allowed (r .kind) (r .id) (r .body) e, (c .0, (c .1, (up-to 3 (sourceOf h r) (source-most h r), tt))))
+    allowed-entry (entryOf h r) (id-allowed (r .kind) (r .id) (r .body) e, (c .0, (c .1, (up-to (sourceNumber Cargo) (sourceOf h r) (source-most h r), tt))))

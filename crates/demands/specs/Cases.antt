@@ -9,7 +9,7 @@ use lib.ListN.{take, set}
 use lib.Dec.{lit≤, lit<}
 use Rattle.gauge.specs.Ceil.{ceilOf}
 use Rattle.gauge.specs.Least.{firstFrom, leastIn}
-use Rattle.loads.specs.Loads.{sea, bottomLoad, innerLoad, deepLoad, lineLoad}
+use Rattle.loads.specs.Loads.{sea, bottomPressure, innerPressure, deepPressure, lineLoad}
 use Rattle.loads.specs.Sources.{bottomNamed, innerNamed}
 use Rattle.sheet.specs.Header.{headerIn, readHeader}
 use Rattle.sheet.specs.Record.{recordIn, readRecord}
@@ -22,7 +22,7 @@ use Rattle.demands.specs.Table.{Row, HeaderSound}
 use Rattle.demands.specs.Program.{Program, fourAt, Leaves}
 use Rattle.demands.specs.Raise.{raisedBy, raisedTimes, withScantling, InGauge, meetsRule}
 use Rattle.demands.specs.Demands.{Third, Demands}
-use Rattle.demands.specs.Sources.{Says}
+use Rattle.demands.specs.Sources.{SourceSaid}
 use Rattle.demands.specs.EmptyPrograms.{checker, passing, naming, firstOnly, counting}
 use Rattle.demands.specs.Rows.{refused-exactly}
 use Rattle.demands.specs.SourcesProved.{sources-said}
@@ -60,7 +60,7 @@ bare-accepted P d out = d .first bare out .none-judged refl bare-sound refl
 -- what the checker answers and leaves on a sheet with a number and on one with none
 checker-numbers : (checker .answer example lent ≡ Done 2 2) × Leaves checker example lent 0 (record { id = 7; rule = 3; required = 617; source = 0 })
     × (checker .answer stressed lent ≡ Done 1 1) × Leaves checker stressed lent 0 (record { id = 12; rule = 5; required = 0; source = 0 })
-unfolding readEntry entryIn entryFault sheetIn headerFor recordsIn partsFrom soundAfter _then_ demand readHeader headerIn readRecord recordIn verdicts entryOf bytesOf failures firstFrom leastIn ceilOf sea bottomLoad innerLoad deepLoad lineLoad K2 rule4 rule5 rule6 memberLine bottomNamed innerNamed
+unfolding readEntry entryIn entryFault sheetIn headerFor recordsIn partsFrom soundAfter _then_ demand readHeader headerIn readRecord recordIn verdicts entryOf bytesOf failures firstFrom leastIn ceilOf sea bottomPressure innerPressure deepPressure lineLoad K2 rule4 rule5 rule6 memberLine bottomNamed innerNamed
 checker-numbers = (refl, refl, refl, refl)
 
 -- demand 3 on both
@@ -75,14 +75,14 @@ no-number-example x g e =
 -- what it answers and leaves on a plate under ballast: at T 620 it fails rule 2, at 676 it passes, both with source 2
 flooded-numbers : (checker .answer (flooded 155) lent ≡ Done 1 1) × Leaves checker (flooded 155) lent 0 (record { id = 5; rule = 2; required = 676; source = 2 })
     × (checker .answer (flooded 169) lent ≡ Done 1 0) × Leaves checker (flooded 169) lent 0 (record { id = 5; rule = 0; required = 0; source = 2 })
-unfolding readEntry entryIn entryFault sheetIn headerFor recordsIn partsFrom soundAfter _then_ demand readHeader headerIn readRecord recordIn verdicts entryOf bytesOf failures firstFrom leastIn ceilOf sea bottomLoad innerLoad deepLoad lineLoad K2 rule4 rule5 rule6 memberLine bottomNamed innerNamed
+unfolding readEntry entryIn entryFault sheetIn headerFor recordsIn partsFrom soundAfter _then_ demand readHeader headerIn readRecord recordIn verdicts entryOf bytesOf failures firstFrom leastIn ceilOf sea bottomPressure innerPressure deepPressure lineLoad K2 rule4 rule5 rule6 memberLine bottomNamed innerNamed
 flooded-numbers = (refl, refl, refl, refl)
 
 -- what is said of the source, of a failure and of a pass
-pub source-example : Says checker (flooded 155) lent 0 (record { id = 5; rule = 2; required = 676; source = 2 })
+pub source-example : SourceSaid checker (flooded 155) lent 0 (record { id = 5; rule = 2; required = 676; source = 2 })
 source-example = sources-said checker checker-meets (flooded 155) lent 1 1 0 _ (flooded-numbers .0) (lit< tt) (flooded-numbers .1)
 
-pub source-of-pass : Says checker (flooded 169) lent 0 (record { id = 5; rule = 0; required = 0; source = 2 })
+pub source-of-pass : SourceSaid checker (flooded 169) lent 0 (record { id = 5; rule = 0; required = 0; source = 2 })
 source-of-pass = sources-said checker checker-meets (flooded 169) lent 1 0 0 _ (flooded-numbers .2) (lit< tt) (flooded-numbers .3)
 
 -- raising by what a program leaves is raising by what the checker leaves
@@ -108,5 +108,5 @@ pub empty-on-example : (passing .answer example lent ≡ Done 2 0)
     × (firstOnly .answer example lent ≡ Done 2 1)
     × (firstOnly .after example lent ≡ entryBytes (record { id = 7; rule = 3; required = 617; source = 0 }) ++ (entryBytes (record { id = 12; rule = 0; required = 0; source = 0 }) ++ (170 ∷ [])))
     × (counting (λ h. 1) .answer example lent ≡ Done 2 1)
-unfolding sheetIn headerFor recordsIn partsFrom soundAfter _then_ demand readHeader headerIn readRecord recordIn verdicts entryOf bytesOf failures firstFrom leastIn ceilOf sea bottomLoad innerLoad deepLoad lineLoad K2 rule4 rule5 rule6 memberLine bottomNamed innerNamed
+unfolding sheetIn headerFor recordsIn partsFrom soundAfter _then_ demand readHeader headerIn readRecord recordIn verdicts entryOf bytesOf failures firstFrom leastIn ceilOf sea bottomPressure innerPressure deepPressure lineLoad K2 rule4 rule5 rule6 memberLine bottomNamed innerNamed
 empty-on-example = (refl, refl, refl, refl, refl, refl, refl)

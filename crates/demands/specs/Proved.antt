@@ -28,10 +28,10 @@ use Rattle.checker.specs.Check.{_then_, recordPart, recordOf, Sheet, sheetIn, e
 use Rattle.checker.specs.CheckLaws.{then-given, Taken, none, next, sheet-whole, record-given, verdict-at, verdict-read, verdicts-count, rest-as-lent, answer-done, output-done, bytes-length, refused-as-lent}
 use Rattle.demands.specs.Table.{countOf, HeaderSound, Row, Accepted}
 use Rattle.demands.specs.Program.{Program, Meets, fourAt, Leaves}
-use Rattle.demands.specs.Raise.{theHeader, theRecord, replaced, withScantling, InGauge, Reaches, metIn, meetsRule, raisedBy, raisedTimes}
+use Rattle.demands.specs.Raise.{theHeader, theRecord, replaced, withScantling, InGauge, OwnRule, Reaches, metIn, meetsRule, raisedBy, raisedTimes}
 use Rattle.demands.specs.Demands.{Covered, accepted, turned-away, First, entryOn, failedFrom, Second, Later, passed, above, Third, Settled, passes, none-meets, ThreeRaisings, Demands}
 use Rattle.demands.specs.Rows as rows
-use Rattle.demands.specs.Scantling.{putRecord, rule-above, number-in-gauge, put-sound, met-exactly, later-exactly}
+use Rattle.demands.specs.Scantling.{putRecord, own-sound, rule-above, named-own, number-in-gauge, met-exactly, later-exactly}
 use Rattle.demands.specs.Exchange as exchange
 
 -- ---- a sheet that is not refused
@@ -214,7 +214,7 @@ module _ (P : Program) (meets : Meets P) where
       pub holds-leaves : Leaves P s' out i (entryOf (t .header) r)
       holds-leaves = ap (λ (o : List ℕ). readEntry (fourAt i o)) (left s' out) ∙ exchange.own-verdict s out t given-t i inside s' r holds
 
-      holds-done : (failed : ℕ) × (P .answer s' out ≡ Done (t .header .count) failed)
+      pub holds-done : (failed : ℕ) × (P .answer s' out ≡ Done (t .header .count) failed)
       holds-done = (
         failures (verdicts (holds .sheet)),
         sheet-done s' out (holds .sheet) (holds .taken) ∙ ap (λ (h : Header). Done (h .count) (failures (verdicts (holds .sheet)))) (holds .header),
@@ -223,16 +223,19 @@ module _ (P : Program) (meets : Meets P) where
       holds-others : (j : ℕ) → j < t .header .count → (j ≡ i → ⊥) → fourAt j (P .after s' out) ≡ fourAt j (P .after s out)
       holds-others j l n = ap (fourAt j) (left s' out) ∙ exchange.other-verdicts s out t given-t i inside s' r holds j l n ∙ ap (fourAt j) (sym (left s out))
 
-      -- with x in place of the scantling that fails
+      -- with x in place of the scantling that a rule of its own speaks of
+      pub put-own : (k x : ℕ) → OwnRule (r .body) k → InGauge k x → exchange.Holds s out t given-t i inside (withScantling i k x s') (putRecord k x r)
+      unfolding withScantling
+      put-own k x own gauge =
+          let new = putRecord k x r in
+          let z : recordFault new 0 ≡ 0 = own-sound (r .kind) (r .id) (r .body) k x own gauge (record-read-fine i (recordPart s' i) r (holds .own)) in
+          subst (λ (q : Record). exchange.Holds s out t given-t i inside (replaced i (recordBytes (putRecord k x q)) s') new) (sym (exchange.its-record s out t given-t i inside s' r holds))
+          (exchange.in-place s out t given-t i inside s' r holds new z refl)
+
+      -- and of the one that fails
       module _ (some : 1 ≤ verdict (t .header) r .rule) (x : ℕ) (gauge : InGauge (verdict (t .header) r .rule) x) where
-        pub put-holds : exchange.Holds s out t given-t i inside (withScantling i (verdict (t .header) r .rule) x s') (putRecord (verdict (t .header) r .rule) x r)
-        unfolding withScantling
-        put-holds =
-            let k = verdict (t .header) r .rule in
-            let new = putRecord k x r in
-            let z : recordFault new 0 ≡ 0 = put-sound (t .header) r some x gauge (record-read-fine i (recordPart s' i) r (holds .own)) in
-            subst (λ (q : Record). exchange.Holds s out t given-t i inside (replaced i (recordBytes (putRecord k x q)) s') new) (sym (exchange.its-record s out t given-t i inside s' r holds))
-            (exchange.in-place s out t given-t i inside s' r holds new z refl)
+        put-holds : exchange.Holds s out t given-t i inside (withScantling i (verdict (t .header) r .rule) x s') (putRecord (verdict (t .header) r .rule) x r)
+        put-holds = put-own (verdict (t .header) r .rule) x (named-own (t .header) r some) gauge
 
         put-meets : meetsRule (withScantling i (verdict (t .header) r .rule) x s') i (verdict (t .header) r .rule)
             ≡ metIn (verdict (t .header) r .rule) (rulesOf (t .header) (putRecord (verdict (t .header) r .rule) x r))

@@ -6,6 +6,8 @@ use lib.ListN.{take, drop}
 use lib.Dec.{eqb}
 use Rattle.quantity.specs.Range.{thickness, modulus, shearArea}
 use Rattle.sheet.specs.declared.Header.{Header}
+use Rattle.sheet.specs.declared.Body.{Body}
+use Rattle.sheet.specs.declared.Body.the-variants.{Plate as isPlate, Member as isMember}
 use Rattle.sheet.specs.declared.Record.{Record}
 use Rattle.sheet.specs.Refusals.{Answer, given, refused}
 use Rattle.sheet.specs.Header.{headerAt}
@@ -46,6 +48,11 @@ gaugeTop k = cond (eqb k 5) (modulus .high) (cond (eqb k 6) (shearArea .high) (t
 -- x is in the gauge of the scantling that rule k speaks of
 abbrev pub InGauge : (k x : ℕ) → Type 0
 InGauge k x = (1 ≤ x) × (x ≤ gaugeTop k)
+
+-- rule k is one of the three that a record with this body answers to
+abbrev pub OwnRule : Body → ℕ → Type 0
+OwnRule (isPlate p) k = (1 ≤ k) × (k ≤ 3)
+OwnRule (isMember m) k = (4 ≤ k) × (k ≤ 6)
 
 -- there is a number q, 0 being none, and x is not below it
 abbrev pub Reaches : (q x : ℕ) → Type 0

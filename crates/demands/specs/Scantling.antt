@@ -6,7 +6,7 @@ use mathlib.Core.Path.{_≡_, refl, sym, ap, subst, _∙_}
 use mathlib.Core.Bool.{Bool, true, false, cond}
 use mathlib.Core.List.{List, [], _∷_}
 use native.Mathlib.Omega.{arith}
-use native.Mathlib.Decide.{decLt}
+use native.Mathlib.Decide.{decLt, ℕ-discrete}
 use lib.Dec.{eqb, lit<}
 use borrow.Author.Tests.{le-leb, eq-eqb, ne-eqb, eqb-false}
 use Rattle.quantity.specs.Range.{Range, within, thickness, modulus, shearArea}
@@ -28,8 +28,8 @@ use Rattle.plating.specs.Rules.{plateRules}
 use Rattle.framing.specs.Rules.{memberRules, memberLine}
 use Rattle.hull.specs.Hull.{bodyRules, rulesOf, verdict}
 use Rattle.hull.specs.Raising.{raisedPlate, withScantlings, raisedBody, raised}
-use Rattle.hull.specs.RaisingLaws.{rules-monotone, base, rules-rising, in-range}
-use Rattle.demands.specs.Raise.{gaugeTop, InGauge, Reaches, metIn}
+use Rattle.hull.specs.RaisingLaws.{rules-monotone, base, rules-rising, in-range, last-rule}
+use Rattle.demands.specs.Raise.{gaugeTop, InGauge, OwnRule, Reaches, metIn}
 
 -- ---- over any list of rules
 
@@ -154,15 +154,10 @@ plate-sound kind id p T e t =
     all-none 1 (plateLines kind (p .ballast) (p .z .0)) (plateValues kind id (raisedPlate T p) 0)
     (a .0, (a .1 .0, (a .1 .1 .0, (a .1 .1 .1 .0, (a .1 .1 .1 .1 .0, (t, a .1 .1 .1 .1 .1 .1))))))
 
-body-sound : (h : Header) (kind id : ℕ) (b : Body) (v : Verdict) (f : Failing v (bodyRules h kind b)) (x : ℕ) → 1 ≤ x → x ≤ the-rule f .top
-    → bodyFault kind id b 0 ≡ 0 → bodyFault kind id (putBody (v .rule) x b) 0 ≡ 0
-body-sound h kind id (isPlate p) v f x l m e = plate f m
-  where
-    plate : (f : Failing v (plateRules h kind p)) → x ≤ the-rule f .top → plateFault kind id (raisedPlate x p) 0 ≡ 0
-    plate (here g q) n = plate-sound kind id p x e (in-range thickness x l n)
-    plate (there t (here g q)) n = plate-sound kind id p x e (in-range thickness x l n)
-    plate (there t (there u (here g q))) n = plate-sound kind id p x e (in-range thickness x l n)
-body-sound h kind id (isMember m) v f x l n e = member f n
+-- with x of its gauge in place of the scantling that a rule of the body speaks of
+pub own-sound : (kind id : ℕ) (b : Body) (k x : ℕ) → OwnRule b k → InGauge k x → bodyFault kind id b 0 ≡ 0 → bodyFault kind id (putBody k x b) 0 ≡ 0
+own-sound kind id (isPlate p) k x own g e = plate-sound kind id p x e (in-range thickness x (g .0) (rw (ne-eqb k 5 (λ f. omega (arith, own .1)), ne-eqb k 6 (λ f. omega (arith, own .1))) at (g .1)))
+own-sound kind id (isMember m) k x own g e = go (ℕ-discrete k 4) (ℕ-discrete k 5)
   where
     T : within thickness (m .thickness .0) ≡ true
     T = member-allowed kind id m e .1 .1 .1 .1 .1 .0
@@ -173,13 +168,19 @@ body-sound h kind id (isMember m) v f x l n e = member f n
     A : within shearArea (m .area .0) ≡ true
     A = member-allowed kind id m e .1 .1 .1 .1 .1 .1 .1 .1 .1 .1 .1 .0
 
-    at : (k : ℕ) → v .rule ≡ k → bodyFault kind id (putBody k x (isMember m)) 0 ≡ 0 → bodyFault kind id (putBody (v .rule) x (isMember m)) 0 ≡ 0
-    at k q z = subst (λ (j : ℕ). bodyFault kind id (putBody j x (isMember m)) 0 ≡ 0) (sym q) z
+    -- rule k is rule j
+    at : (j : ℕ) → k ≡ j → (x ≤ gaugeTop j → bodyFault kind id (putBody j x (isMember m)) 0 ≡ 0) → bodyFault kind id (putBody k x (isMember m)) 0 ≡ 0
+    at j q z = subst (λ (i : ℕ). bodyFault kind id (putBody i x (isMember m)) 0 ≡ 0) (sym q) (z (subst (λ (i : ℕ). x ≤ gaugeTop i) q (g .1)))
 
-    member : (f : Failing v (memberRules h kind m)) → x ≤ the-rule f .top → bodyFault kind id (putBody (v .rule) x (isMember m)) 0 ≡ 0
-    member (here g q) n = at 4 (ap (λ (w : Verdict). w .rule) q) (member-sound kind id m x (m .modulus .0) (m .area .0) e (in-range thickness x l n) W A)
-    member (there t (here g q)) n = at 5 (ap (λ (w : Verdict). w .rule) q) (member-sound kind id m (m .thickness .0) x (m .area .0) e T (in-range modulus x l n) A)
-    member (there t (there u (here g q))) n = at 6 (ap (λ (w : Verdict). w .rule) q) (member-sound kind id m (m .thickness .0) (m .modulus .0) x e T W (in-range shearArea x l n))
+    go : Dec (k ≡ 4) → Dec (k ≡ 5) → bodyFault kind id (putBody k x (isMember m)) 0 ≡ 0
+    go (yes q) five = at 4 q (λ n. member-sound kind id m x (m .modulus .0) (m .area .0) e (in-range thickness x (g .0) n) W A)
+    go (no q) (yes f) = at 5 f (λ n. member-sound kind id m (m .thickness .0) x (m .area .0) e T (in-range modulus x (g .0) n) A)
+    go (no q) (no f) = at 6 (omega (arith, own)) (λ n. member-sound kind id m (m .thickness .0) (m .modulus .0) x e T W (in-range shearArea x (g .0) n))
+
+-- a rule that fails is one of the body's own
+failing-own : (h : Header) (kind : ℕ) (b : Body) (v : Verdict) → Failing v (bodyRules h kind b) → OwnRule b (v .rule)
+failing-own h kind (isPlate p) v f = (failing-above 0 v (plateRules h kind p) (rules-rising h kind (isPlate p)) f, last-rule h kind (isPlate p) v f)
+failing-own h kind (isMember m) v f = (failing-above 3 v (memberRules h kind m) (rules-rising h kind (isMember m)) f, last-rule h kind (isMember m) v f)
 
 -- ---- a record whose verdict has a rule
 
@@ -207,6 +208,10 @@ module _ (h : Header) (r : Record) (some : 1 ≤ verdict h r .rule) where
   top : the-rule failing-rule .top ≡ gaugeTop (verdict h r .rule)
   top = rule-top h (r .kind) (r .body) (verdict h r) failing-rule
 
+  -- the rule named is the record's own
+  pub named-own : OwnRule (r .body) (verdict h r .rule)
+  named-own = failing-own h (r .kind) (r .body) (verdict h r) failing-rule
+
   -- the number is in the gauge
   pub number-in-gauge : verdict h r .required ≤ gaugeTop (verdict h r .rule)
   number-in-gauge = go (verdict h r .required) refl
@@ -216,9 +221,6 @@ module _ (h : Header) (r : Record) (some : 1 ≤ verdict h r .rule) where
       go (suc n) e = omega (arith, least .within (omega arith), top)
 
   module _ (x : ℕ) (gauge : InGauge (verdict h r .rule) x) where
-    pub put-sound : recordFault r 0 ≡ 0 → recordFault (putRecord (verdict h r .rule) x r) 0 ≡ 0
-    put-sound z = body-sound h (r .kind) (r .id) (r .body) (verdict h r) failing-rule x (gauge .0) (omega (arith, gauge .1, top)) z
-
     -- what the rule says of x
     asked : the-rule failing-rule .asks x ≡ metIn (verdict h r .rule) (rulesOf h (putRecord (verdict h r .rule) x r))
     asked =

@@ -12,8 +12,9 @@ use borrow.Author.Tests.{le-leb, ne-eqb}
 use Rattle.quantity.specs.Range.{within, from, modulus}
 use Rattle.gauge.specs.Ceil.{ceilOf}
 use Rattle.gauge.specs.Least.{firstFrom, leastIn}
-use Rattle.loads.specs.Loads.{sea, bottomLoad, innerLoad, deepLoad, lineLoad}
-use Rattle.loads.specs.Sources.{bottomNamed, innerNamed}
+use Rattle.loads.specs.Loads.{sea, bottomPressure, innerPressure, deepPressure, lineLoad}
+use Rattle.loads.specs.declared.Source.the-variants.{Cargo}
+use Rattle.loads.specs.Sources.{numberOf, bottomNamed, innerNamed}
 use Rattle.layout.specs.LineLaws.{none-all}
 use Rattle.sheet.specs.declared.Header.{Header}
 use Rattle.sheet.specs.declared.Record.{Record}
@@ -95,7 +96,7 @@ rule-within : (e : Entry) → entryFault e ≡ 0 → within (from 0 6) (e .rule)
 unfolding entryFault
 rule-within e z = none-all 0 (verdictLines (e .rule)) (entryValues e) z .1 .0
 
-source-within : (e : Entry) → entryFault e ≡ 0 → within (from 0 3) (e .source) ≡ true
+source-within : (e : Entry) → entryFault e ≡ 0 → within (from 0 (numberOf Cargo)) (e .source) ≡ true
 unfolding entryFault
 source-within e z = none-all 0 (verdictLines (e .rule)) (entryValues e) z .1 .1 .1 .0
 
@@ -169,7 +170,7 @@ counting-is count s out n failed e = go (sheetIn s (length out)) e
 
 -- one that always says 1 failure says so of the example, where it leaves two
 pub counting-miscounts : Miscounts (counting (λ h. 1))
-unfolding readEntry entryIn entryFault sheetIn headerFor recordsIn partsFrom soundAfter _then_ demand readHeader headerIn readRecord recordIn verdicts entryOf bytesOf firstFrom leastIn ceilOf sea bottomLoad innerLoad deepLoad lineLoad K2 rule4 rule5 rule6 memberLine bottomNamed innerNamed
+unfolding readEntry entryIn entryFault sheetIn headerFor recordsIn partsFrom soundAfter _then_ demand readHeader headerIn readRecord recordIn verdicts entryOf bytesOf firstFrom leastIn ceilOf sea bottomPressure innerPressure deepPressure lineLoad K2 rule4 rule5 rule6 memberLine bottomNamed innerNamed
 counting-miscounts = (example, lent, 2, 1, refl, λ e. omega (arith, e))
 
 -- ---- and is shut out
@@ -183,19 +184,19 @@ mended-accepted = given-fits mended 9 (record { n = 2; failed = 0 }) mended-answ
 
 -- demand 2's verdicts on the example, and its counts on both
 first-verdict : entryOn example 0 ≡ record { id = 7; rule = 3; required = 617; source = 0 }
-unfolding firstFrom leastIn ceilOf sea bottomLoad innerLoad deepLoad lineLoad K2 rule4 rule5 rule6 memberLine bottomNamed innerNamed
+unfolding firstFrom leastIn ceilOf sea bottomPressure innerPressure deepPressure lineLoad K2 rule4 rule5 rule6 memberLine bottomNamed innerNamed
 first-verdict = refl
 
 second-verdict : entryOn example 1 ≡ record { id = 12; rule = 5; required = 567; source = 0 }
-unfolding firstFrom leastIn ceilOf sea bottomLoad innerLoad deepLoad lineLoad K2 rule4 rule5 rule6 memberLine bottomNamed innerNamed
+unfolding firstFrom leastIn ceilOf sea bottomPressure innerPressure deepPressure lineLoad K2 rule4 rule5 rule6 memberLine bottomNamed innerNamed
 second-verdict = refl
 
 two-failed : failedFrom example 0 2 ≡ 2
-unfolding firstFrom leastIn ceilOf sea bottomLoad innerLoad deepLoad lineLoad K2 rule4 rule5 rule6 memberLine bottomNamed innerNamed
+unfolding firstFrom leastIn ceilOf sea bottomPressure innerPressure deepPressure lineLoad K2 rule4 rule5 rule6 memberLine bottomNamed innerNamed
 two-failed = refl
 
 none-failed : failedFrom mended 0 2 ≡ 0
-unfolding firstFrom leastIn ceilOf sea bottomLoad innerLoad deepLoad lineLoad K2 rule4 rule5 rule6 memberLine bottomNamed innerNamed
+unfolding firstFrom leastIn ceilOf sea bottomPressure innerPressure deepPressure lineLoad K2 rule4 rule5 rule6 memberLine bottomNamed innerNamed
 none-failed = refl
 
 module _ (P : Program) (d : Demands P) where

@@ -1,5 +1,5 @@
 -- What a verdict says of the load that decided, on a program that checks sheets.
-use Prim.Native.Nat.{ℕ, _*_, _/_, _≤_, _<_}
+use Prim.Native.Nat.{ℕ, _*_, _/_, _<_}
 use mathlib.Core.Path.{_≡_}
 use mathlib.Core.List.{List, [], _∷_, _++_}
 use lib.ListN.{getD, take}
@@ -10,25 +10,27 @@ use Rattle.hull.specs.Hull.{verdict}
 use Rattle.hull.specs.Sources.{loadsOn, pressureOn}
 use Rattle.checker.specs.declared.Entry.{Entry}
 use Rattle.checker.specs.declared.Checked.the-variants.{Done}
+use Rattle.checker.specs.Entry.{verdictWidths}
 use Rattle.demands.specs.Table.{idOf}
 use Rattle.demands.specs.Program.{Program, fourAt, Leaves}
-use Rattle.demands.specs.Raise.{theHeader, theRecord, withScantling, InGauge, raisedTimes}
+use Rattle.demands.specs.Raise.{theHeader, theRecord, withScantling, InGauge, OwnRule, raisedTimes}
 
 -- four bytes with 0 in the last two bits
 abbrev pub cleared : List ℕ → List ℕ
 cleared b = take 3 b ++ (getD b 3 0 / 4 * 4 ∷ [])
 
--- the four bytes of a verdict that names no source: id 10, rule 3, required 17, zero 2
+-- the four bytes of a verdict that names no source: its two bits are 0
 abbrev pub sourceless : ℕ → Verdict → List ℕ
-sourceless id v = unpack (bytes 4) (pack (10 ∷ 3 ∷ 17 ∷ 2 ∷ []) (id ∷ v .rule ∷ v .required ∷ 0 ∷ []))
+sourceless id v = unpack (bytes 4) (pack verdictWidths (id ∷ v .rule ∷ v .required ∷ 0 ∷ []))
 
 -- for record i of a sheet that is accepted, whose verdict, as it is read at 4i, is e, a pass too
-pub record Says (P : Program) (s out : List ℕ) (i : ℕ) (e : Entry) : Type 0 where
+pub record SourceSaid (P : Program) (s out : List ℕ) (i : ℕ) (e : Entry) : Type 0 where
   -- the source, with the pressure that the rules go by, is one of the loads on the record; none of them is greater, and none that is as great has a lower
   -- number
   pub right : Decides (record { pressure = pressureOn (theHeader s) (theRecord s i); source = e .source }) (loadsOn (theHeader s) (theRecord s i))
-  -- with any x of the gauge in place of the scantling that fails, what is read at 4i names the same source
-  pub with-source : 1 ≤ e .rule → (x : ℕ) → InGauge (e .rule) x → (f : Entry) → Leaves P (withScantling i (e .rule) x s) out i f → f .source ≡ e .source
+  -- with any x of its gauge in place of any of the record's scantlings the sheet is accepted, and what is read at 4i names the same source
+  pub with-source : (k x : ℕ) → OwnRule (theRecord s i .body) k → InGauge k x
+      → (m failed : ℕ) × (P .answer (withScantling i k x s) out ≡ Done m failed) × ((f : Entry) → Leaves P (withScantling i k x s) out i f → f .source ≡ e .source)
   -- and after any number of raisings
   pub raised-source : (count : ℕ) (f : Entry) → Leaves P (raisedTimes P out count i s) out i f → f .source ≡ e .source
   -- without the source the four bytes are those of the verdict by the rules alone
@@ -36,4 +38,4 @@ pub record Says (P : Program) (s out : List ℕ) (i : ℕ) (e : Entry) : Type 0 
 
 -- of every verdict that it leaves
 abbrev pub SaysSources : Program → Type 0
-SaysSources P = (s out : List ℕ) (n failed i : ℕ) (e : Entry) → P .answer s out ≡ Done n failed → i < n → Leaves P s out i e → Says P s out i e
+SaysSources P = (s out : List ℕ) (n failed i : ℕ) (e : Entry) → P .answer s out ≡ Done n failed → i < n → Leaves P s out i e → SourceSaid P s out i e

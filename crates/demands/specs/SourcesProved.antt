@@ -1,14 +1,13 @@
 -- Every program that meets the promise of `check` says the right sources.
 -- Assumes nothing.
 use Prim.Native.Nat.{ℕ, _+_, _*_, _/_, _%_, _^_, _≤_, _<_}
-use mathlib.Core.Path.{_≡_, refl, sym, ap, ap₂, subst, _∙_}
+use mathlib.Core.Path.{_≡_, sym, ap, ap₂, subst, _∙_}
 use mathlib.Core.List.{List, [], _∷_, _++_}
 use native.Mathlib.Omega.{arith}
 use Rattle.layout.specs.Layout.{pack, unpack, bytes}
 use Rattle.loads.specs.Sources.{Decides}
 use Rattle.sheet.specs.declared.Header.{Header}
 use Rattle.sheet.specs.declared.Record.{Record}
-use Rattle.sheet.specs.Refusals.{given}
 use Rattle.sheet.specs.RefusalLaws.{given-same}
 use Rattle.hull.specs.Hull.{verdict, sourceOf, finding}
 use Rattle.hull.specs.Raising.{raisedTimes as raisedRecord}
@@ -16,15 +15,15 @@ use Rattle.hull.specs.Sources.{loadsOn, pressureOn}
 use Rattle.hull.specs.SourceLaws.{source-right, source-most, raising-source, times-source}
 use Rattle.checker.specs.declared.Entry.{Entry}
 use Rattle.checker.specs.declared.Checked.the-variants.{Done}
-use Rattle.checker.specs.Entry.{entryBytes}
+use Rattle.checker.specs.Entry.{verdictWidths, entryBytes}
 use Rattle.checker.specs.Check.{Sheet, entryWith, entryOf}
 use Rattle.demands.specs.Program.{Program, Meets, Leaves}
-use Rattle.demands.specs.Raise.{theHeader, theRecord, withScantling, InGauge, raisedTimes}
+use Rattle.demands.specs.Raise.{theHeader, theRecord, withScantling, OwnRule, raisedTimes}
 use Rattle.demands.specs.Demands.{entryOn}
-use Rattle.demands.specs.Sources.{cleared, sourceless, Says, SaysSources}
+use Rattle.demands.specs.Sources.{cleared, sourceless, SourceSaid, SaysSources}
 use Rattle.demands.specs.Exchange as exchange
 use Rattle.demands.specs.Scantling.{putRecord}
-use Rattle.demands.specs.Proved.{second-demand, holds-leaves, put-holds, times-holds, at-first, taken, inside, its}
+use Rattle.demands.specs.Proved.{second-demand, holds-leaves, holds-done, put-own, times-holds, at-first, taken, inside, its}
 
 -- ---- the bytes
 
@@ -41,8 +40,8 @@ entry-cleared : (h : Header) (r : Record) (id : ℕ) → cleared (entryBytes (en
 entry-cleared h r id =
     let v = verdict h r in
     let m = id * 2 ^ 20 + v .rule * 2 ^ 17 + v .required in
-    let whole : pack (10 ∷ 3 ∷ 17 ∷ 2 ∷ []) (id ∷ v .rule ∷ v .required ∷ sourceOf h r ∷ []) ≡ 4 * m + sourceOf h r = omega arith in
-    let bare : pack (10 ∷ 3 ∷ 17 ∷ 2 ∷ []) (id ∷ v .rule ∷ v .required ∷ 0 ∷ []) ≡ 4 * m = omega arith in
+    let whole : pack verdictWidths (id ∷ v .rule ∷ v .required ∷ sourceOf h r ∷ []) ≡ 4 * m + sourceOf h r = omega arith in
+    let bare : pack verdictWidths (id ∷ v .rule ∷ v .required ∷ 0 ∷ []) ≡ 4 * m = omega arith in
     ap (λ (n : ℕ). cleared (unpack (bytes 4) n)) whole ∙ cleared-bytes m (sourceOf h r) (source-most h r) ∙ ap (unpack (bytes 4)) (sym bare)
 
 -- ---- the verdicts
@@ -63,6 +62,9 @@ module _ (P : Program) (meets : Meets P) (s out : List ℕ) (n failed i : ℕ) (
   at-start : Holds s r
   at-start = at-first P meets s out t _ i _ r (its P meets s out n failed i done l .1)
 
+  its-own : theRecord s i ≡ r
+  its-own = exchange.its-record s out t _ i _ s r at-start
+
   -- what is read where record i is q
   leaves-own : (s' : List ℕ) (q : Record) → Holds s' q → Leaves P s' out i (entryOf h q)
   leaves-own s' q holds = holds-leaves P meets s out t _ i _ s' q holds
@@ -72,17 +74,19 @@ module _ (P : Program) (meets : Meets P) (s out : List ℕ) (n failed i : ℕ) (
   unfolding entryOf
   same-source s' q holds e f leaves = ap (λ (x : Entry). x .source) (given-same (sym leaves ∙ leaves-own s' q holds)) ∙ e
 
-  says : Says P s out i (entryOf h r)
+  said : SourceSaid P s out i (entryOf h r)
   unfolding entryOf
-  says =
+  said =
       let two = second-demand P meets s out n failed done in
       let own : entryOf h r ≡ entryOn s i = given-same (sym (leaves-own s r at-start) ∙ two .verdict-of-record i l) in
       record {
         right =
             subst (λ (k : ℕ). Decides (record { pressure = pressureOn (theHeader s) (theRecord s i); source = k }) (loadsOn (theHeader s) (theRecord s i)))
             (sym (ap (λ (x : Entry). x .source) own)) (source-right (theHeader s) (theRecord s i));
-        with-source = λ some x g.
-            same-source (withScantling i (verdict h r .rule) x s) (putRecord (verdict h r .rule) x r) (put-holds P meets s out t _ i _ s r at-start some x g) (raising-source h _ r);
+        with-source = λ k x own g.
+            let holds : Holds (withScantling i k x s) (putRecord k x r) = put-own P meets s out t _ i _ s r at-start k x (subst (λ (q : Record). OwnRule (q .body) k) its-own own) g in
+            let done = holds-done P meets s out t _ i _ (withScantling i k x s) (putRecord k x r) holds in
+            (t .header .count, done .0, done .1, same-source (withScantling i k x s) (putRecord k x r) holds (raising-source h _ r));
         raised-source = λ count.
             same-source (raisedTimes P out count i s) (raisedRecord count h r) (times-holds P meets s out t _ i _ count s r at-start) (times-source count h r);
         forgotten = ap cleared (two .verdict-bytes i l) ∙ entry-cleared (theHeader s) (theRecord s i) _;
@@ -90,5 +94,5 @@ module _ (P : Program) (meets : Meets P) (s out : List ℕ) (n failed i : ℕ) (
 
 pub sources-said : (P : Program) → Meets P → SaysSources P
 sources-said P meets s out n failed i e done l leaves =
-    subst (λ (x : Entry). Says P s out i x)
-    (given-same (sym (leaves-own P meets s out n failed i done l s _ (at-start P meets s out n failed i done l)) ∙ leaves)) (says P meets s out n failed i done l)
+    subst (λ (x : Entry). SourceSaid P s out i x)
+    (given-same (sym (leaves-own P meets s out n failed i done l s _ (at-start P meets s out n failed i done l)) ∙ leaves)) (said P meets s out n failed i done l)

@@ -7,7 +7,7 @@ use Rattle.sheet.specs.Kinds.{isDeep}
 use Rattle.sheet.specs.Ranges.{HeaderRanges, MemberRanges}
 use Rattle.sheet.specs.declared.Header.{Header}
 use Rattle.sheet.specs.declared.Member.{Member}
-use Rattle.framing.specs.Rules.{memberLine, memberLoad}
+use Rattle.framing.specs.Rules.{memberLine, memberPressure}
 
 -- an end coefficient, η, q and l
 pub record Bounded (ends eta q l : ℕ) : Type 0 where
@@ -30,6 +30,6 @@ unfolding memberLine
 member-line-high h kind m r s =
     let D0 = h .draught .0 in
     let H = h .wave .0 in
-    line-bound (memberLoad h kind m) (m .spacing .0)
+    line-bound (memberPressure h kind m) (m .spacing .0)
     (either (isDeep kind) _ _ _ (deep-bound D0 H (r .draught-high) (r .wave-high) (h .«two_runs»)) (sea-bound D0 H (r .draught-high) (r .wave-high) (m .z .0)))
     (s .spacing-high)

@@ -11,11 +11,12 @@ use Rattle.gauge.specs.Shape.{meetsOf}
 use Rattle.gauge.specs.ShapeLaws.{monotone, over-floor, excess}
 use Rattle.gauge.specs.declared.Shape.{Shape}
 use Rattle.gauge.specs.declared.Shape.the-variants.{Floor, Square}
-use Rattle.loads.specs.SourceLaws.{either-pressure}
+use Rattle.loads.specs.Sources.{Named}
+use Rattle.loads.specs.SourceLaws.{either-both}
 use Rattle.sheet.specs.Kinds.{isFloor, isDeep}
 use Rattle.sheet.specs.declared.Header.{Header}
 use Rattle.sheet.specs.declared.Member.{Member}
-use Rattle.framing.specs.Rules.{rule4, rule5, rule6, isShort, squared, stressed, byKind, memberLoad, memberNamed}
+use Rattle.framing.specs.Rules.{rule4, rule5, rule6, isShort, squared, stressed, byKind, memberPressure, memberNamed}
 use Rattle.framing.specs.Shapes.{stressedShape, stressed-said}
 
 -- a test that says what a shape does is monotone
@@ -51,5 +52,5 @@ rule6-monotone kind βs η q l =
     by-kind kind _ _ _ (floor-monotone _ _ (lit< tt)) (floor-monotone _ _ (lit< tt)) (floor-monotone _ _ (lit< tt))
 
 -- the pressure that names its source is the one that q is worked out of
-pub member-pressure : (h : Header) (kind : ℕ) (m : Member) → memberNamed h kind m .pressure ≡ memberLoad h kind m
-member-pressure h kind m = either-pressure (isDeep kind) _ _ refl refl
+pub member-pressure : (h : Header) (kind : ℕ) (m : Member) → memberNamed h kind m .pressure ≡ memberPressure h kind m
+member-pressure h kind m = either-both (λ (n : Named) (P : ℕ). n .pressure ≡ P) (isDeep kind) _ _ _ _ refl refl

@@ -5,16 +5,13 @@ use mathlib.Core.Bool.{Bool, _&&_, cond}
 use mathlib.Core.List.{List, [], _∷_}
 use lib.Dec.{leb, ltb}
 use Rattle.quantity.specs.Range.{thickness, modulus, shearArea}
-use Rattle.loads.specs.Loads.{sea, deepLoad, lineLoad}
+use Rattle.loads.specs.Loads.{sea, deepPressure, lineLoad}
 use Rattle.loads.specs.Sources.{Named, seaNamed, deepNamed}
 use Rattle.sheet.specs.Kinds.{isFloor, isDeep}
 use Rattle.sheet.specs.declared.Header.{Header}
 use Rattle.sheet.specs.declared.Member.{Member}
-use Rattle.sheet.specs.declared.Record.{Record}
-use Rattle.sheet.specs.declared.Body.{Body}
-use Rattle.sheet.specs.declared.Body.the-variants.{Plate as isPlate, Member as isMember}
 use Rattle.verdict.specs.declared.Verdict.{Verdict}
-use Rattle.verdict.specs.Verdict.{Rule, pass, verdictOf}
+use Rattle.verdict.specs.Verdict.{Rule, verdictOf}
 use Rattle.verdict.specs.Judged.{Finding}
 
 -- X = t − short, X ≥ 0 and a·X² ≥ p
@@ -58,13 +55,13 @@ rule6 kind βs η q l A =
     (leb (7 * βs * q * l) (12500000 * A))
 
 -- kind 5: sea at z; kinds 6 to 8: that of the whole draught
-abbrev pub memberLoad : Header → ℕ → Member → ℕ
-memberLoad h kind m =
+abbrev pub memberPressure : Header → ℕ → Member → ℕ
+memberPressure h kind m =
     let D0 = h .draught .0 in
     let H = h .wave .0 in
-    cond (isDeep kind) (deepLoad D0 H (h .«two_runs»)) (sea D0 H (m .z .0))
+    cond (isDeep kind) (deepPressure D0 H (h .«two_runs»)) (sea D0 H (m .z .0))
 
--- the same, and what it comes from
+-- the load that the member bears
 abbrev pub memberNamed : Header → ℕ → Member → Named
 memberNamed h kind m =
     let D0 = h .draught .0 in
@@ -73,7 +70,7 @@ memberNamed h kind m =
 
 -- q, the line load of that pressure on the member's spacing
 unfoldable pub memberLine : Header → ℕ → Member → ℕ
-memberLine h kind m = lineLoad (memberLoad h kind m) (m .spacing .0)
+memberLine h kind m = lineLoad (memberPressure h kind m) (m .spacing .0)
 
 -- rule 4 as a member has to answer to it: its web
 abbrev pub webRule : Header → ℕ → Member → Rule

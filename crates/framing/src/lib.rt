@@ -23,7 +23,7 @@ ghost use Rattle.sheet.specs.Record.{ofMember};
 ghost use Rattle.sheet.specs.Ranges.{HeaderRanges, MemberRanges};
 ghost use Rattle.verdict.specs.Verdict.{verdictOf};
 ghost use Rattle.verdict.specs.Judged.{toldJudged, judgedBy};
-ghost use Rattle.framing.specs.Rules.{rule4 as rule4Of, rule5 as rule5Of, rule6 as rule6Of, memberLoad, memberNamed, memberRules, memberFinding};
+ghost use Rattle.framing.specs.Rules.{rule4 as rule4Of, rule5 as rule5Of, rule6 as rule6Of, memberPressure, memberNamed, memberRules, memberFinding};
 ghost use Rattle.framing.specs.Shapes.{stressedShape};
 ghost use Rattle.framing.specs.Bounds.{Product, Bounded};
 
@@ -114,7 +114,7 @@ fn member_load(h: Header, kind: u8, m: Member) -> Load
 
 // The rules in their order, under the member's load; a later shape is built only where the earlier rules are met.
 fn member_verdict(h: Header, kind: u8, m: Member, load: Load) -> Verdict
-    requires { ⌜ HeaderRanges h × MemberRanges kind m × (load .pressure .0 ≡ memberLoad h kind m) ⌝ }
+    requires { ⌜ HeaderRanges h × MemberRanges kind m × (load .pressure .0 ≡ memberPressure h kind m) ⌝ }
     ensures { λ v. ⌜ v ≡ verdictOf (memberRules h kind m) ⌝ }
 {
     let web = rule4(kind, h.length, m.factor, m.spacing);

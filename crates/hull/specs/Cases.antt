@@ -6,7 +6,7 @@ use mathlib.Core.Bool.{false}
 use mathlib.Core.List.{List, [], _∷_, map}
 use Rattle.gauge.specs.Ceil.{ceilOf}
 use Rattle.gauge.specs.Least.{firstFrom, leastIn, numberOf}
-use Rattle.loads.specs.Loads.{sea, relief, bottomLoad, innerLoad, deepLoad, lineLoad}
+use Rattle.loads.specs.Loads.{sea, relief, bottomPressure, innerPressure, deepPressure, lineLoad}
 use Rattle.sheet.specs.declared.Header.{Header}
 use Rattle.sheet.specs.declared.Plate.{Plate}
 use Rattle.sheet.specs.declared.Member.{Member}
@@ -111,5 +111,5 @@ printed =
     ∷ []
 
 pub twelve-cases : computed ≡ printed
-unfolding firstFrom leastIn ceilOf sea bottomLoad innerLoad deepLoad lineLoad K2 memberLine rule4 rule5 rule6
+unfolding firstFrom leastIn ceilOf sea bottomPressure innerPressure deepPressure lineLoad K2 memberLine rule4 rule5 rule6
 twelve-cases = refl

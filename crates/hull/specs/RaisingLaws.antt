@@ -171,7 +171,7 @@ with-number h r q = go (found (rulesOf h r))
     go (passes m p) = absurd (omega (arith, ap (λ (v : Verdict). v .required) p))
     go (fails f) = f
 
-last-rule : (h : Header) (kind : ℕ) (b : Body) (v : Verdict) → Failing v (bodyRules h kind b) → v .rule ≤ base b + 3
+pub last-rule : (h : Header) (kind : ℕ) (b : Body) (v : Verdict) → Failing v (bodyRules h kind b) → v .rule ≤ base b + 3
 last-rule h kind (isPlate p) v (here f e) = omega (arith, ap (λ (w : Verdict). w .rule) e)
 last-rule h kind (isPlate p) v (there t (here f e)) = omega (arith, ap (λ (w : Verdict). w .rule) e)
 last-rule h kind (isPlate p) v (there t (there u (here f e))) = omega (arith, ap (λ (w : Verdict). w .rule) e)

@@ -1,34 +1,29 @@
--- The source that a finding names is right, raising does not change it, and without it a finding is the verdict.
+-- The source that a finding names is right, and raising does not change it.
 -- Assumes nothing.
 use Prim.Native.Nat.{ℕ, zero, suc, _≤_}
-use mathlib.Core.Path.{_≡_, refl, ap, subst, _∙_}
+use mathlib.Core.Path.{_≡_, refl, sym, ap, subst, _∙_}
 use mathlib.Core.Bool.{Bool, true, false, cond}
 use mathlib.Core.List.{List, []}
 use lib.Dec.{eqb, lit≤}
 use Rattle.loads.specs.declared.Source.the-variants.{Cargo}
-use Rattle.loads.specs.Sources.{numberOf, Named, deepNamed, bottomNamed, innerNamed, Decides}
-use Rattle.loads.specs.SourceLaws.{deciding-decides, either-most, sea-most, bottom-most, inner-most}
+use Rattle.loads.specs.Sources.{numberOf, Named, deciding, Decides}
+use Rattle.loads.specs.SourceLaws.{either-of, deciding-decides, sea-numbered, bottom-numbered, inner-numbered}
 use Rattle.sheet.specs.Kinds.{isBottom, isDeep}
 use Rattle.sheet.specs.declared.Header.{Header}
 use Rattle.sheet.specs.declared.Record.{Record}
 use Rattle.sheet.specs.declared.Body.{Body}
 use Rattle.sheet.specs.declared.Body.the-variants.{Plate as isPlate, Member as isMember}
 use Rattle.verdict.specs.declared.Verdict.{Verdict}
-use Rattle.plating.specs.Laws.{plate-pressure}
+use Rattle.plating.specs.Laws.{plate-named, plate-pressure}
 use Rattle.framing.specs.Laws.{member-pressure}
-use Rattle.hull.specs.Hull.{verdict, bodyNamed, sourceOf, finding}
+use Rattle.hull.specs.Hull.{verdict, bodyNamed, sourceOf}
 use Rattle.hull.specs.Raising.{raisedBody, raised, raisedOnce, raisedTimes}
 use Rattle.hull.specs.Sources.{bodyLoads, loadsOn, bodyPressure, pressureOn}
 
 -- ---- right
 
-either : (b : Bool) (x y : Named) (xs ys : List Named) → Decides x xs → Decides y ys → Decides (cond b x y) (cond b xs ys)
-either true x y xs ys p q = p
-either false x y xs ys p q = q
-
 named-decides : (h : Header) (kind : ℕ) (b : Body) → Decides (bodyNamed h kind b) (bodyLoads h kind b)
-unfolding bottomNamed innerNamed
-named-decides h kind (isPlate p) = either (isBottom kind) _ _ _ _ (deciding-decides _ _) (deciding-decides _ _)
+named-decides h kind (isPlate p) = either-of (λ (ls : List Named). Decides (deciding ls) ls) (isBottom kind) _ _ (deciding-decides _ _) (deciding-decides _ _)
 named-decides h kind (isMember m) = deciding-decides _ []
 
 -- its pressure is the one that the rules go by
@@ -48,10 +43,11 @@ source-most h r = go (r .kind) (r .body)
   where
     go : (kind : ℕ) (b : Body) → bodyNamed h kind b .source ≤ numberOf Cargo
     go kind (isPlate p) =
-        either-most (isBottom kind) _ _
-        (bottom-most (h .draught .0) (h .wave .0) (p .z .0) (p .ballast) (p .«tank_top» .0))
-        (inner-most (p .cargo) (p .z .0) (p .ballast) (p .«tank_top» .0))
-    go kind (isMember m) = either-most (isDeep kind) (deepNamed (h .draught .0) (h .wave .0) (h .«two_runs»)) _ (lit≤ tt) (sea-most (h .draught .0) (h .wave .0) (m .z .0))
+        subst (λ (n : Named). n .source ≤ numberOf Cargo) (sym (plate-named h kind p))
+        (either-of (λ (n : Named). n .source ≤ numberOf Cargo) (isBottom kind) _ _
+        (bottom-numbered (h .draught .0) (h .wave .0) (p .z .0) (p .ballast) (p .«tank_top» .0))
+        (inner-numbered (p .cargo) (p .z .0) (p .ballast) (p .«tank_top» .0)))
+    go kind (isMember m) = either-of (λ (n : Named). n .source ≤ numberOf Cargo) (isDeep kind) _ _ (lit≤ tt) (sea-numbered (h .draught .0) (h .wave .0) (m .z .0))
 
 -- ---- unchanged
 
@@ -72,9 +68,3 @@ times-source (suc count) h r = times-source count h (raisedOnce h r) ∙ once (e
     once : (b : Bool) → sourceOf h (cond b r (raised (verdict h r) r)) ≡ sourceOf h r
     once true = refl
     once false = raising-source h (verdict h r) r
-
--- ---- forgotten
-
--- without its source a finding is the verdict by the rules alone
-pub source-forgotten : (h : Header) (r : Record) → finding h r .verdict ≡ verdict h r
-source-forgotten h r = refl

@@ -8,7 +8,7 @@ use native.Mathlib.Omega.{arith}
 use lib.Dec.{leb}
 use borrow.Author.Tests.{lt-leb}
 use Rattle.gauge.specs.Ceil.{ceilOf}
-use Rattle.loads.specs.Loads.{sea, ballast, relief, deepLoad}
+use Rattle.loads.specs.Loads.{sea, ballast, relief, deepPressure}
 use Rattle.loads.specs.Sources.{Named, seaNamed, deepNamed, bottomNamed, innerNamed}
 
 -- a pressure and its source's number
@@ -50,7 +50,7 @@ pub source-cases : computed
     ∷ (0 ∷ 3 ∷ [])
     ∷ (17103735 ∷ 0 ∷ [])
     ∷ []
-unfolding sea deepLoad ceilOf bottomNamed innerNamed
+unfolding sea deepPressure ceilOf bottomNamed innerNamed
 source-cases = refl
 
 -- above the draught a tank is never as heavy as the sea: the pressures differ by a number that no whole centimetres make up

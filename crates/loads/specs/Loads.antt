@@ -34,20 +34,20 @@ abbrev pub relief : ℕ → ℕ → ℕ
 relief D0 H = 14715 * D0 - waves H
 
 -- bottom plate: sea, or with ballast max(sea, pB − pM); sea is never negative, so the cut-off changes no maximum
-unfoldable pub bottomLoad : ℕ → ℕ → ℕ → Bool → ℕ → ℕ
-bottomLoad D0 H z isBallast zL = cond isBallast (max (sea D0 H z) (ballast zL z - relief D0 H)) (sea D0 H z)
+unfoldable pub bottomPressure : ℕ → ℕ → ℕ → Bool → ℕ → ℕ
+bottomPressure D0 H z isBallast zL = cond isBallast (max (sea D0 H z) (ballast zL z - relief D0 H)) (sea D0 H z)
 
 -- inner bottom: cargo × 1000, or with ballast max(that, pB)
-unfoldable pub innerLoad : ℕ → ℕ → Bool → ℕ → ℕ
-innerLoad cargo z isBallast zL = cond isBallast (max (cargo * 1000) (ballast zL z)) (cargo * 1000)
+unfoldable pub innerPressure : ℕ → ℕ → Bool → ℕ → ℕ
+innerPressure cargo z isBallast zL = cond isBallast (max (cargo * 1000) (ballast zL z)) (cargo * 1000)
 
 -- 56407.5·x, rounded up
 abbrev pub twoRunWater : ℕ → ℕ
 twoRunWater x = ceilOf (564075 * x) 10
 
 -- kinds 6 to 8: 98100·D0 + 50031H; in two runs 56407.5·D0 in place of the first term, rounded up
-unfoldable pub deepLoad : ℕ → ℕ → Bool → ℕ
-deepLoad D0 H twoRuns = cond twoRuns (twoRunWater D0) (water D0) + waves H
+unfoldable pub deepPressure : ℕ → ℕ → Bool → ℕ
+deepPressure D0 H twoRuns = cond twoRuns (twoRunWater D0) (water D0) + waves H
 
 -- q = P·S/1,000,000, rounded up
 unfoldable pub lineLoad : ℕ → ℕ → ℕ

@@ -4,7 +4,6 @@ use Prim.Native.Nat.{ℕ}
 use mathlib.Core.Bool.{Bool, cond}
 use lib.Dec.{eqb}
 use mathlib.Core.Path.{_≡_, refl, sym, ap, ap₂, _∙_}
-use Rattle.quantity.specs.declared.Pressure.{Pressure}
 use Rattle.quantity.specs.declared.LineLoad.{LineLoad}
 use Rattle.loads.specs.declared.Source.{Source}
 use Rattle.loads.specs.declared.Source.the-variants.{SeaBelow, SeaAbove, Ballast, Cargo}

@@ -7,7 +7,7 @@ use lib.Dec.{leb, ltb}
 use Rattle.loads.specs.declared.Source.{Source}
 use Rattle.loads.specs.declared.Source.the-variants.{SeaBelow, SeaAbove, Ballast, Cargo}
 use Rattle.loads.specs.declared.Load.{Load}
-use Rattle.loads.specs.Loads.{sea, ballast, relief, deepLoad}
+use Rattle.loads.specs.Loads.{sea, ballast, relief, deepPressure}
 
 -- 0 sea at or below the draught, 1 sea above it, 2 ballast, 3 cargo
 abbrev pub numberOf : Source → ℕ
@@ -41,7 +41,7 @@ cargoNamed cargo = record { pressure = cargo * 1000; source = numberOf Cargo }
 
 -- kinds 6 to 8 say 0
 abbrev pub deepNamed : ℕ → ℕ → Bool → Named
-deepNamed D0 H twoRuns = record { pressure = deepLoad D0 H twoRuns; source = numberOf SeaBelow }
+deepNamed D0 H twoRuns = record { pressure = deepPressure D0 H twoRuns; source = numberOf SeaBelow }
 
 -- a tank's, where there is ballast
 abbrev pub withBallast : Bool → ℕ → List Named

@@ -4,8 +4,9 @@ use quantity::Pressure;
 use quantity::Spacing;
 use quantity::Span;
 ghost use mathlib.Core.Path.{_≡_};
+ghost use mathlib.Core.Bool.{cond};
 ghost use Prim.Native.Nat.{_-_, max};
-ghost use Rattle.loads.specs.Loads.{wind as windOf, ballast as ballastOf, relief as reliefOf, lineLoad};
+ghost use Rattle.loads.specs.Loads.{water, wind as windOf, ballast as ballastOf, relief as reliefOf, twoRunWater, lineLoad};
 ghost use Rattle.loads.specs.Sources.{numberOf, toldLoad, heavier as heavierOf, seaNamed, tankNamed, bottomNamed, innerNamed, deepNamed};
 
 // What a pressure comes from.
@@ -151,16 +152,23 @@ pub fn inner(cargo: u32, z: Span, ballast: bool, tank_top: Span) -> Load
     loaded
 }
 
-// Kinds 6 to 8. In two runs 56407.5 mPa for each cm, rounded up.
+// The whole draught; in two runs 56407.5 mPa for each cm, rounded up.
+fn still_water(draught: Span, two_runs: bool) -> u64
+    ensures { λ r. ⌜ r ≡ cond «two_runs» (twoRunWater (draught .0)) (water (draught .0)) ⌝ }
+{
+    let d = draught.0 as u64;
+    if two_runs {
+        return (564075 * d + 9) / 10;
+    }
+    WATER * d
+}
+
+// Kinds 6 to 8.
 pub fn deep(draught: Span, wave: Span, two_runs: bool) -> Load
     ensures { λ r. ⌜ toldLoad r ≡ deepNamed (draught .0) (wave .0) «two_runs» ⌝ }
 {
-    let d = draught.0 as u64;
     let h = wave.0 as u64;
-    if two_runs {
-        return load_of((564075 * d + 9) / 10 + WAVE * h, Source::SeaBelow);
-    }
-    load_of(WATER * d + WAVE * h, Source::SeaBelow)
+    load_of(still_water(draught, two_runs) + WAVE * h, Source::SeaBelow)
 }
 
 // P·S / 1,000,000, rounded up. The whole parts are taken out first, so that no product is past 64 bits.

@@ -1,8 +1,9 @@
 -- Every larger thickness meets a rule too; and how great K2 and R are.
 -- Assumes nothing.
 use Prim.Native.Nat.{ℕ, _+_, _-_, _*_, _≤_, _<_}
-use mathlib.Core.Bool.{true, false}
-use mathlib.Core.Path.{_≡_, refl}
+use mathlib.Core.Bool.{true, false, cond}
+use mathlib.Core.List.{List}
+use mathlib.Core.Path.{_≡_, refl, ap, _∙_}
 use native.Mathlib.Omega.{arith}
 use native.Mathlib.Nat.{mul-le-mul, mul-le-mul-left, mul-pos, le-div-iff-mul-le}
 use lib.Dec.{leb, ltb}
@@ -11,11 +12,12 @@ use Rattle.quantity.specs.Range.{steelFactor}
 use Rattle.gauge.specs.Ceil.{ceil-most}
 use Rattle.gauge.specs.Least.{Monotone}
 use Rattle.gauge.specs.Monotone.{Rising, at-least, either, both, times, timed, squared, square}
-use Rattle.loads.specs.SourceLaws.{either-pressure, bottom-pressure, inner-pressure}
+use Rattle.loads.specs.Sources.{Named, deciding, bottomNamed, innerNamed}
+use Rattle.loads.specs.SourceLaws.{either-both, bottom-pressure, inner-pressure}
 use Rattle.sheet.specs.declared.Header.{Header}
 use Rattle.sheet.specs.declared.Plate.{Plate}
 use Rattle.sheet.specs.Kinds.{isLong, isBottom}
-use Rattle.plating.specs.Rules.{R, greatestK2, K2, allowance, rule1, rule2, rule3, isSecond, firstForm, secondForm, limit, plateLoad, plateNamed, asked1, asked2, asked3}
+use Rattle.plating.specs.Rules.{R, greatestK2, K2, allowance, rule1, rule2, rule3, isSecond, firstForm, secondForm, limit, platePressure, plateNamed, asked1, asked2, asked3}
 use Rattle.plating.specs.Bounds.{greatestR}
 
 -- K2 is at least 1000 and at most the greatest
@@ -60,7 +62,7 @@ pub plate-monotone : (h : Header) (kind : ℕ) (p : Plate) →
     Monotone (asked1 h kind p .asks) × Monotone (asked2 h kind p .asks) × Monotone (asked3 h kind p .asks)
 plate-monotone h kind p = (
   rule1-monotone kind (h .length .0) (p .factor .0) (p .spacing .0),
-  rule2-monotone kind (p .factor .0) (p .spacing .0) (plateLoad h kind p),
+  rule2-monotone kind (p .factor .0) (p .spacing .0) (platePressure h kind p),
   rule3-monotone kind (p .factor .0) (p .spacing .0) (K2 (p .b1 .0) (p .b2 .0)) (R (h .moment) (h .«bottom_modulus»)),
 )
 
@@ -75,9 +77,17 @@ over-limit K S K2 R T k r =
 pub inner-first : (K S K2 R T : ℕ) → (rule3 3 K S K2 R T ≡ firstForm 3 S K2 R T) × (rule3 4 K S K2 R T ≡ firstForm 4 S K2 R T)
 inner-first K S K2 R T = (refl, refl)
 
--- the pressure that names its source is the one that rule 2 asks of
-pub plate-pressure : (h : Header) (kind : ℕ) (p : Plate) → plateNamed h kind p .pressure ≡ plateLoad h kind p
+-- the load that decides is that of the bottom or of the inner bottom
+pub plate-named : (h : Header) (kind : ℕ) (p : Plate)
+    → plateNamed h kind p
+    ≡ cond (isBottom kind) (bottomNamed (h .draught .0) (h .wave .0) (p .z .0) (p .ballast) (p .«tank_top» .0)) (innerNamed (p .cargo) (p .z .0) (p .ballast) (p .«tank_top» .0))
+unfolding bottomNamed innerNamed
+plate-named h kind p = either-both (λ (ls : List Named) (n : Named). deciding ls ≡ n) (isBottom kind) _ _ _ _ refl refl
+
+-- its pressure is the one that rule 2 asks of
+pub plate-pressure : (h : Header) (kind : ℕ) (p : Plate) → plateNamed h kind p .pressure ≡ platePressure h kind p
 plate-pressure h kind p =
-    either-pressure (isBottom kind) _ _
+    ap (λ (n : Named). n .pressure) (plate-named h kind p)
+    ∙ either-both (λ (n : Named) (P : ℕ). n .pressure ≡ P) (isBottom kind) _ _ _ _
     (bottom-pressure (h .draught .0) (h .wave .0) (p .z .0) (p .ballast) (p .«tank_top» .0))
     (inner-pressure (p .cargo) (p .z .0) (p .ballast) (p .«tank_top» .0))

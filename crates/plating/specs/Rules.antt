@@ -8,13 +8,10 @@ use Rattle.gauge.specs.Ceil.{ceilOf}
 use Rattle.sheet.specs.declared.Header.{Header}
 use Rattle.sheet.specs.declared.Plate.{Plate}
 use Rattle.sheet.specs.Kinds.{isLong, isBottom}
-use Rattle.loads.specs.Loads.{bottomLoad, innerLoad}
-use Rattle.loads.specs.Sources.{Named, bottomNamed, innerNamed}
-use Rattle.sheet.specs.declared.Record.{Record}
-use Rattle.sheet.specs.declared.Body.{Body}
-use Rattle.sheet.specs.declared.Body.the-variants.{Plate as isPlate, Member as isMember}
+use Rattle.loads.specs.Loads.{bottomPressure, innerPressure}
+use Rattle.loads.specs.Sources.{Named, onBottom, onInner, deciding}
 use Rattle.verdict.specs.declared.Verdict.{Verdict}
-use Rattle.verdict.specs.Verdict.{Rule, pass, verdictOf}
+use Rattle.verdict.specs.Verdict.{Rule, verdictOf}
 use Rattle.verdict.specs.Judged.{Finding}
 
 -- R = 1,000,000·M/ZB rounded up: the hull's stress at the bottom, thousandths of a N/mm²
@@ -71,16 +68,19 @@ abbrev pub rule3 : ℕ → ℕ → ℕ → ℕ → ℕ → ℕ → Bool
 rule3 kind K S K2 R T = cond (isSecond kind K R) (secondForm kind K S K2 R T) (firstForm kind S K2 R T)
 
 -- P: on kinds 1, 2 that of the bottom, on kinds 3, 4 that of the inner bottom
-abbrev pub plateLoad : Header → ℕ → Plate → ℕ
-plateLoad h kind p =
-    cond (isBottom kind) (bottomLoad (h .draught .0) (h .wave .0) (p .z .0) (p .ballast) (p .«tank_top» .0))
-    (innerLoad (p .cargo) (p .z .0) (p .ballast) (p .«tank_top» .0))
+abbrev pub platePressure : Header → ℕ → Plate → ℕ
+platePressure h kind p =
+    cond (isBottom kind) (bottomPressure (h .draught .0) (h .wave .0) (p .z .0) (p .ballast) (p .«tank_top» .0))
+    (innerPressure (p .cargo) (p .z .0) (p .ballast) (p .«tank_top» .0))
 
--- the same, and what it comes from
+-- the loads that bear on the plate, and the one of them that decides
+abbrev pub plateLoads : Header → ℕ → Plate → List Named
+plateLoads h kind p =
+    cond (isBottom kind) (onBottom (h .draught .0) (h .wave .0) (p .z .0) (p .ballast) (p .«tank_top» .0))
+    (onInner (p .cargo) (p .z .0) (p .ballast) (p .«tank_top» .0))
+
 abbrev pub plateNamed : Header → ℕ → Plate → Named
-plateNamed h kind p =
-    cond (isBottom kind) (bottomNamed (h .draught .0) (h .wave .0) (p .z .0) (p .ballast) (p .«tank_top» .0))
-    (innerNamed (p .cargo) (p .z .0) (p .ballast) (p .«tank_top» .0))
+plateNamed h kind p = deciding (plateLoads h kind p)
 
 -- a rule of this number as the plate has to answer to it, with its thickness
 abbrev pub asked : Plate → ℕ → (ℕ → Bool) → Rule
@@ -90,7 +90,7 @@ abbrev pub asked1 : Header → ℕ → Plate → Rule
 asked1 h kind p = asked p 1 (rule1 kind (h .length .0) (p .factor .0) (p .spacing .0))
 
 abbrev pub asked2 : Header → ℕ → Plate → Rule
-asked2 h kind p = asked p 2 (rule2 kind (p .factor .0) (p .spacing .0) (plateLoad h kind p))
+asked2 h kind p = asked p 2 (rule2 kind (p .factor .0) (p .spacing .0) (platePressure h kind p))
 
 abbrev pub asked3 : Header → ℕ → Plate → Rule
 asked3 h kind p =

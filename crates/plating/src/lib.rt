@@ -23,7 +23,7 @@ ghost use Rattle.sheet.specs.Record.{ofPlate};
 ghost use Rattle.sheet.specs.Ranges.{HeaderRanges, PlateRanges};
 ghost use Rattle.verdict.specs.Verdict.{verdictOf};
 ghost use Rattle.verdict.specs.Judged.{toldJudged, judgedBy};
-ghost use Rattle.plating.specs.Rules.{R, K2, allowance, rule1, rule2, isSecond, firstForm, secondForm, rule3, plateLoad, plateNamed, plateRules, plateFinding};
+ghost use Rattle.plating.specs.Rules.{R, K2, allowance, rule1, rule2, isSecond, firstForm, secondForm, rule3, platePressure, plateNamed, plateRules, plateFinding};
 ghost use Rattle.plating.specs.Bounds.{Panel, greatestR};
 
 // The stress R at which the hull's bending leaves nothing for the plate's own.
@@ -200,7 +200,7 @@ fn load(h: Header, kind: u8, p: Plate) -> Load
 
 // The first rule that the plate fails under its load, and the thickness that this rule requires. A later rule is formed only where the earlier ones pass.
 fn plate_verdict(h: Header, kind: u8, p: Plate, load: Load) -> Verdict
-    requires { ⌜ HeaderRanges h × PlateRanges kind p × (load .pressure .0 ≡ plateLoad h kind p) ⌝ }
+    requires { ⌜ HeaderRanges h × PlateRanges kind p × (load .pressure .0 ≡ platePressure h kind p) ⌝ }
     ensures { λ v. ⌜ v ≡ verdictOf (plateRules h kind p) ⌝ }
 {
     let top = Thickness::HIGH as u32;

@@ -4,7 +4,7 @@ use mathlib.Core.Path.{_≡_, refl}
 use mathlib.Core.List.{[], _∷_}
 use Rattle.decimal.specs.Decimal.{digitsIn, decimalOf}
 use Rattle.decimal.specs.Line.{moreOf, lineOf}
-use Rattle.sheet.specs.Refusals.{given, refused}
+use Rattle.sheet.specs.Refusals.{given}
 use Rattle.sheet.specs.Header.{readHeader}
 use Rattle.checker.specs.Check.{_then_, headerFor, sheetIn}
 use Rattle.report.specs.Text.{printed, linesText, textBy, textOf}

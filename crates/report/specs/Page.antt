@@ -1,5 +1,5 @@
 -- What the contracts of `page_of` and `write_answer` say.
-use Prim.Native.Nat.{ℕ, _-_}
+use Prim.Native.Nat.{ℕ, _+_, _-_, _*_}
 use mathlib.Core.Path.{_≡_}
 use mathlib.Core.Bool.{cond}
 use mathlib.Core.List.{List, _++_}
@@ -18,7 +18,7 @@ longestLine = 16
 
 -- that of the longest text: 400 such lines, and one of 8 bytes
 abbrev pub longest : ℕ
-longest = 6408
+longest = 400 * longestLine + 8
 
 -- so many bytes of 0
 abbrev pub blank : ℕ → List ℕ

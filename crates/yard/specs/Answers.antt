@@ -19,9 +19,9 @@ use Rattle.sheet.specs.HeaderExactly.{headerCases}
 use Rattle.sheet.specs.RecordExactly.{recordCases}
 use Rattle.checker.specs.declared.Entry.{Entry}
 use Rattle.checker.specs.Entry.{verdictLines, verdictWidths, entryValues, entryAt, entryFault, entryIn, readEntry}
-use Rattle.checker.specs.Check.{_then_, sheetIn, failures, verdicts, Totals, answerOf}
+use Rattle.checker.specs.Check.{sheetIn, failures, verdicts, Totals, answerOf}
 use Rattle.checker.specs.CheckLaws.{answer-sheet}
-use Rattle.checker.specs.Bounds.{Row, Refusable, row, most, fault-told as fault-row, by-test, then-told, read-header-told as read-header-row, record-told as record-row, sheet-told, sheet-counts}
+use Rattle.checker.specs.Bounds.{Refusable, row, most, fault-told as fault-row, by-test, then-told, read-header-told as read-header-row, record-told as record-row, sheet-told, sheet-counts}
 use Rattle.numbers.specs.From.{numbersFrom, headerNumbersFault, plateNumbered, recordOfNumbers, plateFields, recordNumbersFault}
 use Rattle.yard.specs.PackedLaws.{Told, Answered}
 use Rattle.yard.specs.Writing.{writeHeaderNumbers, writeRecordNumbers}

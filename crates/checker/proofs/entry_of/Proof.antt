@@ -1,12 +1,10 @@
 -- `checker::entry_of` meets its contract: the last field is what is left.
 -- Assumes nothing.
 use Prim.Native.Nat.{ℕ, _%_}
-use lib.ListN.{getD}
 use mathlib.Core.Path.{_≡_, ap}
 use borrow.Author.Needs.{needs}
 use native.Mathlib.Omega.{arith}
 use Rattle.layout.specs.Layout.{unpack}
-use Rattle.checker.specs.declared.Entry.{Entry}
 use Rattle.checker.specs.Entry.{verdictWidths, entryAt}
 use Rattle.checker.proofs.entry_of.Statement.{statement}
 use Rattle.checker.proofs.entry_of.Tie as tie

@@ -9,7 +9,7 @@ use Rattle.sheet.specs.HeaderLaws.{header-ranges}
 use Rattle.sheet.specs.RecordLaws.{member-ranges}
 use Rattle.verdict.specs.declared.Verdict.{Verdict}
 use Rattle.verdict.specs.JudgedLaws.{Sound, given-sound, sound-given, refused-same}
-use Rattle.framing.specs.Rules.{memberLoad, memberNamed, memberVerdict, memberFinding}
+use Rattle.framing.specs.Rules.{memberPressure, memberNamed, memberVerdict, memberFinding}
 use Rattle.framing.specs.Laws.{member-pressure}
 use Rattle.framing.proofs.judge.Statement.{statement}
 use Rattle.framing.proofs.judge.Tie as tie
@@ -27,7 +27,7 @@ returns c =
     sym (refused-same (a .h) (ofMember (a .kind) (a .id) (a .m)) (tt {0}) (memberFinding (a .h) (a .kind) (a .m)) _ _ (sym (at-admitted .admitted-member .ensures) ∙ ap toldOutcome (c .before .admitted .given .1)))
 
 -- the load's pressure is the one that the rules go by
-load-pressure : (c : tie.After-member-load) → let a = c .before .before .before .before .args in c .member-load .result .pressure .0 ≡ memberLoad (a .h) (a .kind) (a .m)
+load-pressure : (c : tie.After-member-load) → let a = c .before .before .before .before .args in c .member-load .result .pressure .0 ≡ memberPressure (a .h) (a .kind) (a .m)
 load-pressure c =
     let a = c .before .before .before .before .args in
     let named : toldLoad (c .member-load .result) ≡ memberNamed (a .h) (a .kind) (a .m) = c .member-load .ensures in

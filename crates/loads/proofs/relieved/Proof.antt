@@ -1,6 +1,6 @@
 -- `loads::relieved` meets its contract.
 -- Assumes nothing.
-use Prim.Native.Nat.{ℕ, _-_}
+use Prim.Native.Nat.{_-_}
 use mathlib.Core.Path.{_≡_, ap, ap₂, _∙_}
 use borrow.Author.Needs.{needs}
 use Rattle.loads.specs.Sources.{toldLoad, tankNamed}

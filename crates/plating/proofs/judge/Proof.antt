@@ -9,7 +9,7 @@ use Rattle.sheet.specs.HeaderLaws.{header-ranges}
 use Rattle.sheet.specs.RecordLaws.{plate-ranges}
 use Rattle.verdict.specs.declared.Verdict.{Verdict}
 use Rattle.verdict.specs.JudgedLaws.{Sound, given-sound, sound-given, refused-same}
-use Rattle.plating.specs.Rules.{plateLoad, plateNamed, plateVerdict, plateFinding}
+use Rattle.plating.specs.Rules.{platePressure, plateNamed, plateVerdict, plateFinding}
 use Rattle.plating.specs.Laws.{plate-pressure}
 use Rattle.plating.proofs.judge.Statement.{statement}
 use Rattle.plating.proofs.judge.Tie as tie
@@ -27,7 +27,7 @@ returns c =
     sym (refused-same (a .h) (ofPlate (a .kind) (a .id) (a .p)) (tt {0}) (plateFinding (a .h) (a .kind) (a .p)) _ _ (sym (at-admitted .admitted-plate .ensures) ∙ ap toldOutcome (c .before .admitted .given .1)))
 
 -- the load's pressure is the one that the rules go by
-load-pressure : (c : tie.After-load) → let a = c .before .before .before .before .args in c .load .result .pressure .0 ≡ plateLoad (a .h) (a .kind) (a .p)
+load-pressure : (c : tie.After-load) → let a = c .before .before .before .before .args in c .load .result .pressure .0 ≡ platePressure (a .h) (a .kind) (a .p)
 load-pressure c =
     let a = c .before .before .before .before .args in
     let named : toldLoad (c .load .result) ≡ plateNamed (a .h) (a .kind) (a .p) = c .load .ensures in

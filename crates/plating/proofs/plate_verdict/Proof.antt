@@ -13,13 +13,13 @@ use Rattle.sheet.specs.Kinds.{isBottom}
 use Rattle.sheet.specs.Ranges.{HeaderRanges, PlateRanges}
 use Rattle.loads.specs.Bounds.{either, bottom-bound, inner-bound}
 use Rattle.verdict.specs.Verdict.{Rule, verdictOf, failedOf}
-use Rattle.plating.specs.Rules.{K2, rule2, rule3, plateLoad, asked1, asked2, asked3}
+use Rattle.plating.specs.Rules.{K2, rule2, rule3, platePressure, asked1, asked2, asked3}
 use Rattle.plating.specs.Laws.{R-high}
 use Rattle.plating.proofs.Steps.{Step, step}
 use Rattle.plating.proofs.plate_verdict.Statement.{statement}
 use Rattle.plating.proofs.plate_verdict.Tie as tie
 
-load-high : (h : Header) (kind : ℕ) (p : Plate) → HeaderRanges h → PlateRanges kind p → plateLoad h kind p ≤ pressure .high
+load-high : (h : Header) (kind : ℕ) (p : Plate) → HeaderRanges h → PlateRanges kind p → platePressure h kind p ≤ pressure .high
 load-high h kind p a b =
     either (isBottom kind) _ _ _
     (bottom-bound (h .draught .0) (h .wave .0) (a .draught-high) (a .wave-high) (p .z .0) (p .ballast) (p .«tank_top» .0) (b .tank-high))
