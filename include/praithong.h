@@ -47,7 +47,7 @@ uint64_t yard_write_record(const uint32_t fields[13], uint8_t *out, uint64_t out
 
 /* Reads one verdict in the first four bytes: 0, and fields are id, rule (0 is a pass), required (0 on a pass, and where nothing will do) and source,
    the load that the record's pressure comes from, on a pass too and whichever rule fails: 0 the sea at or below the draught (kinds 6 to 8 always), 1 the
-   sea above it, 2 ballast, 3 cargo; of two equal loads the lower number. */
+   sea above it, 2 ballast, 3 cargo; of two equal loads the lower number. Lend room for four numbers: programs that lent three must be built anew. */
 uint64_t yard_read_verdict(const uint8_t *bytes, uint64_t bytes_len, uint32_t fields[4]);
 
 /* Puts the record that the fields are into the sheet in the first len bytes of buf, a buffer of buf_len bytes: it replaces the record with its id, or

@@ -7,9 +7,9 @@ use mathlib.Core.Bool.{Bool, true, false, cond}
 use mathlib.Core.List.{List, [], _∷_}
 use native.Mathlib.Omega.{arith}
 use native.Mathlib.Decide.{decLt, ℕ-discrete}
-use lib.Dec.{eqb, lit<}
-use borrow.Author.Tests.{le-leb, eq-eqb, ne-eqb, eqb-false}
-use Rattle.quantity.specs.Range.{Range, within, thickness, modulus, shearArea}
+use lib.Dec.{eqb}
+use borrow.Author.Tests.{eq-eqb, ne-eqb, eqb-false}
+use Rattle.quantity.specs.Range.{within, thickness, modulus, shearArea}
 use Rattle.layout.specs.LineLaws.{all-none}
 use Rattle.sheet.specs.declared.Header.{Header}
 use Rattle.sheet.specs.declared.Plate.{Plate}
@@ -18,7 +18,7 @@ use Rattle.sheet.specs.declared.Body.{Body}
 use Rattle.sheet.specs.declared.Body.the-variants.{Plate as isPlate, Member as isMember}
 use Rattle.sheet.specs.declared.Record.{Record}
 use Rattle.sheet.specs.Lines.{plateLines, memberLines}
-use Rattle.sheet.specs.Record.{plateValues, memberValues, plateFault, memberFault, bodyFault, recordFault}
+use Rattle.sheet.specs.Record.{plateValues, memberValues, plateFault, memberFault, bodyFault}
 use Rattle.sheet.specs.RecordLaws.{plate-allowed, member-allowed}
 use Rattle.sheet.specs.Exactly.{Exactly}
 use Rattle.verdict.specs.declared.Verdict.{Verdict}

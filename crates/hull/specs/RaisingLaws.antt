@@ -18,7 +18,6 @@ use Rattle.sheet.specs.Lines.{plateLines, memberLines}
 use Rattle.sheet.specs.Record.{plateValues, memberValues, plateFault, memberFault, bodyFault, recordFault}
 use Rattle.sheet.specs.RecordLaws.{plate-allowed, member-allowed}
 use Rattle.verdict.specs.declared.Verdict.{Verdict}
-use Rattle.verdict.specs.Verdict.{pass, failing}
 use Rattle.verdict.specs.Raising.{Failing, here, there, Found, passes, fails, found, Rising, failing-above, Later, passed, above, AllMonotone, Raised, AllRaised, raised-later, has-under}
 use Rattle.plating.specs.Rules.{plateRules}
 use Rattle.plating.specs.Laws.{plate-monotone}

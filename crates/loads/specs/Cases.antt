@@ -53,7 +53,7 @@ pub source-cases : computed
 unfolding sea deepPressure ceilOf bottomNamed innerNamed
 source-cases = refl
 
--- above the draught a tank is never as heavy as the sea: the pressures differ by a number that no whole centimetres make up
+-- above the draught a tank is never exactly as heavy as the sea: the pressures differ by a number that no whole centimetres make up
 pub no-tie-above : (D0 z zL : ℕ) → D0 < z
     → (sea D0 0 z ≡ ballast zL z - relief D0 0 → ⊥) × (sea D0 60 z ≡ ballast zL z - relief D0 60 → ⊥) × (sea D0 120 z ≡ ballast zL z - relief D0 120 → ⊥)
 unfolding sea

@@ -17,9 +17,10 @@ pub fn even_loads(chance: &mut Chance, header: &Header, plate: &mut Form) {
 }
 
 /// The highest tank top with which ballast less relief is not above the sea, or a
-/// centimetre to either side. At or below the draught they are equal if 23 D0 =
-/// 20 (zL + 100), whatever z is. Above it they never are: ballast and relief are
-/// multiples of 4905, as 50031 x 60 is, and none of the three sea pressures is.
+/// centimetre to either side. At or below the draught, and where there is relief,
+/// they are equal if 23 D0 = 20 (zL + 100), whatever z is. Above it they never are:
+/// ballast and relief are multiples of 4905, as 50031 x 60 is, and none of the three
+/// sea pressures is.
 fn ballast_as_sea(chance: &mut Chance, header: &Header, plate: &mut Form) {
     let z = plate.get("z");
     let head = (sea(header, z).P + relief(header)) / 98_100;
