@@ -23,6 +23,7 @@ use Rattle.demands.specs.Program.{Program, fourAt, Leaves}
 use Rattle.demands.specs.Raise.{raisedBy, raisedTimes, withScantling, InGauge, meetsRule}
 use Rattle.demands.specs.Demands.{Third, Demands}
 use Rattle.demands.specs.Sources.{SourceSaid}
+use Rattle.demands.specs.Empty.{ShutOut, DropsSource}
 use Rattle.demands.specs.EmptyPrograms.{checker, passing, naming, firstOnly, counting}
 use Rattle.demands.specs.Rows.{refused-exactly}
 use Rattle.demands.specs.SourcesProved.{sources-said}
@@ -84,6 +85,13 @@ source-example = sources-said checker checker-meets (flooded 155) lent 1 1 0 _ (
 
 pub source-of-pass : SourceSaid checker (flooded 169) lent 0 (record { id = 5; rule = 0; required = 0; source = 2 })
 source-of-pass = sources-said checker checker-meets (flooded 169) lent 1 0 0 _ (flooded-numbers .2) (lit< tt) (flooded-numbers .3)
+
+-- whatever program meets the demands leaves the same there, so that none drops the source on a pass
+pub not-dropping : ShutOut DropsSource
+not-dropping P d f =
+    let same = demands-only P checker d checker-demands (flooded 169) lent in
+    let leaves : Leaves P (flooded 169) lent 0 (record { id = 5; rule = 0; required = 0; source = 2 }) = ap (λ (o : List ℕ). readEntry (fourAt 0 o)) (same .1) ∙ flooded-numbers .3 in
+    omega (arith, f (flooded 169) lent 1 0 0 _ (same .0 ∙ flooded-numbers .2) (lit< tt) leaves refl)
 
 -- raising by what a program leaves is raising by what the checker leaves
 raised-same : (P : Program) → Demands P → (out : List ℕ) (count i : ℕ) (s : List ℕ) → raisedTimes P out count i s ≡ raisedTimes checker out count i s

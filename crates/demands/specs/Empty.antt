@@ -1,4 +1,4 @@
--- Five kinds of empty program that no promise may let through, by what a program does on the sheets that it accepts; crates/demands/specs/EmptyPrograms.antt has one of each.
+-- Five kinds of empty program that no promise may let through, and one of a later request, by what a program does on the sheets that it accepts; crates/demands/specs/EmptyPrograms.antt has one of each.
 use Prim.Native.Nat.{ℕ, zero, suc, _+_, _<_, _≤_}
 use mathlib.Core.Path.{_≡_}
 use mathlib.Core.Bool.{cond}
@@ -58,3 +58,7 @@ Miscounts P = (s out : List ℕ) × (n failed : ℕ) × (P .answer s out ≡ Don
 -- or which hangs on the header's bytes alone, or on nothing
 abbrev pub MakesUpCount : (List ℕ → ℕ) → Program → Type 0
 MakesUpCount count P = (s out : List ℕ) (n failed : ℕ) → P .answer s out ≡ Done n failed → failed ≡ count (take 12 s)
+
+-- and since verdicts name a source: it names none on a pass
+abbrev pub DropsSource : Program → Type 0
+DropsSource = OfVerdicts (λ i e. e .rule ≡ 0 → e .source ≡ 0)

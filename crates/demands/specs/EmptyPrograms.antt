@@ -48,6 +48,10 @@ passInstead i e = record { id = e .id; rule = 0; required = 0; source = e .sourc
 abbrev pub numberInstead : ℕ → ℕ → Entry → Entry
 numberInstead q i e = record { id = e .id; rule = e .rule; required = cond (eqb (e .rule) 0) 0 q; source = e .source }
 
+-- no source in a pass
+abbrev pub sourceDropped : ℕ → Entry → Entry
+sourceDropped i e = record { id = e .id; rule = e .rule; required = e .required; source = cond (eqb (e .rule) 0) 0 (e .source) }
+
 -- a pass in place of every verdict but the first
 abbrev pub passAfterFirst : ℕ → Entry → Entry
 passAfterFirst zero e = e
@@ -76,3 +80,7 @@ firstOnly = changing passAfterFirst
 -- 5: it makes up the failure count from the header's bytes
 abbrev pub counting : (List ℕ → ℕ) → Program
 counting count = reading (λ s t. count (take 12 s)) verdicts
+
+-- it names no source on a pass
+abbrev pub dropping : Program
+dropping = changing sourceDropped

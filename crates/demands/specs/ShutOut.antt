@@ -8,7 +8,7 @@ use native.Mathlib.Omega.{arith}
 use native.Mathlib.Nat.{add-zero}
 use lib.ListN.{length, getD, take, drop}
 use lib.Dec.{eqb}
-use borrow.Author.Tests.{le-leb, ne-eqb}
+use borrow.Author.Tests.{le-leb, eq-eqb, ne-eqb}
 use Rattle.quantity.specs.Range.{within, from, modulus}
 use Rattle.gauge.specs.Ceil.{ceilOf}
 use Rattle.gauge.specs.Least.{firstFrom, leastIn}
@@ -36,8 +36,8 @@ use Rattle.checker.specs.CheckLaws.{Taken, none, next, sheet-whole, verdicts-co
 use Rattle.demands.specs.Table.{Row, sheet-short, version, header-field, sheet-length, output-short, kind, field, order, Accepted}
 use Rattle.demands.specs.Program.{Program, Meets, fourAt}
 use Rattle.demands.specs.Demands.{entryOn, failedFrom, Second, Demands}
-use Rattle.demands.specs.Empty.{ShutOut, OfVerdicts, LeavesAsLent, RefusesAll, PassesAll, NamesOne, PassesRest, ruleIn, failedIn, Miscounts, MakesUpCount}
-use Rattle.demands.specs.EmptyPrograms.{answerBy, afterBy, checker, changedFrom, changing, passInstead, numberInstead, passAfterFirst, idle, refusing, passing, naming, firstOnly, counting}
+use Rattle.demands.specs.Empty.{ShutOut, OfVerdicts, LeavesAsLent, RefusesAll, PassesAll, NamesOne, PassesRest, ruleIn, failedIn, Miscounts, MakesUpCount, DropsSource}
+use Rattle.demands.specs.EmptyPrograms.{answerBy, afterBy, checker, changedFrom, changing, passInstead, numberInstead, passAfterFirst, idle, refusing, passing, naming, firstOnly, counting, sourceDropped, dropping}
 use Rattle.demands.specs.Rows.{refused-exactly}
 use Rattle.demands.specs.Proved.{given-fits, demands-met}
 use Rattle.demands.specs.Example.{example, mended, lent, example-answer, mended-answer}
@@ -95,6 +95,10 @@ id-within e z = none-all 0 (verdictLines (e .rule)) (entryValues e) z .0
 rule-within : (e : Entry) → entryFault e ≡ 0 → within (from 0 6) (e .rule) ≡ true
 unfolding entryFault
 rule-within e z = none-all 0 (verdictLines (e .rule)) (entryValues e) z .1 .0
+
+required-within : (e : Entry) → entryFault e ≡ 0 → within (from 0 (cond (eqb (e .rule) 0) 0 (modulus .high))) (e .required) ≡ true
+unfolding entryFault
+required-within e z = none-all 0 (verdictLines (e .rule)) (entryValues e) z .1 .1 .0
 
 source-within : (e : Entry) → entryFault e ≡ 0 → within (from 0 (numberOf Cargo)) (e .source) ≡ true
 unfolding entryFault
@@ -160,6 +164,16 @@ firstOnly-is = changing-says passAfterFirst (λ i e. 1 ≤ i → e .rule ≡ 0) 
     both : (i : ℕ) (e : Entry) → entryFault e ≡ 0 → (entryFault (passAfterFirst i e) ≡ 0) × (1 ≤ i → passAfterFirst i e .rule ≡ 0)
     both zero e z = (z, λ l. absurd (omega arith))
     both (suc i) e z = (pass-sound (suc i) e z, λ l. refl)
+
+pub dropping-is : DropsSource dropping
+dropping-is = changing-says sourceDropped (λ i e. e .rule ≡ 0 → e .source ≡ 0) (λ i e z. (sound i e z, λ r. rw (eq-eqb (e .rule) 0 r)))
+  where
+    carried : (e : Entry) → entryFault e ≡ 0 → (b : Bool) → within (from 0 (numberOf Cargo)) (cond b 0 (e .source)) ≡ true
+    carried e z true = refl
+    carried e z false = source-within e z
+
+    sound : (i : ℕ) (e : Entry) → entryFault e ≡ 0 → entryFault (sourceDropped i e) ≡ 0
+    sound i e z = allowed-entry (sourceDropped i e) (id-within e z, (rule-within e z, (required-within e z, (carried e z (eqb (e .rule) 0), tt))))
 
 pub counting-is : (count : List ℕ → ℕ) → MakesUpCount count (counting count)
 counting-is count s out n failed e = go (sheetIn s (length out)) e

@@ -12,6 +12,7 @@ use Rattle.sheet.specs.Record.{recordFault}
 use Rattle.sheet.specs.Refusals.{Answer, given, refused, headerRefused, recordRefused}
 use Rattle.sheet.specs.RefusalLaws.{given-refused, refusal-only, refused-number, refused-place, given-same, by-none}
 use Rattle.loads.specs.Only.{source-only}
+use Rattle.verdict.specs.declared.Verdict.{Verdict}
 use Rattle.verdict.specs.declared.Judged.{Judged}
 use Rattle.verdict.specs.declared.Judged.the-variants.{Verdict as isVerdict, Refused as notJudged}
 use Rattle.verdict.specs.Judged.{Finding, toldJudged, judgedBy}
@@ -54,6 +55,11 @@ module _ (h : Header) (r : Record) where
   pub sound-given : {A : Type 0} (a : A) → Sound h r → judgedBy h r a ≡ given a
   unfolding judgedBy
   sound-given a s = rw (eq-eqb (headerFault h 0) 0 (s .header), eq-eqb (recordFault r 0) 0 (s .body))
+
+  -- so with what was found, part by part
+  pub found-given : {v w : Verdict} {m n : ℕ} → Sound h r → v ≡ w → m ≡ n
+      → _≡_ {A = Answer Finding} (given (record { verdict = v; source = m })) (judgedBy h r (record { verdict = w; source = n }))
+  found-given s p q = ap₂ {C = Answer Finding} (λ x k. given (record { verdict = x; source = k })) p q ∙ sym (sound-given _ s)
 
   -- a refusal does not hang on what would have been given
   pub refused-same : {A B : Type 0} (a : A) (b : B) (k p : ℕ) → judgedBy h r a ≡ refused k p → judgedBy h r b ≡ refused k p

@@ -1,14 +1,13 @@
 -- `framing::judge` meets its contract.
 -- Assumes nothing.
 use borrow.Author.Needs.{needs}
-use mathlib.Core.Path.{_≡_, sym, ap, ap₂, _∙_}
+use mathlib.Core.Path.{_≡_, sym, ap, _∙_}
 use Rattle.loads.specs.Sources.{Named, toldLoad}
-use Rattle.sheet.specs.Refusals.{given, toldOutcome}
+use Rattle.sheet.specs.Refusals.{toldOutcome}
 use Rattle.sheet.specs.Record.{ofMember}
 use Rattle.sheet.specs.HeaderLaws.{header-ranges}
 use Rattle.sheet.specs.RecordLaws.{member-ranges}
-use Rattle.verdict.specs.declared.Verdict.{Verdict}
-use Rattle.verdict.specs.JudgedLaws.{Sound, given-sound, sound-given, refused-same}
+use Rattle.verdict.specs.JudgedLaws.{Sound, given-sound, found-given, refused-same}
 use Rattle.framing.specs.Rules.{memberPressure, memberNamed, memberVerdict, memberFinding}
 use Rattle.framing.specs.Laws.{member-pressure}
 use Rattle.framing.proofs.judge.Statement.{statement}
@@ -46,8 +45,7 @@ returns-2 c =
     let a = told .before .before .before .args in
     let judged : c .member-verdict .result ≡ memberVerdict (a .h) (a .kind) (a .m) = c .member-verdict .ensures in
     let named : toldLoad (load .member-load .result) ≡ memberNamed (a .h) (a .kind) (a .m) = load .member-load .ensures in
-    ap₂ (λ (v : Verdict) (n : Named). given (record { verdict = v; source = n .source })) judged named
-    ∙ sym (sound-given (a .h) (ofMember (a .kind) (a .id) (a .m)) (memberFinding (a .h) (a .kind) (a .m)) (sound told))
+    found-given (a .h) (ofMember (a .kind) (a .id) (a .m)) (sound told) judged (ap (λ (n : Named). n .source) named)
 
 pub judge-spec : {M : Type 1} → statement M
 judge-spec =

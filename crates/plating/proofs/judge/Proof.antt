@@ -1,14 +1,13 @@
 -- `plating::judge` meets its contract.
 -- Assumes nothing.
 use borrow.Author.Needs.{needs}
-use mathlib.Core.Path.{_≡_, sym, ap, ap₂, _∙_}
+use mathlib.Core.Path.{_≡_, sym, ap, _∙_}
 use Rattle.loads.specs.Sources.{Named, toldLoad}
-use Rattle.sheet.specs.Refusals.{given, toldOutcome}
+use Rattle.sheet.specs.Refusals.{toldOutcome}
 use Rattle.sheet.specs.Record.{ofPlate}
 use Rattle.sheet.specs.HeaderLaws.{header-ranges}
 use Rattle.sheet.specs.RecordLaws.{plate-ranges}
-use Rattle.verdict.specs.declared.Verdict.{Verdict}
-use Rattle.verdict.specs.JudgedLaws.{Sound, given-sound, sound-given, refused-same}
+use Rattle.verdict.specs.JudgedLaws.{Sound, given-sound, found-given, refused-same}
 use Rattle.plating.specs.Rules.{platePressure, plateNamed, plateVerdict, plateFinding}
 use Rattle.plating.specs.Laws.{plate-pressure}
 use Rattle.plating.proofs.judge.Statement.{statement}
@@ -46,8 +45,7 @@ returns-2 c =
     let a = told .before .before .before .args in
     let judged : c .plate-verdict .result ≡ plateVerdict (a .h) (a .kind) (a .p) = c .plate-verdict .ensures in
     let named : toldLoad (load .load .result) ≡ plateNamed (a .h) (a .kind) (a .p) = load .load .ensures in
-    ap₂ (λ (v : Verdict) (n : Named). given (record { verdict = v; source = n .source })) judged named
-    ∙ sym (sound-given (a .h) (ofPlate (a .kind) (a .id) (a .p)) (plateFinding (a .h) (a .kind) (a .p)) (sound told))
+    found-given (a .h) (ofPlate (a .kind) (a .id) (a .p)) (sound told) judged (ap (λ (n : Named). n .source) named)
 
 pub judge-spec : {M : Type 1} → statement M
 judge-spec =
