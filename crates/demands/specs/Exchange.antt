@@ -18,7 +18,7 @@ use Rattle.checker.specs.Check.{_then_, demand, headerFor, recordOf, partsFrom,
 use Rattle.checker.specs.CheckLaws.{Taken, none, next, sheet-whole, record-given, verdict-at, verdict-read}
 use Rattle.demands.specs.Program.{fourAt}
 use Rattle.demands.specs.Raise.{theHeader, theRecord, recordStart, replaced}
-use Rattle.demands.specs.Rows.{header-sound, record-sound}
+use Rattle.demands.specs.FieldsRead.{header-sound, record-sound}
 use Rattle.demands.specs.Replace.{replaced-length, replaced-header, replaced-record, replaced-others}
 
 -- ---- a sheet whose records keep their ids is not refused

@@ -7,6 +7,7 @@ pub mod Sources
 pub mod Empty
 pub mod EmptyPrograms
 -- how it is proved
+pub mod FieldsRead
 pub mod Rows
 pub mod Replace
 pub mod Exchange

@@ -30,6 +30,7 @@ use Rattle.demands.specs.Table.{countOf, HeaderSound, Row, Accepted}
 use Rattle.demands.specs.Program.{Program, Meets, fourAt, Leaves}
 use Rattle.demands.specs.Raise.{theHeader, theRecord, replaced, withScantling, InGauge, OwnRule, Reaches, metIn, meetsRule, raisedBy, raisedTimes}
 use Rattle.demands.specs.Demands.{Covered, accepted, turned-away, First, entryOn, failedFrom, Second, Later, passed, above, Third, Settled, passes, none-meets, ThreeRaisings, Demands}
+use Rattle.demands.specs.FieldsRead.{record-sound, record-id-field}
 use Rattle.demands.specs.Rows as rows
 use Rattle.demands.specs.Scantling.{putRecord, own-sound, rule-above, named-own, number-in-gauge, met-exactly, later-exactly}
 use Rattle.demands.specs.Exchange as exchange
@@ -54,8 +55,8 @@ module _ (s out : List ℕ) (t : Sheet) (given-t : sheetIn s (length out) ≡ gi
   entry-is : (i : ℕ) (r : Record) → recordOf s i ≡ given r → entryOf (t .header) r ≡ entryOn s i
   unfolding entryOf
   entry-is i r e =
-      ap₂ entryOf (sym header-is) (sym (rows.record-sound s i r e .1))
-      ∙ ap (λ (id : ℕ). entryWith id (finding (theHeader s) (theRecord s i))) (rows.record-id-field s i)
+      ap₂ entryOf (sym header-is) (sym (record-sound s i r e .1))
+      ∙ ap (λ (id : ℕ). entryWith id (finding (theHeader s) (theRecord s i))) (record-id-field s i)
 
   failures-from : (i before : ℕ) (rs : List Record) → Taken s i before rs → failures (map (entryOf (t .header)) rs) ≡ failedFrom s i (length rs)
   unfolding failures

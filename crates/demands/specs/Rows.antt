@@ -9,28 +9,24 @@ use native.Mathlib.Omega.{arith}
 use native.Mathlib.Decide.{ℕ-discrete}
 use native.Mathlib.Nat.{zero-add}
 use native.Mathlib.Numerals.{add-one}
-use lib.ListN.{length, getD, take, drop, length-drop}
-use lib.Seq.{length-take-le, take-take}
+use lib.ListN.{length}
 use lib.Dec.{ltb, leb, eqb}
 use borrow.Author.Tests.{lt-ltb, le-ltb, lt-leb, le-leb, leb-false, ltb-false, eq-eqb, ne-eqb, eqb-true, eqb-false}
 use Rattle.quantity.specs.Range.{within, from}
-use Rattle.layout.specs.Layout.{pack, unpack, bytes}
-use Rattle.layout.specs.Line.{Allowed}
-use Rattle.layout.specs.LineLaws.{low-high}
 use Rattle.sheet.specs.declared.Header.{Header}
 use Rattle.sheet.specs.declared.Record.{Record}
-use Rattle.sheet.specs.Lines.{plateWidths, memberWidths}
 use Rattle.sheet.specs.Refusals.{Answer, given, refused}
 use Rattle.sheet.specs.RefusalLaws.{given-refused, refused-number, refused-place}
 use Rattle.sheet.specs.Exactly.{Exactly, LaterFault}
 use Rattle.sheet.specs.Header.{headerAt, readHeader}
-use Rattle.sheet.specs.HeaderExactly.{header-read-1, header-read-2, header-read-3, header-read-given, header-read-others}
-use Rattle.sheet.specs.Record.{plateRecord, memberRecord, plateLinesOf, memberLinesOf, readRecord}
+use Rattle.sheet.specs.HeaderExactly.{header-read-1, header-read-2, header-read-3, header-read-others}
+use Rattle.sheet.specs.Record.{readRecord}
 use Rattle.sheet.specs.RecordLaws.{recordAt}
-use Rattle.sheet.specs.RecordExactly.{numberIn, kindAt, linesAt, fieldsAt, record-read-1, record-read-6, record-read-7, record-read-given, record-read-others}
+use Rattle.sheet.specs.RecordExactly.{kindAt, linesAt, fieldsAt, record-read-1, record-read-6, record-read-7, record-read-others}
 use Rattle.checker.specs.Check.{_then_, demand, headerFor, recordPart, recordOf, partsFrom, soundAfter, recordsIn, Sheet, sheetIn, verdicts, failures, Totals, answerOf}
 use Rattle.checker.specs.CheckLaws.{HeaderFits, header-fits, sound-read, Taken, none, next, sheet-whole}
-use Rattle.demands.specs.Table.{headerFields, countOf, numberOf, kindOf, fieldsOf, linesOf, idOf, HeaderSound, RecordSound, InOrder, Fits, Reached, Row, sheet-short, version, header-field, sheet-length, output-short, kind, field, order, Accepted}
+use Rattle.demands.specs.Table.{headerFields, countOf, numberOf, fieldsOf, linesOf, idOf, HeaderSound, RecordSound, InOrder, Fits, Reached, Row, sheet-short, version, header-field, sheet-length, output-short, kind, field, order, Accepted}
+use Rattle.demands.specs.FieldsRead.{header-sound, header-given, number-read, part-length, record-sound, record-is, record-id-field, sound-id}
 
 -- ---- one answer after another
 
@@ -66,66 +62,7 @@ unfolding demand
 demand-true true k u e = refl
 demand-true false k u e = given-refused (sym e)
 
--- ---- the fields, and what is read of them
-
 module _ (s : List ℕ) where
-  -- the header that its fields are is the one that is read
-  pub header-sound : (h : Header) → readHeader s ≡ given h → HeaderSound s × (headerAt (headerFields s) ≡ h)
-  header-sound h e = let r = header-read-given s h .0 e in (record { long = r .0; fields = r .1 }, r .2)
-
-  pub header-given : HeaderSound s → readHeader s ≡ given (headerAt (headerFields s))
-  header-given f = header-read-given s (headerAt (headerFields s)) .1 (f .long, f .fields, refl)
-
-  module _ (i : ℕ) where
-    -- the sixteen bytes of record i as they are read
-    pub number-read : numberIn (recordPart s i) ≡ numberOf s i
-    number-read =
-        let k : 12 + 16 * i + 16 - (12 + 16 * i) ≡ 16 = omega arith in
-        ap (λ (n : ℕ). numberIn (take n (drop (12 + 16 * i) s))) k ∙ ap (pack (bytes 16)) (take-take 16 16 (drop (12 + 16 * i) s) (omega arith))
-
-    part-length : 12 + 16 * i + 16 ≤ length s → 16 ≤ length (recordPart s i)
-    part-length l =
-        let k : 12 + 16 * i + 16 - (12 + 16 * i) ≡ 16 = omega arith in
-        omega (arith, ap (λ (n : ℕ). length (take n (drop (12 + 16 * i) s))) k ∙ length-take-le 16 (drop (12 + 16 * i) s) (omega (arith, length-drop (12 + 16 * i) s)))
-
-    -- a record that is read is within its values, and is the one that its fields are
-    pub record-sound : (r : Record) → recordOf s i ≡ given r → RecordSound s i × (recordAt (numberOf s i) ≡ r)
-    record-sound r e =
-        let q = record-read-given i (recordPart s i) r .0 e in
-        (subst (λ (n : ℕ). Allowed (linesAt n) (fieldsAt n)) number-read (q .1), ap recordAt (sym number-read) ∙ q .2)
-
-    pub record-is : 12 + 16 * i + 16 ≤ length s → RecordSound s i → recordOf s i ≡ given (recordAt (numberOf s i))
-    record-is l a =
-        record-read-given i (recordPart s i) (recordAt (numberOf s i)) .1
-        (part-length l, subst (λ (n : ℕ). Allowed (linesAt n) (fieldsAt n)) (sym number-read) a, ap recordAt number-read)
-
-    pub record-id-field : recordAt (numberOf s i) .id ≡ idOf s i
-    record-id-field = go (ltb (kindOf s i) 5)
-      where
-        vs : List ℕ
-        vs = unpack plateWidths (numberOf s i)
-
-        ws : List ℕ
-        ws = unpack memberWidths (numberOf s i)
-
-        go : (t : Bool) → cond t (plateRecord vs) (memberRecord ws) .id ≡ getD (cond t vs ws) 1 0
-        go true = refl
-        go false = refl
-
-    -- its id is at least 1
-    pub sound-id : RecordSound s i → 1 ≤ idOf s i
-    sound-id a = go (ltb (kindOf s i) 5) a
-      where
-        vs : List ℕ
-        vs = unpack plateWidths (numberOf s i)
-
-        ws : List ℕ
-        ws = unpack memberWidths (numberOf s i)
-
-        go : (t : Bool) → Allowed (cond t (plateLinesOf vs) (memberLinesOf ws)) (cond t vs ws) → 1 ≤ getD (cond t vs ws) 1 0
-        go true b = low-high (from 1 1000) (getD vs 1 0) (b .1 .0) .0
-        go false b = low-high (from 1 1000) (getD ws 1 0) (b .1 .0) .0
-
   -- ---- the ids in their order
 
   -- the id before that of record i, 0 where there is none
@@ -137,7 +74,7 @@ module _ (s : List ℕ) where
   before-next i = ap idBefore (add-one i)
 
   above : (i j : ℕ) → InOrder s i → j < i → idBefore j < idOf s j
-  above i zero o l = sound-id zero (o .sound zero l)
+  above i zero o l = sound-id s zero (o .sound zero l)
   above i (suc j) o l = o .rising j l
 
   one-more : (i : ℕ) → InOrder s i → RecordSound s i → idBefore i < idOf s i → InOrder s (i + 1)
@@ -166,7 +103,7 @@ module _ (s : List ℕ) where
     -- the header is read, the sheet has its length and the output is long enough
     fits-read : (h : Header) → HeaderFits s room h → Fits s room × (headerAt (headerFields s) ≡ h)
     fits-read h f =
-        let r = header-sound h (f .read) in
+        let r = header-sound s h (f .read) in
         let c : countOf s ≡ h .count = ap (λ (g : Header). g .count) (r .1) in
         (record { header = r .0; whole = omega (arith, f .whole); enough = omega (arith, f .fits) }, r .1)
 
@@ -193,7 +130,7 @@ module _ (s : List ℕ) where
     length-row : (k p : ℕ) (h : Header) → readHeader s ≡ given h → demand (eqb (length s) (12 + 16 * h .count)) 4 ≡ refused k p → Row s room k p
     length-row k p h read e =
         let d = demanded (eqb (length s) (12 + 16 * h .count)) 4 k p e in
-        let r = header-sound h read in
+        let r = header-sound s h read in
         let c : countOf s ≡ h .count = ap (λ (g : Header). g .count) (r .1) in
         subst (λ (n : ℕ). Row s room n p) (d .1)
         (subst (λ (n : ℕ). Row s room 4 n) (sym (d .2)) (sheet-length (r .0) (λ w. eqb-false (length s) (12 + 16 * h .count) (d .0) (w ∙ ap (λ (n : ℕ). 12 + 16 * n) c))))
@@ -201,7 +138,7 @@ module _ (s : List ℕ) where
     room-row : (k p : ℕ) (h : Header) → readHeader s ≡ given h → length s ≡ 12 + 16 * h .count → demand (leb (4 * h .count) room) 5 ≡ refused k p → Row s room k p
     room-row k p h read whole e =
         let d = demanded (leb (4 * h .count) room) 5 k p e in
-        let r = header-sound h read in
+        let r = header-sound s h read in
         let c : countOf s ≡ h .count = ap (λ (g : Header). g .count) (r .1) in
         subst (λ (n : ℕ). Row s room n p) (d .1)
         (subst (λ (n : ℕ). Row s room 5 n) (sym (d .2)) (output-short (r .0) (omega arith) (omega (arith, leb-false (4 * h .count) room (d .0)))))
@@ -220,12 +157,12 @@ module _ (s : List ℕ) where
         later-row r f = back 7 (32 * i + (r .index + 2)) f (r .at ∙ omega arith) (field i (r .index) t (r .fault))
 
         go : Dec (k ≡ 1) → Dec (k ≡ 6) → Dec (k ≡ 7) → Row s room k p
-        go (yes f) x y = absurd (omega (arith, record-read-1 i (recordPart s i) p .0 (at 1 f) .0, part-length i (within-sheet i (t .fits) (t .inside))))
+        go (yes f) x y = absurd (omega (arith, record-read-1 i (recordPart s i) p .0 (at 1 f) .0, part-length s i (within-sheet i (t .fits) (t .inside))))
         go (no a) (yes f) y =
             let r = record-read-6 i (recordPart s i) p .0 (at 6 f) in
-            back 6 i f (r .2) (kind i t (subst (λ (n : ℕ). within (from 1 8) (kindAt n) ≡ false) (number-read i) (r .1)))
+            back 6 i f (r .2) (kind i t (subst (λ (n : ℕ). within (from 1 8) (kindAt n) ≡ false) (number-read s i) (r .1)))
         go (no a) (no c) (yes f) =
-            later-row (subst (λ (n : ℕ). LaterFault (λ f. 32 * i + f) (linesAt n) (fieldsAt n) p) (number-read i) (record-read-7 i (recordPart s i) p .0 (at 7 f) .1)) f
+            later-row (subst (λ (n : ℕ). LaterFault (λ f. 32 * i + f) (linesAt n) (fieldsAt n) p) (number-read s i) (record-read-7 i (recordPart s i) p .0 (at 7 f) .1)) f
         go (no a) (no c) (no d) = absurd (record-read-others i (recordPart s i) k p a c d e)
 
     -- row 8
@@ -233,12 +170,12 @@ module _ (s : List ℕ) where
     order-row k p i r t read e = go (ltb (idBefore i) (r .id)) refl e
       where
         id : idOf s i ≡ r .id
-        id = sym (record-id-field i) ∙ ap (λ (q : Record). q .id) (record-sound i r read .1)
+        id = sym (record-id-field s i) ∙ ap (λ (q : Record). q .id) (record-sound s i r read .1)
 
         at : (j : ℕ) → i ≡ j → r .id ≤ idBefore j → Row s room 8 j
-        at zero f l = absurd (omega (arith, sound-id i (record-sound i r read .0), id))
+        at zero f l = absurd (omega (arith, sound-id s i (record-sound s i r read .0), id))
         at (suc j) f l =
-            order j (subst (λ (n : ℕ). Reached s room n) f t) (subst (λ (n : ℕ). RecordSound s n) f (record-sound i r read .0))
+            order j (subst (λ (n : ℕ). Reached s room n) f t) (subst (λ (n : ℕ). RecordSound s n) f (record-sound s i r read .0))
             (omega (arith, ap (λ (n : ℕ). idOf s n) f, id))
 
         go : (b : Bool) → ltb (idBefore i) (r .id) ≡ b → cond b (given r) (refused 8 i) ≡ refused k p → Row s room k p
@@ -271,11 +208,11 @@ module _ (s : List ℕ) where
             a = sound-read i (idBefore i) (recordPart s i) r g
 
             id : r .id ≡ idOf s i
-            id = ap (λ (q : Record). q .id) (sym (record-sound i r (a .0) .1)) ∙ record-id-field i
+            id = ap (λ (q : Record). q .id) (sym (record-sound s i r (a .0) .1)) ∙ record-id-field s i
 
             there : By (rest r) (λ rs. given (r ∷ rs)) k p → Row s room k p
             there (first w) =
-                on (record-sound i r (a .0) .0) (omega (arith, a .1, id))
+                on (record-sound s i r (a .0) .0) (omega (arith, a .1, id))
                 (ap (λ (n : ℕ). recordsIn (i + 1) n (partsFrom s (i + 1) count)) (before-next i ∙ sym id) ∙ w)
             there (later rs w x) = given-refused x
 
@@ -338,7 +275,7 @@ module _ (s : List ℕ) where
 
     front-given : Fits s room → headerFor s room ≡ given (headerAt (headerFields s))
     unfolding headerFor demand _then_
-    front-given f = rw (header-given (f .header), eq-eqb (length s) (12 + 16 * countOf s) (f .whole), le-leb (4 * countOf s) room (f .enough))
+    front-given f = rw (header-given s (f .header), eq-eqb (length s) (12 + 16 * countOf s) (f .whole), le-leb (4 * countOf s) room (f .enough))
 
     -- the records before record i are taken
     taken-to : (P : Answer (List Record) → Type 0) → ((r : Record) (x : Answer (List Record)) → P x → P (x then λ rs. given (r ∷ rs)))
@@ -348,10 +285,10 @@ module _ (s : List ℕ) where
     taken-to P on (suc i) f l o count e =
         let r = recordAt (numberOf s i) in
         let m : i + suc count ≡ suc i + count = omega arith in
-        let read : recordOf s i ≡ given r = record-is i (within-sheet i f (omega arith)) (o .sound i (omega arith)) in
-        let up : idBefore i < r .id = omega (arith, above (suc i) i o (omega arith), record-id-field i) in
+        let read : recordOf s i ≡ given r = record-is s i (within-sheet i f (omega arith)) (o .sound i (omega arith)) in
+        let up : idBefore i < r .id = omega (arith, above (suc i) i o (omega arith), record-id-field s i) in
         let next : soundAfter i (idBefore i) (recordPart s i) ≡ given r = goes-on (readRecord i (recordPart s i)) _ r read ∙ rw (lt-ltb (idBefore i) (r .id) up) in
-        let here : P (recordsIn (i + 1) (r .id) (partsFrom s (i + 1) count)) = subst (λ (n : ℕ). P (recordsIn n (r .id) (partsFrom s n count))) (sym (add-one i)) (subst (λ (n : ℕ). P (recordsIn (suc i) n (partsFrom s (suc i) count))) (sym (record-id-field i)) e) in
+        let here : P (recordsIn (i + 1) (r .id) (partsFrom s (i + 1) count)) = subst (λ (n : ℕ). P (recordsIn n (r .id) (partsFrom s n count))) (sym (add-one i)) (subst (λ (n : ℕ). P (recordsIn (suc i) n (partsFrom s (suc i) count))) (sym (record-id-field s i)) e) in
         subst (λ (n : ℕ). P (recordsIn 0 0 (partsFrom s 0 n))) m
         (taken-to P on i f (omega arith) (fewer (suc i) i (omega arith) o) (suc count) (subst P (sym (goes-on (soundAfter i (idBefore i) (recordPart s i)) _ r next)) (on r _ here)))
 
@@ -369,11 +306,11 @@ module _ (s : List ℕ) where
 
     length-refused : HeaderSound s → (length s ≡ 12 + 16 * countOf s → ⊥) → headerFor s room ≡ refused 4 0
     unfolding headerFor demand _then_
-    length-refused f n = rw (header-given f, ne-eqb (length s) (12 + 16 * countOf s) n)
+    length-refused f n = rw (header-given s f, ne-eqb (length s) (12 + 16 * countOf s) n)
 
     room-refused : HeaderSound s → length s ≡ 12 + 16 * countOf s → room < 4 * countOf s → headerFor s room ≡ refused 5 0
     unfolding headerFor demand _then_
-    room-refused f whole n = rw (header-given f, eq-eqb (length s) (12 + 16 * countOf s) whole, lt-leb (4 * countOf s) room n)
+    room-refused f whole n = rw (header-given s f, eq-eqb (length s) (12 + 16 * countOf s) whole, lt-leb (4 * countOf s) room n)
 
     row-refused : (k p : ℕ) → Row s room k p → answerOf s room ≡ refused k p
     unfolding soundAfter
@@ -386,19 +323,19 @@ module _ (s : List ℕ) where
         record-refused 6 i i t
         (stays (readRecord i (recordPart s i)) _ 6 i
         (record-read-6 i (recordPart s i) i .1
-        (part-length i (within-sheet i (t .fits) (t .inside)), subst (λ (n : ℕ). within (from 1 8) (kindAt n) ≡ false) (sym (number-read i)) c, refl)))
+        (part-length s i (within-sheet i (t .fits) (t .inside)), subst (λ (n : ℕ). within (from 1 8) (kindAt n) ≡ false) (sym (number-read s i)) c, refl)))
     row-refused k p (field i f t c) =
         let q = 32 * i + (f + 2) in
         let l : LaterFault (λ g. 32 * i + g) (linesOf s i) (fieldsOf s i) q = record { index = f; fault = c; at = omega arith } in
         record-refused 7 q i t
         (stays (readRecord i (recordPart s i)) _ 7 q
         (record-read-7 i (recordPart s i) q .1
-        (part-length i (within-sheet i (t .fits) (t .inside)), subst (λ (n : ℕ). LaterFault (λ g. 32 * i + g) (linesAt n) (fieldsAt n) q) (sym (number-read i)) l)))
+        (part-length s i (within-sheet i (t .fits) (t .inside)), subst (λ (n : ℕ). LaterFault (λ g. 32 * i + g) (linesAt n) (fieldsAt n) q) (sym (number-read s i)) l)))
     row-refused k p (order i t a l) =
         let r = recordAt (numberOf s (suc i)) in
         record-refused 8 (suc i) (suc i) t
-        (goes-on (readRecord (suc i) (recordPart s (suc i))) _ r (record-is (suc i) (within-sheet (suc i) (t .fits) (t .inside)) a)
-        ∙ rw (le-ltb (idOf s i) (r .id) (omega (arith, record-id-field (suc i)))))
+        (goes-on (readRecord (suc i) (recordPart s (suc i))) _ r (record-is s (suc i) (within-sheet (suc i) (t .fits) (t .inside)) a)
+        ∙ rw (le-ltb (idOf s i) (r .id) (omega (arith, record-id-field s (suc i)))))
 
     -- refusal k with place p is given exactly when row k holds with place p and no earlier row does
     pub refused-exactly : (k p : ℕ) → Exactly (answerOf s room ≡ refused k p) (Row s room k p)
@@ -429,8 +366,8 @@ module _ (s : List ℕ) where
   taken-order : (i : ℕ) (rs : List Record) → InOrder s i → Taken s i (idBefore i) rs → InOrder s (i + length rs)
   taken-order i [] o none = subst (λ (n : ℕ). InOrder s n) (omega arith) o
   taken-order i (r ∷ rs) o (next e l t) =
-      let a = record-sound i r e in
-      let id : r .id ≡ idOf s i = ap (λ (q : Record). q .id) (sym (a .1)) ∙ record-id-field i in
+      let a = record-sound s i r e in
+      let id : r .id ≡ idOf s i = ap (λ (q : Record). q .id) (sym (a .1)) ∙ record-id-field s i in
       let m : i + 1 + length rs ≡ i + length (r ∷ rs) = omega arith in
       subst (λ (n : ℕ). InOrder s n) m
       (taken-order (i + 1) rs (one-more i o (a .0) (omega (arith, id))) (subst (λ (n : ℕ). Taken s (i + 1) n rs) (id ∙ sym (before-next i)) t))
