@@ -1,10 +1,10 @@
 -- Two answers, and two outputs, that meet a promise of this crate are equal.
 -- Assumes nothing.
 use Prim.Native.Nat.{ℕ}
-use mathlib.Core.Path.{_≡_, refl, sym, ap, ap₂, _∙_}
+use mathlib.Core.Path.{_≡_, sym, ap, ap₂, _∙_}
 use mathlib.Core.List.{List}
 use Rattle.sheet.specs.declared.Outcome.{Outcome}
-use Rattle.sheet.specs.Refusals.{Answer, given, refused, toldOutcome}
+use Rattle.sheet.specs.Refusals.{Answer, toldOutcome}
 use Rattle.sheet.specs.RefusalLaws.{refusal-only, outcome-only, given-refused, refused-number, refused-place, given-same}
 use Rattle.sheet.specs.Writes.{Writes}
 use Rattle.checker.specs.declared.Entry.{Entry}
@@ -13,7 +13,7 @@ use Rattle.checker.specs.declared.EntryRead.the-variants.{Good as goodEn
 use Rattle.checker.specs.declared.Checked.{Checked}
 use Rattle.checker.specs.declared.Checked.the-variants.{Done, Refused as notDone}
 use Rattle.checker.specs.Entry.{toldEntry, readEntry, writeEntry}
-use Rattle.checker.specs.Check.{Totals, toldChecked, answerOf, Checks}
+use Rattle.checker.specs.Check.{Totals, toldChecked, Checks}
 
 -- two answers of the code that say the same are equal
 entry-only : (a : Answer Entry) (q r : EntryRead) → toldEntry q ≡ a → toldEntry r ≡ a → q ≡ r

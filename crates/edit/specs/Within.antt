@@ -1,7 +1,7 @@
 -- The sheet that an edit leaves is in the buffer.
 -- Assumes nothing.
-use Prim.Native.Nat.{ℕ, _+_, _≤_}
-use mathlib.Core.Path.{_≡_, refl, sym, ap, _∙_}
+use Prim.Native.Nat.{ℕ, _≤_}
+use mathlib.Core.Path.{_≡_, refl, ap, _∙_}
 use mathlib.Core.List.{List}
 use native.Mathlib.Omega.{arith}
 use lib.ListN.{length}
@@ -11,7 +11,7 @@ use Rattle.sheet.specs.declared.Record.{Record}
 use Rattle.sheet.specs.Refusals.{Answer, given, refused}
 use Rattle.sheet.specs.RefusalLaws.{given-same, given-refused}
 use Rattle.numbers.specs.From.{recordFrom}
-use Rattle.checker.specs.Check.{_then_, demand, Sheet}
+use Rattle.checker.specs.Check.{demand, Sheet}
 use Rattle.checker.specs.CheckLaws.{then-given, demand-given}
 use Rattle.edit.specs.declared.Edited.the-variants.{Length}
 use Rattle.edit.specs.Edit.{sheetAt, headerOf, After, putIn, putNumbersIn, removeIn, sizeBy, Edits}

@@ -2,7 +2,6 @@
 use Prim.Native.Nat.{ℕ, _+_, _*_, _≤_}
 use mathlib.Core.Bool.{cond}
 use mathlib.Core.List.{List, [], _∷_, _++_}
-use lib.ListN.{length}
 use lib.Dec.{eqb}
 use Rattle.layout.specs.Bytes.{readOf}
 use Rattle.sheet.specs.Refusals.{Answer}

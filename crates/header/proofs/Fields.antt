@@ -1,8 +1,8 @@
 -- The header's fields, word by word.
 -- Assumes nothing.
 use Prim.Native.Nat.{ℕ, _+_, _*_, _/_, _%_, _^_, _<_}
-use mathlib.Core.Path.{_≡_, refl, ap, _∙_}
-use mathlib.Core.List.{List, [], _∷_}
+use mathlib.Core.Path.{_≡_, refl, _∙_}
+use mathlib.Core.List.{[], _∷_}
 use native.Mathlib.Nat.{div-one, div-div-eq-div-mul}
 use Rattle.layout.specs.Layout.{unpack}
 use Rattle.layout.specs.Laws.{unpack-words}

@@ -1,5 +1,5 @@
 -- The laws of layouts, over any layout. Assumes nothing.
-use Prim.Native.Nat.{ℕ, zero, suc, _+_, _-_, _*_, _/_, _%_, _^_, _<_, _≤_}
+use Prim.Native.Nat.{ℕ, zero, suc, _+_, _*_, _/_, _%_, _^_, _<_, _≤_}
 use mathlib.Core.Path.{_≡_, refl, sym, ap, ap₂, _∙_}
 use mathlib.Core.List.{List, [], _∷_, _++_}
 use native.Mathlib.Nat.{mod-lt, mod-eq-of-lt, mul-assoc, add-assoc, zero-mul, zero-add, mod-one, mul-add-div-right, mul-add-mod-self-right, not-suc-le-zero, le-of-suc-le-suc, add-mul, add-comm, div-lt-iff-lt-mul}

@@ -3,7 +3,6 @@ use crate::say;
 ghost use mathlib.Core.List.{_++_};
 ghost use Prim.Native.Nat.{_+_, _≤_};
 ghost use lib.ListN.{length};
-ghost use Rattle.io.specs.Counts.{Counts};
 ghost use Rattle.decimal.specs.Laid.{Laid};
 ghost use Rattle.office.specs.Office.{besideTail, Loaded};
 

@@ -1,6 +1,5 @@
 // The eight quantities of the sheet. Each is a type of its own, so that none can be handed over for another; each has its lowest and
 // highest value, and a maker that refuses what lies outside them.
-ghost use mathlib.Core.Path.{_≡_};
 ghost use Rattle.quantity.specs.Range.{span, spacing, thickness, modulus, shearArea, pressure, lineLoad, steelFactor};
 ghost use Rattle.quantity.specs.Made.{Makes, toldSpan, toldSpacing, toldThickness, toldModulus, toldShearArea, toldPressure, toldLineLoad, toldSteelFactor};
 

@@ -1,6 +1,6 @@
 -- The sheet, bit by bit: every field's width and values, in the document's order. A range that is a quantity's own comes from its type.
 use Prim.Native.Nat.{ℕ}
-use mathlib.Core.Bool.{Bool, true, false, cond}
+use mathlib.Core.Bool.{Bool, false, cond}
 use mathlib.Core.List.{List, [], _∷_}
 use Rattle.quantity.specs.Range.{Range, from, span, spacing, thickness, modulus, shearArea, steelFactor}
 use Rattle.layout.specs.Line.{Line, line, zeros, widths}

@@ -4,7 +4,7 @@ use Prim.Native.Nat.{ℕ, _≤_}
 use mathlib.Core.Path.{_≡_, sym, ap, _∙_}
 use mathlib.Core.List.{List, _++_, append-nil}
 use native.Mathlib.Omega.{arith}
-use lib.ListN.{length, take, drop, length-append, drop-of-length-le}
+use lib.ListN.{length, drop, length-append, drop-of-length-le}
 use lib.Seq.{take-append-le}
 use borrow.Author.Tests.{le-ltb, eq-eqb}
 use Rattle.layout.specs.Layout.{pack, bytes}

@@ -1,13 +1,9 @@
 -- `checker::header_for` meets its contract.
 -- Assumes nothing.
 use borrow.Author.Needs.{needs}
-use native.Mathlib.Omega.{arith}
-use mathlib.Core.Path.{_≡_, sym, ap, _∙_}
-use Prim.Native.Nat.{_+_, _*_}
-use lib.ListN.{length}
+use mathlib.Core.Path.{sym, ap, _∙_}
 use denote.Ref.{now}
 use Rattle.sheet.specs.Refusals.{given, toldHeader}
-use Rattle.sheet.specs.Header.{readHeader}
 use Rattle.checker.proofs.Faults.{header-refused, header-length, header-room, header-good}
 use Rattle.checker.proofs.header_for.Statement.{statement}
 use Rattle.checker.proofs.header_for.Tie as tie

@@ -1,8 +1,8 @@
 -- `gauge::found_in` meets its contract. The loop's invariant: the answer lies from lo to hi, hi meets the demand, and nothing below lo does.
 -- Assumes nothing.
-use Prim.Native.Nat.{ℕ, _-_, _+_, _≤_, _<_}
+use Prim.Native.Nat.{ℕ, _-_, _≤_, _<_}
 use borrow.Author.Needs.{needs}
-use mathlib.Core.Path.{_≡_, refl, sym, _∙_}
+use mathlib.Core.Path.{_≡_, sym, _∙_}
 use mathlib.Core.Bool.{true, false}
 use native.Mathlib.Omega.{arith}
 use borrow.Author.Tests.{not-true, not-false}
@@ -13,9 +13,6 @@ use Rattle.gauge.specs.LeastLaws.{least-only, none-below}
 use Rattle.gauge.specs.ShapeLaws.{monotone}
 use Rattle.gauge.proofs.found_in.Statement.{statement}
 use Rattle.gauge.proofs.found_in.Tie as tie
-use Rattle.gauge.proofs.found_in.Reads as reads
-use Rattle.gauge.proofs.found_in.Lts as lts
-use Rattle.gauge.proofs.meets.Reads as meets-reads
 
 record Bracket (d : Shape) (top lo hi : ℕ) : Type 0 where
   pub from : 1 ≤ lo
