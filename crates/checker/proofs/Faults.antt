@@ -10,7 +10,7 @@ use Rattle.sheet.specs.declared.Record.{Record}
 use Rattle.sheet.specs.Refusals.{given, refused}
 use Rattle.sheet.specs.Header.{readHeader}
 use Rattle.sheet.specs.Record.{readRecord}
-use Rattle.checker.specs.Check.{_then_, demand, headerFor, soundAfter}
+use Rattle.checker.specs.Check.{_then_, demand, sheetSize, headerFor, soundAfter}
 
 -- ---- refusals 1 to 5
 
@@ -19,18 +19,18 @@ unfolding headerFor _then_
 header-refused s room k p e = rw (sym e)
 
 module _ (s : List ℕ) (room : ℕ) (h : Header) (read : given h ≡ readHeader s) where
-  pub header-length : (length s ≡ 12 + 16 * h .count → ⊥) → refused 4 0 ≡ headerFor s room
+  pub header-length : (length s ≡ sheetSize h → ⊥) → refused 4 0 ≡ headerFor s room
   unfolding headerFor _then_ demand
-  header-length n = rw (sym read, ne-eqb (length s) (12 + 16 * h .count) n)
+  header-length n = rw (sym read, ne-eqb (length s) (sheetSize h) n)
 
-  module _ (whole : length s ≡ 12 + 16 * h .count) where
+  module _ (whole : length s ≡ sheetSize h) where
     pub header-room : room < 4 * h .count → refused 5 0 ≡ headerFor s room
     unfolding headerFor _then_ demand
-    header-room l = rw (sym read, eq-eqb (length s) (12 + 16 * h .count) whole, lt-leb (4 * h .count) room l)
+    header-room l = rw (sym read, eq-eqb (length s) (sheetSize h) whole, lt-leb (4 * h .count) room l)
 
     pub header-good : 4 * h .count ≤ room → given h ≡ headerFor s room
     unfolding headerFor _then_ demand
-    header-good l = rw (sym read, eq-eqb (length s) (12 + 16 * h .count) whole, le-leb (4 * h .count) room l)
+    header-good l = rw (sym read, eq-eqb (length s) (sheetSize h) whole, le-leb (4 * h .count) room l)
 
 -- ---- refusals 6 to 8 of one record
 

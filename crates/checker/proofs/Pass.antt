@@ -57,7 +57,7 @@ module _ (h : Header) (i before : ℕ) (b : List ℕ) where
     pub order-refused : w .values .id ≤ before → Refuses (soundAfter i before b)
     order-refused l r e = let a = read-as r e in omega (arith, ap (λ (x : Raw). x .values .id) (a .0), a .2)
 
-    module _ (z : headerFault h 0 ≡ 0) where
+    module _ (z : headerFault h ≡ 0) where
       pub judging-refused : (k p : ℕ) → refused k p ≡ judgedBy h (w .values) (finding h (w .values)) → Refuses (soundAfter i before b)
       judging-refused k p g r e =
           let a = read-as r e in

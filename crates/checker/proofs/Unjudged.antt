@@ -8,7 +8,7 @@ use Rattle.sheet.specs.declared.Header.{Header}
 use Rattle.sheet.specs.declared.Record.{Record}
 use Rattle.sheet.specs.Refusals.{Answer, given, refused}
 use Rattle.sheet.specs.RefusalLaws.{given-refused, refused-number, refused-place}
-use Rattle.checker.specs.Check.{_then_, headerFor, recordPart, partsFrom, soundAfter, recordsIn, Sheet, sheetIn}
+use Rattle.checker.specs.Check.{_then_, headerFor, recordsPart, recordPart, partsFrom, soundAfter, recordsIn, Sheet, sheetIn}
 use Rattle.checker.specs.Unjudged.{room, soundSheet, soundHeader, recordsSound}
 use Rattle.checker.proofs.Pass.{rest, rest-step, rest-none}
 
@@ -50,18 +50,18 @@ module _ (s : List ℕ) where
   header-refused k p e = rw (sym e)
 
   module _ (h : Header) (read : given h ≡ headerFor s room) where
-    pub records-refused : (k p : ℕ) → refused k p ≡ recordsSound s (h .count) → refused k p ≡ soundHeader s
+    pub records-refused : (k p : ℕ) → refused k p ≡ recordsSound (recordsPart h s) (h .count) → refused k p ≡ soundHeader s
     unfolding soundHeader soundSheet sheetIn recordsSound _then_
-    records-refused k p e = rw (sym read) (go (recordsIn 0 0 (partsFrom s 0 (h .count))) e)
+    records-refused k p e = rw (sym read) (go (recordsIn 0 0 (partsFrom (recordsPart h s) 0 (h .count))) e)
       where
         go : (x : Answer (List Record)) → refused k p ≡ (x then λ rs. given (tt {0}))
             → refused k p ≡ ((x then λ rs. given (record { header = h; records = rs })) then λ (t : Sheet). given (t .header))
         go (given rs) g = given-refused (sym g)
         go (refused l q) g = ap₂ refused (refused-number g) (refused-place g)
 
-    pub all-sound : given tt ≡ recordsSound s (h .count) → given h ≡ soundHeader s
+    pub all-sound : given tt ≡ recordsSound (recordsPart h s) (h .count) → given h ≡ soundHeader s
     unfolding soundHeader soundSheet sheetIn recordsSound _then_
-    all-sound e = rw (sym read) (go (recordsIn 0 0 (partsFrom s 0 (h .count))) e)
+    all-sound e = rw (sym read) (go (recordsIn 0 0 (partsFrom (recordsPart h s) 0 (h .count))) e)
       where
         go : (x : Answer (List Record)) → given (tt {0}) ≡ (x then λ rs. given tt)
             → given h ≡ ((x then λ rs. given (record { header = h; records = rs })) then λ (t : Sheet). given (t .header))

@@ -4,17 +4,18 @@ use Prim.Native.Nat.{ℕ, _*_, _≤_}
 use native.Mathlib.Omega.{arith}
 use mathlib.Core.Path.{_≡_, sym, ap, ap₂, _∙_}
 use mathlib.Core.List.{List, _++_, map}
-use lib.ListN.{length, take, drop, length-map}
+use lib.ListN.{length, take, drop, length-map, length-drop}
 use lib.Seq.{take-at, take-all}
 use Rattle.sheet.specs.declared.Header.{Header}
 use Rattle.sheet.specs.declared.Record.{Record}
 use Rattle.sheet.specs.declared.Refusal.{Refusal}
 use Rattle.sheet.specs.Refusals.{Answer, given, refused, told}
 use Rattle.sheet.specs.RefusalLaws.{given-refused, refused-number, refused-place, given-same}
+use Rattle.sheet.specs.Header.{headerSize}
 use Rattle.sheet.specs.HeaderLaws.{header-ranges}
 use Rattle.sheet.specs.HeaderBack.{header-read-fine}
 use Rattle.checker.specs.declared.Checked.the-variants.{Done, Refused as notDone}
-use Rattle.checker.specs.Check.{_then_, headerFor, partsFrom, recordsIn, Sheet, sheetIn, entryOf, verdicts, bytesOf, answerOf, Checks}
+use Rattle.checker.specs.Check.{_then_, headerFor, recordsPart, partsFrom, recordsIn, Sheet, sheetIn, entryOf, verdicts, bytesOf, answerOf, Checks}
 use Rattle.checker.specs.CheckLaws.{header-fits, then-given, taken, bytes-length, answer-done, output-done, refused-as-lent}
 use Rattle.checker.specs.Passes.{Ready, Pass, passOf, passOver}
 
@@ -28,24 +29,24 @@ module _ (s : List ℕ) (room : ℕ) where
   module _ (h : Header) (read : given h ≡ headerFor s room) where
     -- there are 400 verdicts at most
     pub few : 4 * h .count ≤ 1600
-    few = omega (arith, header-ranges h 0 (header-read-fine s h (header-fits s room h (sym read) .read)) .count-high)
+    few = omega (arith, header-ranges h (header-read-fine s h (header-fits s room h (sym read) .read)) .count-few)
 
     -- the pass can start on a draft that has room for them
-    pub ready : (size : ℕ) → 4 * h .count ≤ size → Ready h s size
+    pub ready : (size : ℕ) → 4 * h .count ≤ size → Ready h (recordsPart h s) size
     ready size l =
         let f = header-fits s room h (sym read) in
-        record { header = header-read-fine s h (f .read); whole = f .whole; fits = l }
+        record { header = header-read-fine s h (f .read); whole = omega (arith, length-drop (headerSize h) s, f .whole); fits = l }
 
-    pub at-records : (draft : List ℕ) (k p : ℕ) → refused k p ≡ passOver h s draft → sheetIn s room ≡ refused k p
+    pub at-records : (draft : List ℕ) (k p : ℕ) → refused k p ≡ passOver h (recordsPart h s) draft → sheetIn s room ≡ refused k p
     unfolding sheetIn passOver _then_
-    at-records draft k p e = rw (sym read) (go (recordsIn 0 0 (partsFrom s 0 (h .count))) e)
+    at-records draft k p e = rw (sym read) (go (recordsIn 0 0 (partsFrom (recordsPart h s) 0 (h .count))) e)
       where
         go : (x : Answer (List Record)) → refused k p ≡ (x then λ rs. given (passOf (h .count) (map (entryOf h) rs) draft))
             → _then_ {B = Sheet} x (λ rs. given (record { header = h; records = rs })) ≡ refused k p
         go (given rs) g = given-refused (sym g)
         go (refused l q) g = ap₂ refused (sym (refused-number g)) (sym (refused-place g))
 
-    sheet-given : (rs : List Record) → recordsIn 0 0 (partsFrom s 0 (h .count)) ≡ given rs → sheetIn s room ≡ given (record { header = h; records = rs })
+    sheet-given : (rs : List Record) → recordsIn 0 0 (partsFrom (recordsPart h s) 0 (h .count)) ≡ given rs → sheetIn s room ≡ given (record { header = h; records = rs })
     unfolding sheetIn _then_
     sheet-given rs e = rw (sym read, e)
 
@@ -62,22 +63,22 @@ module _ (s out : List ℕ) where
 
   -- the draft's verdicts go into the output
   module _ (h : Header) (read : given h ≡ headerFor s (length out)) (draft : List ℕ) (failed : ℕ) (drawn after : List ℕ) (copy : after ≡ take (4 * h .count) drawn ++ drop (4 * h .count) out) where
-    given-checks : (rs : List Record) → recordsIn 0 0 (partsFrom s 0 (h .count)) ≡ given rs → passOf (h .count) (map (entryOf h) rs) draft ≡ record { failed = failed; draft = drawn }
+    given-checks : (rs : List Record) → recordsIn 0 0 (partsFrom (recordsPart h s) 0 (h .count)) ≡ given rs → passOf (h .count) (map (entryOf h) rs) draft ≡ record { failed = failed; draft = drawn }
         → Checks s out (Done (h .count) failed) after
     unfolding verdicts
     given-checks rs found pass =
         let es = map (entryOf h) rs in
         let size = 4 * h .count in
         let whole = sheet-given s (length out) h read rs found in
-        let sized : length (bytesOf es) ≡ size = bytes-length es ∙ ap (λ (k : ℕ). 4 * k) (length-map rs (entryOf h) ∙ taken s (h .count) 0 0 rs found .1) in
+        let sized : length (bytesOf es) ≡ size = bytes-length es ∙ ap (λ (k : ℕ). 4 * k) (length-map rs (entryOf h) ∙ taken (recordsPart h s) (h .count) 0 0 rs found .1) in
         let front : take size drawn ≡ bytesOf es = ap (λ (p : Pass). take size (p .draft)) (sym pass) ∙ take-at (bytesOf es) (drop size draft) size sized in
         record {
           answer = ap (λ (p : Pass). given (record { n = h .count; failed = p .failed })) (sym pass) ∙ sym (answer-done s out _ whole);
           bytes = copy ∙ ap (λ (l : List ℕ). l ++ drop size out) front ∙ sym (output-done s out _ whole);
         }
 
-    pub done-checks : given (record { failed = failed; draft = drawn }) ≡ passOver h s draft → Checks s out (Done (h .count) failed) after
+    pub done-checks : given (record { failed = failed; draft = drawn }) ≡ passOver h (recordsPart h s) draft → Checks s out (Done (h .count) failed) after
     unfolding passOver
     done-checks e =
-        let a = then-given (recordsIn 0 0 (partsFrom s 0 (h .count))) _ _ (sym e) in
+        let a = then-given (recordsIn 0 0 (partsFrom (recordsPart h s) 0 (h .count))) _ _ (sym e) in
         given-checks (a .0) (a .1) (given-same (a .2))

@@ -13,11 +13,13 @@ use Rattle.layout.specs.Line.{Line, faultFrom}
 use Rattle.layout.specs.LineLaws.{fault-first}
 use Rattle.sheet.specs.declared.Header.{Header}
 use Rattle.sheet.specs.declared.Record.{Record}
-use Rattle.sheet.specs.Lines.{headerLines, headerWidths, plateWidths, memberWidths}
+use Rattle.sheet.specs.Versions.{needs}
+use Rattle.sheet.specs.VersionLaws.{regular-at}
+use Rattle.sheet.specs.Lines.{headerLines, plateWidths, memberWidths}
 use Rattle.sheet.specs.Refusals.{Answer, given, refused}
 use Rattle.sheet.specs.RefusalLaws.{Which, which, none, first, later}
-use Rattle.sheet.specs.Header.{headerAt, headerIn, readHeader}
-use Rattle.sheet.specs.HeaderLaws.{header-ranges}
+use Rattle.sheet.specs.Header.{versionField, versionIn, headerFields, headerOf, readHeader}
+use Rattle.sheet.specs.HeaderLaws.{fields-lines, header-ranges}
 use Rattle.sheet.specs.HeaderBack.{header-read-fine}
 use Rattle.sheet.specs.Record.{plateIn, plateLinesOf, memberLinesOf, recordIn, readRecord}
 use Rattle.sheet.specs.RecordLaws.{recordAt}
@@ -25,7 +27,7 @@ use Rattle.sheet.specs.Exactly.{Cases, byFault}
 use Rattle.sheet.specs.HeaderExactly.{headerCases}
 use Rattle.sheet.specs.RecordExactly.{recordCases, linesAt, fieldsAt, record-by-fields}
 use Rattle.checker.specs.declared.Entry.{Entry}
-use Rattle.checker.specs.Check.{_then_, demand, headerFor, recordPart, partsFrom, soundAfter, recordsIn, Sheet, sheetIn, entryOf, verdicts, failures}
+use Rattle.checker.specs.Check.{_then_, demand, sheetSize, headerFor, recordsPart, recordPart, partsFrom, soundAfter, recordsIn, Sheet, sheetIn, entryOf, verdicts, failures}
 use Rattle.checker.specs.CheckLaws.{header-fits, sheet-whole}
 
 -- a number of the table, and a place within a sheet of 400 records
@@ -74,11 +76,14 @@ demand-told true k r = tt
 demand-told false k r = r
 
 pub read-header-told : (s : List ℕ) → Refusable (readHeader s)
-unfolding readHeader headerIn
+unfolding readHeader
 read-header-told s =
-    let vs = unpack headerWidths (pack (bytes 12) (take 12 s)) in
-    by-test (ltb (length s) 12) 1 0 (byFault headerCases (faultFrom 1 headerLines vs) (headerAt vs)) (row 1 0 (omega arith) (omega arith) (omega arith))
-    (fault-told headerCases (faultFrom 1 headerLines vs) (headerAt vs) (row 2 0 (omega arith) (omega arith) (omega arith)) (row 3 (faultFrom 1 headerLines vs) (omega arith) (omega arith) (omega (arith, most headerLines vs refl))))
+    let v = versionIn s in
+    let c = headerCases (needs (versionField s) v) in
+    let f = faultFrom 1 (headerLines v) (headerFields s) in
+    by-test (ltb (length s) (needs (versionField s) v)) 1 0 (byFault c f (headerOf s)) (row 1 0 (omega arith) (omega arith) (omega arith))
+    (fault-told c f (headerOf s) (row 2 0 (omega arith) (omega arith) (omega arith))
+    (row 3 f (omega arith) (omega arith) (omega (arith, most (headerLines v) (headerFields s) (fields-lines s), regular-at (versionField s) .named))))
 
 record-most : (n : ℕ) → faultFrom 1 (linesAt n) (fieldsAt n) ≤ 13
 record-most n = go (plateIn n)
@@ -122,20 +127,20 @@ records-told s (suc count) i before l =
 header-told : (s : List ℕ) (space : ℕ) → Refusable (headerFor s space)
 unfolding headerFor
 header-told s space =
-    then-told (readHeader s) (λ h. demand (eqb (length s) (12 + 16 * h .count)) 4 then λ u. demand (leb (4 * h .count) space) 5 then λ v. given h) (read-header-told s)
-    (λ h e. then-told (demand (eqb (length s) (12 + 16 * h .count)) 4) (λ u. demand (leb (4 * h .count) space) 5 then λ v. given h) (demand-told (eqb (length s) (12 + 16 * h .count)) 4 (row 4 0 (omega arith) (omega arith) (omega arith)))
+    then-told (readHeader s) (λ h. demand (eqb (length s) (sheetSize h)) 4 then λ u. demand (leb (4 * h .count) space) 5 then λ v. given h) (read-header-told s)
+    (λ h e. then-told (demand (eqb (length s) (sheetSize h)) 4) (λ u. demand (leb (4 * h .count) space) 5 then λ v. given h) (demand-told (eqb (length s) (sheetSize h)) 4 (row 4 0 (omega arith) (omega arith) (omega arith)))
     (λ u q. then-told (demand (leb (4 * h .count) space) 5) (λ v. given h) (demand-told (leb (4 * h .count) space) 5 (row 5 0 (omega arith) (omega arith) (omega arith))) (λ v w. tt)))
 
 pub count-most : (s : List ℕ) (h : Header) → readHeader s ≡ given h → h .count ≤ 400
-count-most s h e = header-ranges h 0 (header-read-fine s h e) .count-high
+count-most s h e = header-ranges h (header-read-fine s h e) .count-few
 
 -- the number and the place of a refusal, whatever the sheet
 pub sheet-told : (s : List ℕ) (space : ℕ) → Refusable (sheetIn s space)
 unfolding sheetIn
 sheet-told s space =
-    then-told (headerFor s space) (λ h. recordsIn 0 0 (partsFrom s 0 (h .count)) then λ rs. given (record { header = h; records = rs })) (header-told s space)
-    (λ h e. then-told (recordsIn 0 0 (partsFrom s 0 (h .count))) (λ rs. given (record { header = h; records = rs }))
-    (records-told s (h .count) 0 0 (omega (arith, count-most s h (header-fits s space h e .read)))) (λ rs q. tt))
+    then-told (headerFor s space) (λ h. recordsIn 0 0 (partsFrom (recordsPart h s) 0 (h .count)) then λ rs. given (record { header = h; records = rs })) (header-told s space)
+    (λ h e. then-told (recordsIn 0 0 (partsFrom (recordsPart h s) 0 (h .count))) (λ rs. given (record { header = h; records = rs }))
+    (records-told (recordsPart h s) (h .count) 0 0 (omega (arith, count-most s h (header-fits s space h e .read)))) (λ rs q. tt))
 
 pub failures-most : (es : List Entry) → failures es ≤ length es
 unfolding failures

@@ -8,7 +8,7 @@ use lib.Dec.{leb, ltb, eqb}
 use Rattle.sheet.specs.declared.Header.{Header}
 use Rattle.sheet.specs.declared.Record.{Record}
 use Rattle.sheet.specs.Refusals.{Answer, given, refused, told}
-use Rattle.sheet.specs.Header.{readHeader}
+use Rattle.sheet.specs.Header.{headerSize, readHeader}
 use Rattle.sheet.specs.Record.{readRecord}
 use Rattle.verdict.specs.Judged.{Finding}
 use Rattle.hull.specs.Hull.{finding}
@@ -29,11 +29,15 @@ demand t k = cond t (given tt) (refused k 0)
 
 -- ---- when the sheet is turned away
 
--- 1, 2 and 3: reading the header; 4: sheet length not 12 + 16n; 5: output under 4n bytes
+-- how many bytes a sheet has: those of its header, and sixteen for each record
+abbrev pub sheetSize : Header → ℕ
+sheetSize h = headerSize h + 16 * h .count
+
+-- 1, 2 and 3: reading the header; 4: sheet length not its header's bytes + 16n; 5: output under 4n bytes
 unfoldable pub headerFor : List ℕ → (room : ℕ) → Answer Header
 headerFor s room =
     readHeader s
-    then λ h. demand (eqb (length s) (12 + 16 * h .count)) 4
+    then λ h. demand (eqb (length s) (sheetSize h)) 4
     then λ u. demand (leb (4 * h .count) room) 5
     then λ v. given h
 
@@ -41,18 +45,22 @@ headerFor s room =
 abbrev pub part : List ℕ → ℕ → ℕ → List ℕ
 part s a e = take (e - a) (drop a s)
 
--- the sixteen bytes of record i
+-- the bytes of all records: those after the header's
+abbrev pub recordsPart : Header → List ℕ → List ℕ
+recordsPart h s = drop (headerSize h) s
+
+-- among them the sixteen bytes of record i
 abbrev pub recordPart : List ℕ → ℕ → List ℕ
-recordPart s i = part s (12 + 16 * i) (12 + 16 * i + 16)
+recordPart b i = part b (16 * i) (16 * i + 16)
 
 -- record i, as it is read
 abbrev pub recordOf : List ℕ → ℕ → Answer Record
-recordOf s i = readRecord i (recordPart s i)
+recordOf b i = readRecord i (recordPart b i)
 
 -- the bytes of the records i, i + 1, .., so many of them
 unfoldable pub partsFrom : List ℕ → (i count : ℕ) → List (List ℕ)
-partsFrom s i zero = []
-partsFrom s i (suc count) = recordPart s i ∷ partsFrom s (i + 1) count
+partsFrom b i zero = []
+partsFrom b i (suc count) = recordPart b i ∷ partsFrom b (i + 1) count
 
 -- record i: 6 and 7, reading it; then 8: id not above the one before
 unfoldable pub soundAfter : (i before : ℕ) → List ℕ → Answer Record
@@ -72,7 +80,7 @@ pub record Sheet : Type 0 where
 unfoldable pub sheetIn : List ℕ → (room : ℕ) → Answer Sheet
 sheetIn s room =
     headerFor s room
-    then λ h. recordsIn 0 0 (partsFrom s 0 (h .count))
+    then λ h. recordsIn 0 0 (partsFrom (recordsPart h s) 0 (h .count))
     then λ rs. given (record { header = h; records = rs })
 
 -- ---- what is answered and written

@@ -19,7 +19,7 @@ use Rattle.sheet.specs.Record.{readRecord}
 use Rattle.checker.specs.declared.Entry.{Entry}
 use Rattle.checker.specs.Entry.{entryBytes, readEntry}
 use Rattle.checker.specs.EntryLaws.{bytes-read}
-use Rattle.checker.specs.Check.{_then_, demand, headerFor, recordPart, recordOf, partsFrom, soundAfter, recordsIn, Sheet, sheetIn, entryOf, verdicts, bytesOf, failures, Totals, answerOf, outputBy, outputOf}
+use Rattle.checker.specs.Check.{_then_, demand, sheetSize, headerFor, recordsPart, recordPart, recordOf, partsFrom, soundAfter, recordsIn, Sheet, sheetIn, entryOf, verdicts, bytesOf, failures, Totals, answerOf, outputBy, outputOf}
 use Rattle.sheet.specs.RecordBack.{record-read-fine}
 use Rattle.checker.specs.Sound.{entry-sound}
 
@@ -39,19 +39,19 @@ demand-given false k u e = given-refused (sym e)
 -- the header is read, the sheet has its length, and the output is long enough
 pub record HeaderFits (s : List ℕ) (room : ℕ) (h : Header) : Type 0 where
   pub read : readHeader s ≡ given h
-  pub whole : length s ≡ 12 + 16 * h .count
+  pub whole : length s ≡ sheetSize h
   pub fits : 4 * h .count ≤ room
 
 pub header-fits : (s : List ℕ) (room : ℕ) (h : Header) → headerFor s room ≡ given h → HeaderFits s room h
 unfolding headerFor
 header-fits s room h e =
     let a = then-given (readHeader s) _ h e in
-    let b = then-given (demand (eqb (length s) (12 + 16 * a .0 .count)) 4) _ h (a .2) in
+    let b = then-given (demand (eqb (length s) (sheetSize (a .0))) 4) _ h (a .2) in
     let c = then-given (demand (leb (4 * a .0 .count) room) 5) _ h (b .2) in
     let same : a .0 ≡ h = given-same (c .2) in
     record {
       read = a .1 ∙ ap given same;
-      whole = eqb-true (length s) (12 + 16 * a .0 .count) (demand-given (eqb (length s) (12 + 16 * a .0 .count)) 4 (b .0) (b .1)) ∙ ap (λ (g : Header). 12 + 16 * g .count) same;
+      whole = eqb-true (length s) (sheetSize (a .0)) (demand-given (eqb (length s) (sheetSize (a .0))) 4 (b .0) (b .1)) ∙ ap (λ (g : Header). sheetSize g) same;
       fits = omega (arith, leb-true (4 * a .0 .count) room (demand-given (leb (4 * a .0 .count) room) 5 (c .0) (c .1)), ap (λ (g : Header). g .count) same);
     }
 
@@ -89,15 +89,15 @@ taken s (suc count) i before rs e =
 -- what is known of it
 pub record Whole (s : List ℕ) (room : ℕ) (t : Sheet) : Type 0 where
   pub header : HeaderFits s room (t .header)
-  pub records : Taken s 0 0 (t .records)
+  pub records : Taken (recordsPart (t .header) s) 0 0 (t .records)
   pub number : length (t .records) ≡ t .header .count
 
 pub sheet-whole : (s : List ℕ) (room : ℕ) (t : Sheet) → sheetIn s room ≡ given t → Whole s room t
 unfolding sheetIn
 sheet-whole s room t e =
     let a = then-given (headerFor s room) _ t e in
-    let b = then-given (recordsIn 0 0 (partsFrom s 0 (a .0 .count))) _ t (a .2) in
-    let w = taken s (a .0 .count) 0 0 (b .0) (b .1) in
+    let b = then-given (recordsIn 0 0 (partsFrom (recordsPart (a .0) s) 0 (a .0 .count))) _ t (a .2) in
+    let w = taken (recordsPart (a .0) s) (a .0 .count) 0 0 (b .0) (b .1) in
     subst (λ (u : Sheet). Whole s room u) (given-same (b .2)) (record { header = header-fits s room (a .0) (a .1); records = w .0; number = w .1 })
 
 -- record j of those taken
@@ -128,6 +128,10 @@ bytes-length [] = refl
 bytes-length (e ∷ es) = omega (arith, bytes-length es)
 
 module _ (s out : List ℕ) (t : Sheet) (given-t : sheetIn s (length out) ≡ given t) where
+  -- the bytes of its records
+  abbrev rs : List ℕ
+  rs = recordsPart (t .header) s
+
   whole : Whole s (length out) t
   whole = sheet-whole s (length out) t given-t
 
@@ -137,25 +141,25 @@ module _ (s out : List ℕ) (t : Sheet) (given-t : sheetIn s (length out) ≡ gi
   output-done = ap (λ (a : Answer Sheet). outputBy a out) given-t
 
   -- each record of the sheet is read as a record
-  pub record-given : (i : ℕ) → i < t .header .count → (r : Record) × (recordOf s i ≡ given r)
+  pub record-given : (i : ℕ) → i < t .header .count → (r : Record) × (recordOf (recordsPart (t .header) s) i ≡ given r)
   record-given i l =
-      let a = taken-at s 0 0 (t .records) (whole .records) i (omega (arith, whole .number)) in
+      let a = taken-at rs 0 0 (t .records) (whole .records) i (omega (arith, whole .number)) in
       let m : i ≡ 0 + i = omega arith in
-      (a .0, ap (recordOf s) m ∙ a .1)
+      (a .0, ap (recordOf rs) m ∙ a .1)
 
   -- its own four bytes of the output are those of the verdict on it: no other record has a part in them
-  pub verdict-at : (i : ℕ) → i < t .header .count → (r : Record) → recordOf s i ≡ given r → take 4 (drop (4 * i) (outputOf s out)) ≡ entryBytes (entryOf (t .header) r)
+  pub verdict-at : (i : ℕ) → i < t .header .count → (r : Record) → recordOf rs i ≡ given r → take 4 (drop (4 * i) (outputOf s out)) ≡ entryBytes (entryOf (t .header) r)
   unfolding verdicts
   verdict-at i l r e =
       let m : 0 + i ≡ i = omega arith in
       ap (λ (o : List ℕ). take 4 (drop (4 * i) o)) output-done
-      ∙ bytes-at (t .header) s (drop (4 * t .header .count) out) 0 0 (t .records) (whole .records) i (omega (arith, whole .number)) r (ap (recordOf s) m ∙ e)
+      ∙ bytes-at (t .header) rs (drop (4 * t .header .count) out) 0 0 (t .records) (whole .records) i (omega (arith, whole .number)) r (ap (recordOf rs) m ∙ e)
 
   -- and are read back as that verdict
-  pub verdict-read : (i : ℕ) → i < t .header .count → (r : Record) → recordOf s i ≡ given r → readEntry (take 4 (drop (4 * i) (outputOf s out))) ≡ given (entryOf (t .header) r)
+  pub verdict-read : (i : ℕ) → i < t .header .count → (r : Record) → recordOf rs i ≡ given r → readEntry (take 4 (drop (4 * i) (outputOf s out))) ≡ given (entryOf (t .header) r)
   verdict-read i l r e =
       ap readEntry (verdict-at i l r e ∙ sym (append-nil (entryBytes (entryOf (t .header) r))))
-      ∙ bytes-read (entryOf (t .header) r) [] (entry-sound (t .header) r (record-read-fine i (recordPart s i) r e))
+      ∙ bytes-read (entryOf (t .header) r) [] (entry-sound (t .header) r (record-read-fine i (recordPart rs i) r e))
 
   -- there is one verdict for each record
   pub verdicts-count : length (verdicts t) ≡ t .header .count

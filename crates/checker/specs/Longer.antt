@@ -1,4 +1,4 @@
--- A sheet that is longer than any: its first 6413 bytes say all that the answer rests on, so that no more have to be read.
+-- A sheet that is longer than any: its first 6421 bytes say all that the answer rests on, so that no more have to be read.
 -- Assumes nothing.
 use Prim.Native.Nat.{ℕ, _+_, _*_, _≤_, _<_}
 use mathlib.Core.Path.{_≡_, refl, sym, ap, _∙_}
@@ -7,18 +7,20 @@ use native.Mathlib.Omega.{arith}
 use native.Mathlib.Decide.{decLt}
 use lib.ListN.{length, take, length-take}
 use lib.Seq.{take-all, take-take}
-use borrow.Author.Tests.{le-ltb, ne-eqb}
-use Rattle.layout.specs.Layout.{pack, bytes}
+use borrow.Author.Tests.{ne-eqb}
 use Rattle.sheet.specs.declared.Header.{Header}
 use Rattle.sheet.specs.Refusals.{Answer, given, refused}
-use Rattle.sheet.specs.Header.{headerIn, readHeader}
+use Rattle.sheet.specs.Versions.{longestSheet}
+use Rattle.sheet.specs.VersionLaws.{regular, regular-at}
+use Rattle.sheet.specs.Header.{versionField, versionIn, readHeader}
+use Rattle.sheet.specs.HeaderFront.{read-same}
 use Rattle.sheet.specs.HeaderLaws.{header-ranges}
-use Rattle.checker.specs.Check.{_then_, demand, headerFor, Sheet, sheetIn, outputBy, outputOf, answerOf}
+use Rattle.checker.specs.Check.{_then_, demand, sheetSize, headerFor, Sheet, sheetIn, outputBy, outputOf, answerOf}
 use Rattle.sheet.specs.HeaderBack.{header-read-fine}
 
--- one byte more than the longest sheet, 12 + 16 · 400 bytes, has
+-- one byte more than the longest sheet has
 abbrev pub enough : ℕ
-enough = 6413
+enough = longestSheet + 1
 
 -- the answer to a sheet that is too long, by its header
 abbrev tooLong : Answer Header → Answer Sheet
@@ -29,16 +31,14 @@ too-long : (s : List ℕ) (room : ℕ) (x : Answer Header) → readHeader s ≡ 
 unfolding sheetIn headerFor _then_ demand
 too-long s room (refused k p) e l = rw e
 too-long s room (given h) e l =
-    let few = header-ranges h 0 (header-read-fine s h e) .count-high in
-    let other : length s ≡ 12 + 16 * h .count → ⊥ = λ z. omega arith in
-    rw (e, ne-eqb (length s) (12 + 16 * h .count) other)
+    let few = header-ranges h (header-read-fine s h e) .count-high in
+    let other : length s ≡ sheetSize h → ⊥ = λ z. omega (arith, few, regular (h .own) .short) in
+    rw (e, ne-eqb (length s) (sheetSize h) other)
 
 header-cut : (s : List ℕ) → enough ≤ length s → readHeader (take enough s) ≡ readHeader s
-unfolding readHeader
 header-cut s l =
-    let m : 12 ≤ length (take enough s) = simp length-take (omega arith) in
-    let n : 12 ≤ length s = omega arith in
-    rw (le-ltb _ _ m, le-ltb _ _ n) (ap (λ (b : List ℕ). headerIn (pack (bytes 12) b)) (take-take 12 enough s (omega arith)))
+    let few : versionIn s .size ≤ enough = omega (arith, regular-at (versionField s) .short) in
+    read-same s (take enough s) enough (take-take enough enough s (omega arith)) few l (simp length-take (omega arith))
 
 -- what is read of a sheet up to there says what the whole of it says
 pub sheet-cut : (s : List ℕ) (room : ℕ) → sheetIn (take enough s) room ≡ sheetIn s room

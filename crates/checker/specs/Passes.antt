@@ -19,10 +19,10 @@ Refuses {A} x = (a : A) → x ≡ given a → ⊥
 unfoldable pub judgedAfter : Header → (i before : ℕ) → List ℕ → Answer Entry
 judgedAfter h i before b = soundAfter i before b then λ r. given (entryOf h r)
 
--- the header is sound, and sheet and draft have room for what it counts
-pub record Ready (h : Header) (s : List ℕ) (room : ℕ) : Type 0 where
-  pub header : headerFault h 0 ≡ 0
-  pub whole : length s ≡ 12 + 16 * h .count
+-- the header is sound, and the records' bytes and the draft are those of what it counts
+pub record Ready (h : Header) (b : List ℕ) (room : ℕ) : Type 0 where
+  pub header : headerFault h ≡ 0
+  pub whole : length b ≡ 16 * h .count
   pub fits : 4 * h .count ≤ room
 
 -- where no record is turned away: how many verdicts have a rule, and what the draft holds
@@ -39,6 +39,6 @@ toldPassed (notPassed r) draft = told r
 abbrev pub passOf : ℕ → List Entry → List ℕ → Pass
 passOf n es draft = record { failed = failures es; draft = bytesOf es ++ drop (4 * n) draft }
 
--- and of the records of a sheet
+-- and of records, by the bytes of all of them
 unfoldable pub passOver : Header → List ℕ → List ℕ → Answer Pass
-passOver h s draft = recordsIn 0 0 (partsFrom s 0 (h .count)) then λ rs. given (passOf (h .count) (map (entryOf h) rs) draft)
+passOver h b draft = recordsIn 0 0 (partsFrom b 0 (h .count)) then λ rs. given (passOf (h .count) (map (entryOf h) rs) draft)

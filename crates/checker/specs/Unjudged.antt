@@ -2,13 +2,13 @@
 use Prim.Native.Nat.{ℕ, _*_}
 use mathlib.Core.List.{List}
 use Rattle.sheet.specs.declared.Header.{Header}
-use Rattle.sheet.specs.Lines.{counts}
+use Rattle.sheet.specs.Versions.{mostRecords}
 use Rattle.sheet.specs.Refusals.{Answer, given}
 use Rattle.checker.specs.Check.{_then_, partsFrom, recordsIn, Sheet, sheetIn}
 
 -- an output that has room for the verdicts of every sheet: four bytes for each of the most records
 abbrev pub room : ℕ
-room = 4 * counts .high
+room = 4 * mostRecords
 
 -- rows 1 to 4 and 6 to 8: with that room row 5 never holds
 unfoldable pub soundSheet : List ℕ → Answer Sheet
@@ -18,6 +18,6 @@ soundSheet s = sheetIn s room
 unfoldable pub soundHeader : List ℕ → Answer Header
 soundHeader s = soundSheet s then λ t. given (t .header)
 
--- rows 6 to 8 over the first n records; the promise of `sound_header` does not rest on it
+-- rows 6 to 8 over the first n records, by the bytes of all of them; the promise of `sound_header` does not rest on it
 unfoldable pub recordsSound : List ℕ → (n : ℕ) → Answer (Unit {0})
-recordsSound s n = recordsIn 0 0 (partsFrom s 0 n) then λ rs. given tt
+recordsSound b n = recordsIn 0 0 (partsFrom b 0 n) then λ rs. given tt

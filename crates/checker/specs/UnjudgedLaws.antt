@@ -23,7 +23,7 @@ room-enough s space l = go (readHeader s) refl
     go : (x : Answer Header) → readHeader s ≡ x → sheetIn s space ≡ sheetIn s room
     go (refused k p) e = rw e
     go (given h) e =
-        let few = header-ranges h 0 (header-read-fine s h e) .count-high in
+        let few = header-ranges h (header-read-fine s h e) .count-few in
         rw (e, le-leb (4 * h .count) space (omega arith), le-leb (4 * h .count) room (omega arith))
 
 -- two answers that meet the promise of `sound_header` are equal

@@ -44,8 +44,6 @@ pub enum Checked {
 }
 
 // How many bytes each takes.
-const HEADER: usize = 12;
-
 const RECORD: usize = 16;
 
 const VERDICT: usize = 4;
@@ -137,7 +135,7 @@ fn header_for(sheet: &[u8], room: usize) -> HeaderRead
         HeaderRead::Refused(x) => HeaderRead::Refused(x),
         HeaderRead::Good(h) => {
             let n = h.count as usize;
-            if sheet.len() != HEADER + RECORD * n {
+            if sheet.len() != h.size() + RECORD * n {
                 return HeaderRead::Refused(Refusal::SheetLength);
             }
             if room < VERDICT * n {
@@ -164,24 +162,25 @@ fn sound_after(bytes: &[u8], i: u16, before: u16) -> RecordRead
     }
 }
 
-fn sound_at(sheet: &[u8], i: u16, before: u16) -> RecordRead
-    requires { ⌜ 12 + 16 * i + 16 ≤ length (now sheet) ⌝ }
-    ensures { λ r. ⌜ toldRecord r ≡ soundAfter i before (recordPart (now (sheet .entry)) i) ⌝ }
+// The same of record i among the bytes of all records.
+fn sound_at(records: &[u8], i: u16, before: u16) -> RecordRead
+    requires { ⌜ 16 * i + 16 ≤ length (now records) ⌝ }
+    ensures { λ r. ⌜ toldRecord r ≡ soundAfter i before (recordPart (now (records .entry)) i) ⌝ }
 {
-    let first = HEADER + RECORD * (i as usize);
+    let first = RECORD * (i as usize);
     let past = first + RECORD;
-    sound_after(&sheet[first..past], i, before)
+    sound_after(&records[first..past], i, before)
 }
 
 // Refusals 6 to 8 of the first n records, each finished before the next.
-fn records_sound(sheet: &[u8], n: u16) -> Outcome
-    requires { ⌜ 12 + 16 * n ≤ length (now sheet) ⌝ }
-    ensures { λ r. ⌜ toldOutcome r ≡ recordsSound (now (sheet .entry)) n ⌝ }
+fn records_sound(records: &[u8], n: u16) -> Outcome
+    requires { ⌜ 16 * n ≤ length (now records) ⌝ }
+    ensures { λ r. ⌜ toldOutcome r ≡ recordsSound (now (records .entry)) n ⌝ }
 {
     let mut before: u16 = 0;
     let mut i: u16 = 0;
     while i < n {
-        let read = sound_at(sheet, i, before);
+        let read = sound_at(records, i, before);
         let r = match read {
             RecordRead::Refused(x) => {
                 return Outcome::Refused(x);
@@ -202,7 +201,7 @@ pub fn sound_header(sheet: &[u8]) -> HeaderRead
     match read {
         HeaderRead::Refused(x) => HeaderRead::Refused(x),
         HeaderRead::Good(h) => {
-            let found = records_sound(sheet, h.count);
+            let found = records_sound(&sheet[h.size()..], h.count);
             match found {
                 Outcome::Refused(x) => HeaderRead::Refused(x),
                 Outcome::Fine => HeaderRead::Good(h),
@@ -238,7 +237,7 @@ fn entry_with(id: u16, v: Verdict, source: u8) -> Entry
 // The verdict on record i, in its sixteen bytes, after a record with the id `before`; or refusals 6 to 8. Judging tests the record's values, so that
 // the reader is asked only for the reason of a refusal.
 fn judged_after(h: Header, bytes: &[u8], i: u16, before: u16) -> EntryRead
-    requires { ⌜ headerFault h 0 ≡ 0 ⌝ }
+    requires { ⌜ headerFault h ≡ 0 ⌝ }
     ensures { λ r. ⌜ toldEntry r ≡ judgedAfter h i before (now (bytes .entry)) ⌝ }
 {
     let raw = record::record_in(bytes);
@@ -257,13 +256,13 @@ fn judged_after(h: Header, bytes: &[u8], i: u16, before: u16) -> EntryRead
     EntryRead::Good(entry_with(id, v, source.number()))
 }
 
-fn judged_at(h: Header, sheet: &[u8], i: u16, before: u16) -> EntryRead
-    requires { ⌜ (headerFault h 0 ≡ 0) × (12 + 16 * i + 16 ≤ length (now sheet)) ⌝ }
-    ensures { λ r. ⌜ toldEntry r ≡ judgedAfter h i before (recordPart (now (sheet .entry)) i) ⌝ }
+fn judged_at(h: Header, records: &[u8], i: u16, before: u16) -> EntryRead
+    requires { ⌜ (headerFault h ≡ 0) × (16 * i + 16 ≤ length (now records)) ⌝ }
+    ensures { λ r. ⌜ toldEntry r ≡ judgedAfter h i before (recordPart (now (records .entry)) i) ⌝ }
 {
-    let at = HEADER + RECORD * (i as usize);
+    let at = RECORD * (i as usize);
     let end = at + RECORD;
-    judged_after(h, &sheet[at..end], i, before)
+    judged_after(h, &records[at..end], i, before)
 }
 
 fn failing(e: Entry) -> u16
@@ -280,9 +279,9 @@ enum Passed {
 }
 
 // The pass: each record is judged in turn and its verdict goes into its own four bytes of the draft, up to the first record that is turned away.
-fn judge_all(h: Header, sheet: &[u8], draft: &mut [u8]) -> Passed
-    requires { ⌜ Ready h (now sheet) (length (now draft)) ⌝ }
-    ensures { λ r. ⌜ toldPassed r (now (draft .exit)) ≡ passOver h (now (sheet .entry)) (now (draft .entry)) ⌝ }
+fn judge_all(h: Header, records: &[u8], draft: &mut [u8]) -> Passed
+    requires { ⌜ Ready h (now records) (length (now draft)) ⌝ }
+    ensures { λ r. ⌜ toldPassed r (now (draft .exit)) ≡ passOver h (now (records .entry)) (now (draft .entry)) ⌝ }
 {
     let count = h.count;
     let mut failed: u16 = 0;
@@ -290,7 +289,7 @@ fn judge_all(h: Header, sheet: &[u8], draft: &mut [u8]) -> Passed
     let mut before: u16 = 0;
     let mut i: u16 = 0;
     while i < count {
-        let judged = judged_at(h, sheet, i, before);
+        let judged = judged_at(h, records, i, before);
         let e = match judged {
             EntryRead::Refused(x) => {
                 return Passed::Refused(x);
@@ -312,7 +311,7 @@ fn judge_sheet(h: Header, sheet: &[u8], draft: &mut [u8], out: &mut [u8]) -> Che
     requires { ⌜ (given h ≡ headerFor (now sheet) (length (now out))) × (4 * h .count ≤ length (now draft)) ⌝ }
     ensures { λ r. ⌜ Checks (now (sheet .entry)) (now (out .entry)) r (now (out .exit)) ⌝ }
 {
-    let passed = judge_all(h, sheet, draft);
+    let passed = judge_all(h, &sheet[h.size()..], draft);
     match passed {
         Passed::Refused(x) => Checked::Refused(x),
         Passed::Fine(failed) => {

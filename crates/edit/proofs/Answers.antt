@@ -64,9 +64,9 @@ pub room-for-one : (n len size : ℕ) → len + 16 ≤ size → n < counts .high
 room-for-one n len size l m = rw (le-leb (len + 16) size l, lt-ltb n (counts .high) m)
 
 -- the header's own test of the count that is one more
-module _ (h : Header) (n : ℕ) (z : headerFault h 0 ≡ 0) where
+module _ (h : Header) (n : ℕ) (z : headerFault h ≡ 0) where
   abbrev more : ℕ
-  more = headerFault (counting (n + 1) h) 0
+  more = headerFault (counting (n + 1) h)
 
   pub at-highest : (len size k p : ℕ) → len + 16 ≤ size → refused k p ≡ headerRefused more (given (tt {0})) → hasRoom n len size ≡ false
   at-highest len size k p l e = go (decLt n (counts .high))
@@ -120,8 +120,8 @@ module _ (b : List ℕ) (len : ℕ) where
     pub size : (len ≡ start n) × (len ≤ length b) × (n ≤ counts .high)
     size = (sheet-taken .whole ∙ ap start same-count, sheet-taken .fits, omega (arith, sheet-taken .few, same-count))
 
-    pub its-header : headerFault h 0 ≡ 0
-    its-header = ap (λ (g : Header). headerFault g 0) (k .header) ∙ sheet-taken .sound
+    pub its-header : headerFault h ≡ 0
+    its-header = ap (λ (g : Header). headerFault g) (k .header) ∙ sheet-taken .sound
 
     module _ (id : ℕ) where
       abbrev i : ℕ

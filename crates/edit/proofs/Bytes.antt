@@ -47,11 +47,11 @@ zeroed b v a e l m f =
     ap₂ (λ (x y : List ℕ). take a b ++ (x ++ y)) (f ∙ ap (λ (k : ℕ). replicate k 0) n) (drop-drop (e - a) a b ∙ ap (λ (k : ℕ). drop k b) end)
 
 -- the header goes over the first twelve bytes of a buffer whose first a are known
-headed : (h : Header) (x y : List ℕ) → headerFault h 0 ≡ 0 → 12 ≤ length x → writeHeader h (x ++ y) .bytes ≡ headerBytes h ++ (drop 12 x ++ y)
+headed : (h : Header) (x y : List ℕ) → headerFault h ≡ 0 → 12 ≤ length x → writeHeader h (x ++ y) .bytes ≡ headerBytes h ++ (drop 12 x ++ y)
 unfolding writeHeader
 headed h x y z l =
     let m : 12 ≤ length (x ++ y) = omega (arith, length-append x y) in
-    rw (le-ltb (length (x ++ y)) 12 m, eq-eqb (headerFault h 0) 0 z) (ap (_++_ (headerBytes h)) (drop-append-le 12 x y l))
+    rw (le-ltb (length (x ++ y)) 12 m, eq-eqb (headerFault h) 0 z) (ap (_++_ (headerBytes h)) (drop-append-le 12 x y l))
 
 module _ (b : List ℕ) (h : Header) (i len : ℕ) where
   abbrev a : ℕ

@@ -14,14 +14,14 @@ use Rattle.sheet.specs.HeaderLaws.{header-allowed, header-ranges}
 use Rattle.edit.specs.Edit.{counting}
 
 module _ (h : Header) (n : ℕ) where
-  pub counting-sound : headerFault h 0 ≡ 0 → n ≤ counts .high → headerFault (counting n h) 0 ≡ 0
-  unfolding headerFault
+  pub counting-sound : headerFault h ≡ 0 → n ≤ counts .high → headerFault (counting n h) ≡ 0
+  unfolding rawFault
   counting-sound e l =
-      let a = header-allowed h 0 e in
+      let a = header-allowed h e in
       let from-D0 = a .1 .1 in
       let from-M = from-D0 .1 .1 .1 in
       let n-allowed : within counts n ≡ true = rw (le-leb 0 n (omega arith), le-leb n (counts .high) l) in
       all-none 1 headerLines (headerValues (counting n h) 0) (a .0, (a .1 .0, (from-D0 .0, (from-D0 .1 .0, (from-D0 .1 .1 .0, (from-M .0, (from-M .1 .0, (n-allowed, from-M .1 .1 .1))))))))
 
-  pub counting-few : headerFault (counting n h) 0 ≡ 0 → n ≤ counts .high
-  counting-few e = header-ranges (counting n h) 0 e .count-high
+  pub counting-few : headerFault (counting n h) ≡ 0 → n ≤ counts .high
+  counting-few e = header-ranges (counting n h) e .count-high

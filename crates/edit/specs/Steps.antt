@@ -57,13 +57,13 @@ pub record Known (b : List ℕ) (len : ℕ) (h : Header) : Type 0 where
 
 -- header and record are sound, and there is room for one record more
 pub record Fits (h : Header) (i len : ℕ) (r : Record) (size : ℕ) : Type 0 where
-  pub header : headerFault h 0 ≡ 0
+  pub header : headerFault h ≡ 0
   pub sound : recordFault r 0 ≡ 0
   pub inside : start i ≤ len
   pub room : len + 16 ≤ size
 
 -- the header is sound, and record i is one of the sheet's
 pub record Stands (h : Header) (i len size : ℕ) : Type 0 where
-  pub header : headerFault h 0 ≡ 0
+  pub header : headerFault h ≡ 0
   pub inside : start i + 16 ≤ len
   pub whole : len ≤ size

@@ -92,7 +92,7 @@ pub record Taken (b : List ℕ) (len : ℕ) (t : Sheet) : Type 0 where
   pub fits : len ≤ length b
   pub whole : len ≡ start (t .header .count)
   pub read : readHeader (take len b) ≡ given (t .header)
-  pub sound : headerFault (t .header) 0 ≡ 0
+  pub sound : headerFault (t .header) ≡ 0
   pub few : t .header .count ≤ counts .high
   pub number : length (t .records) ≡ t .header .count
   pub bytes : Reads (partsFrom b 0 (t .header .count)) (t .records)
@@ -121,7 +121,7 @@ taken-at b len t e =
           whole = size;
           read = hf .read;
           sound = fine;
-          few = header-ranges h 0 fine .count-high;
+          few = header-ranges h fine .count-high;
           number = sym (reads-length (partsFrom (take len b) 0 (h .count)) rs (r .0)) ∙ ap length same ∙ parts-length b 0 (h .count);
           bytes = subst (λ (l : List (List ℕ)). Reads l rs) same (r .0);
           order = r .1;

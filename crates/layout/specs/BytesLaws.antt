@@ -1,15 +1,22 @@
 -- What is read and written by the length of the bytes, and that it comes back.
 -- Assumes nothing.
-use Prim.Native.Nat.{ℕ, _^_, _≤_, _<_}
-use mathlib.Core.Path.{_≡_, ap, _∙_}
-use mathlib.Core.List.{List, _++_}
+use Prim.Native.Nat.{ℕ, zero, suc, _+_, _^_, _≤_, _<_}
+use mathlib.Core.Path.{_≡_, sym, ap, _∙_}
+use mathlib.Core.List.{List, [], _∷_, _++_}
 use native.Mathlib.Omega.{arith}
+use native.Mathlib.Nat.{zero-add, suc-add}
 use lib.ListN.{length, take, drop, length-append, take-append-drop}
-use lib.Seq.{take-at}
+use lib.Seq.{take-at, take-nil}
 use borrow.Author.Tests.{lt-ltb, le-ltb}
 use Rattle.layout.specs.Layout.{total, pack, unpack, bytes, Fit}
 use Rattle.layout.specs.Laws.{pack-unpack-lt, unpack-pack, length-unpack, length-bytes}
 use Rattle.layout.specs.Bytes.{readOf, writtenOf}
+
+-- what is dropped of what was taken
+pub drop-take : (a k : ℕ) (xs : List ℕ) → drop a (take (a + k) xs) ≡ take k (drop a xs)
+drop-take zero k xs = ap (λ (n : ℕ). take n xs) (zero-add k)
+drop-take (suc a) k [] = ap (drop (suc a)) (take-nil (suc a + k)) ∙ sym (take-nil k)
+drop-take (suc a) k (x ∷ xs) = ap (λ (n : ℕ). drop (suc a) (take n (x ∷ xs))) (suc-add a k) ∙ drop-take a k xs
 
 pub read-few : (k : ℕ) (s : List ℕ) → length s < k → readOf k s ≡ 0
 unfolding readOf

@@ -1,6 +1,6 @@
 -- The laws of layouts, over any layout. Assumes nothing.
 use Prim.Native.Nat.{ℕ, zero, suc, _+_, _*_, _/_, _%_, _^_, _<_, _≤_}
-use mathlib.Core.Path.{_≡_, refl, sym, ap, ap₂, _∙_}
+use mathlib.Core.Path.{_≡_, refl, sym, ap, ap₂, subst, _∙_}
 use mathlib.Core.List.{List, [], _∷_, _++_}
 use native.Mathlib.Nat.{mod-lt, mod-eq-of-lt, mul-assoc, add-assoc, zero-mul, zero-add, mod-one, mul-add-div-right, mul-add-mod-self-right, not-suc-le-zero, le-of-suc-le-suc, add-mul, add-comm, div-lt-iff-lt-mul}
 use native.Mathlib.Omega.{arith}
@@ -76,6 +76,25 @@ length-bytes (suc k) = ap suc (length-bytes k)
 pub length-unpack : (ws : List ℕ) (n : ℕ) → length (unpack ws n) ≡ length ws
 length-unpack [] n = refl
 length-unpack (w ∷ ws) n = ap suc (length-unpack ws n)
+
+-- what fits a layout in two parts fits each of them
+pub fit-parts : (us ws vs bs : List ℕ) → length vs ≡ length us → Fit (us ++ ws) (vs ++ bs) → Fit us vs × Fit ws bs
+fit-parts [] ws [] bs e f = (tt, f)
+fit-parts [] ws (a ∷ vs) bs e f = absurd (omega arith)
+fit-parts (u ∷ us) ws [] bs e f = absurd (omega arith)
+fit-parts (u ∷ us) ws (a ∷ vs) bs e f = let r = fit-parts us ws vs bs (omega arith) (f .1) in ((f .0, r .0), r .1)
+
+-- a layout of so many whole bytes: fields that are written into them are read again, and bytes that are read as fields are written again
+module _ (ws : List ℕ) (k : ℕ) (same : total ws ≡ total (bytes k)) where
+  pub fields-again : (vs : List ℕ) → Fit ws vs → unpack ws (pack (bytes k) (unpack (bytes k) (pack ws vs))) ≡ vs
+  fields-again vs f =
+      ap (unpack ws) (pack-unpack-lt (bytes k) (pack ws vs) (subst (λ (t : ℕ). pack ws vs < 2 ^ t) same (pack-lt ws vs f)))
+      ∙ unpack-pack ws vs f
+
+  pub bytes-again : (bs : List ℕ) → Fit (bytes k) bs → unpack (bytes k) (pack ws (unpack ws (pack (bytes k) bs))) ≡ bs
+  bytes-again bs f =
+      ap (unpack (bytes k)) (pack-unpack-lt ws (pack (bytes k) bs) (subst (λ (t : ℕ). pack (bytes k) bs < 2 ^ t) (sym same) (pack-lt (bytes k) bs f)))
+      ∙ unpack-pack (bytes k) bs f
 
 -- the first elements of a long enough list, by their indices
 pub take-firsts : (k : ℕ) (s : List ℕ) → k ≤ length s → take k s ≡ firsts k (λ i. getD s i 0)

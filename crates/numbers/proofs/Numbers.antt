@@ -69,8 +69,8 @@ module _ (ns : List ℕ) where
     ),
   )
 
-  pub header-numbers-fault : headerNumbersFault ns ≡ firstOf (headerFault (headerHeld ns) 0) (headerApart ns)
-  unfolding headerNumbersFault headerFault
+  pub header-numbers-fault : headerNumbersFault ns ≡ firstOf (headerFault (headerHeld ns)) (headerApart ns)
+  unfolding headerNumbersFault rawFault
   header-numbers-fault = agree-fault 0 (okays headerLines (numbersFrom 0 8 ns ++ 0 ∷ [])) headerTests (okays headerLines (headerValues (headerHeld ns) 0)) header-agree
 
   pub header-held-same : headerNumbersFault ns ≡ 0 → headerHeld ns ≡ headerAt ns

@@ -19,11 +19,11 @@ use Rattle.numbers.proofs.Numbers.{header-numbers-fault, header-held-sa
 use Rattle.numbers.proofs.Places.{carrying, taken}
 
 pub header-by-held : (ns : List ℕ) (h : Header) (e : ℕ) {x y : Answer (Unit {0})} → h ≡ headerHeld ns → e ≡ headerApart ns
-    → x ≡ headerRefused (headerFault h 0) (given tt) → y ≡ cond (eqb e 0) x (earlierOf x 3 e) → carrying h y ≡ headerFrom ns
+    → x ≡ headerRefused (headerFault h) (given tt) → y ≡ cond (eqb e 0) x (earlierOf x 3 e) → carrying h y ≡ headerFrom ns
 unfolding headerFrom
 header-by-held ns h e is-held is-apart =
-    taken headerCases 0 (λ k. omega arith) (omega arith) (headerNumbersFault ns) (headerFault h 0) e h (headerAt ns)
-    (header-numbers-fault ns ∙ ap₂ firstOf (ap (λ (y : Header). headerFault y 0) (sym is-held)) (sym is-apart))
+    taken headerCases 0 (λ k. omega arith) (omega arith) (headerNumbersFault ns) (headerFault h) e h (headerAt ns)
+    (header-numbers-fault ns ∙ ap₂ firstOf (ap (λ (y : Header). headerFault y) (sym is-held)) (sym is-apart))
     (subst (λ (k : ℕ). (k ≡ 0 → ⊥) → 2 ≤ k) (sym is-apart) (header-apart-past ns))
     (λ z. is-held ∙ header-held-same ns z)
 

@@ -38,16 +38,16 @@ all-numbers (x ∷ ns) = ap (λ (l : List ℕ). x ∷ l) (one-further x ns 0 (le
 -- ---- a header
 
 -- a header's own numbers are taken as the header, or refused as it is
-pub header-from-numbers : (h : Header) → headerFrom (headerNumbers h) ≡ headerRefused (headerFault h 0) (given h)
-unfolding headerFrom headerNumbersFault headerFault
+pub header-from-numbers : (h : Header) → headerFrom (headerNumbers h) ≡ headerRefused (headerFault h) (given h)
+unfolding headerFrom headerNumbersFault rawFault
 header-from-numbers h = rw (flag-read (h .«two_runs»))
 
 -- what numbers with no fault give: the header that they are has none either, and has the same numbers
 abbrev pub HeaderSound : List ℕ → Header → Type 0
-HeaderSound ns h = (headerFault h 0 ≡ 0) × (headerNumbers h ≡ numbersFrom 0 8 ns)
+HeaderSound ns h = (headerFault h ≡ 0) × (headerNumbers h ≡ numbersFrom 0 8 ns)
 
 pub header-sound : (ns : List ℕ) → headerNumbersFault ns ≡ 0 → HeaderSound ns (headerAt ns)
-unfolding headerNumbersFault headerFault
+unfolding headerNumbersFault rawFault
 header-sound ns e =
     let a : Allowed headerLines (numbersFrom 0 8 ns ++ 0 ∷ []) = none-all 0 headerLines (numbersFrom 0 8 ns ++ 0 ∷ []) e in
     let runs = getD ns 4 0 in

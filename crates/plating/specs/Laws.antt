@@ -63,7 +63,7 @@ pub plate-monotone : (h : Header) (kind : ℕ) (p : Plate) →
 plate-monotone h kind p = (
   rule1-monotone kind (h .length .0) (p .factor .0) (p .spacing .0),
   rule2-monotone kind (p .factor .0) (p .spacing .0) (platePressure h kind p),
-  rule3-monotone kind (p .factor .0) (p .spacing .0) (K2 (p .b1 .0) (p .b2 .0)) (R (h .moment) (h .«bottom_modulus»)),
+  rule3-monotone kind (p .factor .0) (p .spacing .0) (K2 (p .b1 .0) (p .b2 .0)) (R (h .moment) (plateModulus h kind)),
 )
 
 -- at R ≥ 210,000 no thickness meets rule 3 on the bottom: the second form holds there for every steel

@@ -8,15 +8,20 @@ use Rattle.gauge.specs.Ceil.{ceilOf}
 use Rattle.sheet.specs.declared.Header.{Header}
 use Rattle.sheet.specs.declared.Plate.{Plate}
 use Rattle.sheet.specs.Kinds.{isLong, isBottom}
+use Rattle.sheet.specs.Header.{innerModulus}
 use Rattle.loads.specs.Loads.{bottomPressure, innerPressure}
 use Rattle.loads.specs.Sources.{Named, onBottom, onInner, deciding}
 use Rattle.verdict.specs.declared.Verdict.{Verdict}
 use Rattle.verdict.specs.Verdict.{Rule, verdictOf}
 use Rattle.verdict.specs.Judged.{Finding}
 
--- R = 1,000,000·M/ZB rounded up: the hull's stress at the bottom, thousandths of a N/mm²
+-- R = 1,000,000·M/Z rounded up: the hull's stress where its modulus is Z, thousandths of a N/mm²
 abbrev pub R : ℕ → ℕ → ℕ
-R M ZB = ceilOf (1000000 * M) ZB
+R M Z = ceilOf (1000000 * M) Z
+
+-- Z: on kinds 1, 2 the bottom's modulus ZB, on kinds 3, 4 the inner bottom's
+abbrev pub plateModulus : Header → ℕ → ℕ
+plateModulus h kind = cond (isBottom kind) (h .«bottom_modulus») (innerModulus h)
 
 abbrev pub greatestK2 : ℕ
 greatestK2 = 26000
@@ -94,7 +99,7 @@ asked2 h kind p = asked p 2 (rule2 kind (p .factor .0) (p .spacing .0) (platePre
 
 abbrev pub asked3 : Header → ℕ → Plate → Rule
 asked3 h kind p =
-    asked p 3 (rule3 kind (p .factor .0) (p .spacing .0) (K2 (p .b1 .0) (p .b2 .0)) (R (h .moment) (h .«bottom_modulus»)))
+    asked p 3 (rule3 kind (p .factor .0) (p .spacing .0) (K2 (p .b1 .0) (p .b2 .0)) (R (h .moment) (plateModulus h kind)))
 
 -- the rules that a plate answers to, in their order
 abbrev pub plateRules : Header → ℕ → Plate → List Rule

@@ -23,7 +23,7 @@ ghost use Rattle.sheet.specs.Record.{ofPlate};
 ghost use Rattle.sheet.specs.Ranges.{HeaderRanges, PlateRanges};
 ghost use Rattle.verdict.specs.Verdict.{verdictOf};
 ghost use Rattle.verdict.specs.Judged.{toldJudged, judgedBy};
-ghost use Rattle.plating.specs.Rules.{R, K2, allowance, rule1, rule2, isSecond, firstForm, secondForm, rule3, platePressure, plateNamed, plateRules, plateFinding};
+ghost use Rattle.plating.specs.Rules.{R, plateModulus, K2, allowance, rule1, rule2, isSecond, firstForm, secondForm, rule3, platePressure, plateNamed, plateRules, plateFinding};
 ghost use Rattle.plating.specs.Bounds.{Panel, greatestR};
 
 // The stress R at which the hull's bending leaves nothing for the plate's own.
@@ -112,12 +112,22 @@ fn rule2(kind: u8, factor: SteelFactor, spacing: Spacing, load: Load) -> Shape
     square(39062500000, n)
 }
 
-// R: the hull's stress at the bottom, from the moment M and the bottom modulus ZB.
-fn hull_stress(moment: u32, bottom_modulus: u32) -> u64
-    requires { ⌜ 0 < «bottom_modulus» ⌝ }
-    ensures { λ r. ⌜ r ≡ R moment «bottom_modulus» ⌝ }
+// The modulus at the plate: the bottom's, or the inner bottom's.
+fn modulus(h: Header, kind: u8) -> u32
+    ensures { λ r. ⌜ r ≡ plateModulus h kind ⌝ }
 {
-    gauge::ceil_div(1000000 * moment as u64, bottom_modulus as u64)
+    if is_bottom(kind) {
+        return h.bottom_modulus;
+    }
+    h.inner_modulus()
+}
+
+// R: the hull's stress at the plate, from the moment M and the modulus there.
+fn hull_stress(moment: u32, modulus: u32) -> u64
+    requires { ⌜ 0 < modulus ⌝ }
+    ensures { λ r. ⌜ r ≡ R moment modulus ⌝ }
+{
+    gauge::ceil_div(1000000 * moment as u64, modulus as u64)
 }
 
 // K2, of the sides of the plate's panel.
@@ -213,7 +223,7 @@ fn plate_verdict(h: Header, kind: u8, p: Plate, load: Load) -> Verdict
     if !gauge::meets(d2, t) {
         return verdict::failed(2, d2, top);
     }
-    let r = hull_stress(h.moment, h.bottom_modulus);
+    let r = hull_stress(h.moment, modulus(h, kind));
     let d3 = rule3(kind, p.factor, p.spacing, p.b1, p.b2, r);
     if !gauge::meets(d3, t) {
         return verdict::failed(3, d3, top);

@@ -25,12 +25,12 @@ use Rattle.revisions.specs.Outcomes.{holding, put-sheet}
 use Rattle.revisions.specs.Touched.{inserted-before, inserted-moved, inserted-rest}
 
 -- a header that was read of twelve bytes is written as those
-header-same : (x : List ℕ) (h : Header) → length x ≡ 12 → Fit (bytes 12) x → readHeader x ≡ given h → headerFault h 0 ≡ 0 → headerBytes h ≡ x
+header-same : (x : List ℕ) (h : Header) → length x ≡ 12 → Fit (bytes 12) x → readHeader x ≡ given h → headerFault h ≡ 0 → headerBytes h ≡ x
 unfolding writeHeader
 header-same x h l fit e z =
     let long : 12 ≤ length x = omega arith in
     let none : drop 12 x ≡ [] = drop-of-length-le x {i = 12} (omega arith) in
-    let wrote : writeHeader h x .bytes ≡ headerBytes h = rw (le-ltb (length x) 12 long, eq-eqb (headerFault h 0) 0 z, none) (append-nil (headerBytes h)) in
+    let wrote : writeHeader h x .bytes ≡ headerBytes h = rw (le-ltb (length x) 12 long, eq-eqb (headerFault h) 0 z, none) (append-nil (headerBytes h)) in
     let whole : take 12 x ≡ x = take-all 12 x (omega arith) in
     sym wrote ∙ header-written-onto x h e (subst (Fit (bytes 12)) (sym whole) fit)
 

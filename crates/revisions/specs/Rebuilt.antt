@@ -49,7 +49,7 @@ module _ (x : List ℕ) (ps : List (List ℕ)) (z : List ℕ) (h : Header) (rs :
   unfolding sheetAt soundSheet sheetIn headerFor _then_ demand
   put-together =
       let fits : start (h .count) ≤ length whole = omega (arith, ap length (sym (append-assoc x (join ps) z)), length-append (x ++ join ps) z, long) in
-      let few = header-ranges h 0 (header-read-fine x h read) .count-high in
+      let few = header-ranges h (header-read-fine x h read) .count-high in
       rw (le-leb (start (h .count)) (length whole) fits, front, header-front x (join ps) sized, read, eq-eqb (length (x ++ join ps)) (start (h .count)) long, le-leb (4 * h .count) room (omega arith), records-read)
 
 -- ---- the buffer's bytes around record i

@@ -204,7 +204,7 @@ pub never-5 : (s : List ℕ) → Not 5 (soundSheet s)
 never-5 s =
     sheet-not 5 s (λ z. omega arith) (λ i b m p. record-read-others i b 5 p (λ z. omega arith) (λ z. omega arith) (λ z. omega arith))
     (header-not 5 s (λ z. omega arith) (λ p. header-read-others s 5 p (λ z. omega arith) (λ z. omega arith) (λ z. omega arith))
-    (λ h e x z. omega (arith, leb-false (4 * h .count) room x, header-ranges h 0 (header-read-fine s h e) .count-high)))
+    (λ h e x z. omega (arith, leb-false (4 * h .count) room x, header-ranges h (header-read-fine s h e) .count-high)))
 
 -- ---- 1
 

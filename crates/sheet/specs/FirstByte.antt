@@ -9,7 +9,7 @@ use lib.ListN.{length, getD, take}
 use lib.Pow.{high, shr-shr}
 use Rattle.layout.specs.Layout.{total, pack, bytes, Fit}
 use Rattle.layout.specs.Laws.{pack-lt}
-use Rattle.sheet.specs.HeaderExactly.{headerOf}
+use Rattle.sheet.specs.Header.{versionField}
 use Rattle.sheet.specs.RecordExactly.{numberIn, kindAt}
 
 upper-half : (k b : ℕ) (bs : List ℕ) → Fit (bytes (suc k)) (b ∷ bs) → pack (bytes (suc k)) (b ∷ bs) / 2 ^ (total (bytes k) + 4) % 2 ^ 4 ≡ b / 2 ^ 4
@@ -19,7 +19,7 @@ upper-half k b bs f =
     ap (λ (n : ℕ). n % 2 ^ 4) (sym (shr-shr (pack (bytes (suc k)) (b ∷ bs)) t 4) ∙ ap (λ (n : ℕ). n / 2 ^ 4) (high b t (pack-lt (bytes k) bs (f .1))))
     ∙ mod-eq-of-lt l
 
-pub version-byte : (s : List ℕ) → 12 ≤ length s → Fit (bytes 12) (take 12 s) → headerOf s .version ≡ getD s 0 0 / 16
+pub version-byte : (s : List ℕ) → 12 ≤ length s → Fit (bytes 12) (take 12 s) → versionField s ≡ getD s 0 0 / 16
 version-byte [] l f = absurd (omega arith)
 version-byte (b ∷ s) l f = upper-half 11 b (take 11 s) f
 

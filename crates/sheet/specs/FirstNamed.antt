@@ -11,10 +11,11 @@ use Rattle.quantity.specs.Range.{within, from}
 use Rattle.layout.specs.Line.{Line, Allowed, allowsAt, faultFrom}
 use Rattle.layout.specs.LineLaws.{FirstFault}
 use Rattle.sheet.specs.declared.Header.{Header}
+use Rattle.sheet.specs.declared.Own.the-variants.{One}
 use Rattle.sheet.specs.declared.Plate.{Plate}
 use Rattle.sheet.specs.declared.Member.{Member}
 use Rattle.sheet.specs.Lines.{either, none, plateLines}
-use Rattle.sheet.specs.Header.{headerFault}
+use Rattle.sheet.specs.Header.{rawFault, headerFault}
 use Rattle.sheet.specs.Record.{plateValues, plateFault, memberFault}
 
 -- no faulty field comes before the one named
@@ -61,10 +62,11 @@ twoFaults =
       moment = 20000;
       «bottom_modulus» = 200000;
       count = 401;
+      own = One;
     }
 
-pub draught-named : headerFault twoFaults 0 ≡ 3
-unfolding headerFault
+pub draught-named : headerFault twoFaults ≡ 3
+unfolding rawFault
 draught-named = refl
 
 -- a plate by the fields that rest on another or on which another rests

@@ -1,90 +1,166 @@
--- The header, there and back: nothing is lost.
+-- The header, there and back: nothing is lost, in any version.
 -- Assumes nothing.
-use Prim.Native.Nat.{ℕ, _^_, _≤_, _<_}
-use mathlib.Core.Path.{_≡_, sym, ap, ap₂, _∙_}
-use mathlib.Core.List.{List}
+use Prim.Native.Nat.{ℕ, _+_, _-_, _≤_}
+use mathlib.Core.Path.{_≡_, refl, sym, ap, ap₂, subst, _∙_}
+use mathlib.Core.List.{List, [], _∷_, _++_}
 use native.Mathlib.Omega.{arith}
-use lib.ListN.{length, getD, take}
+use lib.ListN.{length, getD, take, drop, length-append, take-append-drop}
+use lib.Seq.{take-add, take-at, length-take-le}
 use Rattle.quantity.specs.Range.{from}
-use Rattle.layout.specs.Layout.{total, pack, unpack, bytes, Fit}
-use Rattle.layout.specs.Laws.{pack-lt, pack-unpack-lt, unpack-pack}
+use Rattle.layout.specs.Layout.{pack, unpack, bytes, Fit}
+use Rattle.layout.specs.Laws.{fit-parts, fields-again, bytes-again, length-unpack, length-bytes}
 use Rattle.layout.specs.Line.{Allowed, faultFrom}
-use Rattle.layout.specs.LineLaws.{none-all, low-high}
+use Rattle.layout.specs.LineLaws.{all-none, low-high}
 use Rattle.sheet.specs.declared.Header.{Header}
-use Rattle.sheet.specs.Lines.{headerLines, headerWidths}
-use Rattle.sheet.specs.Refusals.{given, refused, headerRefused}
-use Rattle.sheet.specs.RefusalLaws.{at-none, by-none, given-refused}
-use Rattle.sheet.specs.Header.{headerValues, headerAt, headerFault, headerIn, readHeader, writeHeader}
-use Rattle.sheet.specs.HeaderLaws.{flag-read, values-at, header-in, header-fit}
-use Rattle.sheet.specs.Exactly.{slice-long}
-use Rattle.sheet.specs.HeaderExactly.{headerCases}
-use Rattle.sheet.specs.Back.{read-again, written-again, written-onto}
+use Rattle.sheet.specs.declared.Own.{Own}
+use Rattle.sheet.specs.declared.Own.the-variants.{One, Two}
+use Rattle.sheet.specs.Versions.{Version, firstBytes, numbered, versionOf}
+use Rattle.sheet.specs.VersionLaws.{regular, numbered-own}
+use Rattle.sheet.specs.Lines.{headerLines, firstWidths, ownWidths}
+use Rattle.sheet.specs.Refusals.{given}
+use Rattle.sheet.specs.Header.{headerSize, firstValues, ownValues, headerValues, headerAt, rawFault, headerFault, ownBytes, firstFields, ownFields, versionField, versionIn, headerFields, headerOf, readHeader, headerBytes, writeHeader}
+use Rattle.sheet.specs.HeaderLaws.{version-at, spareIn, restIn, values-at, header-allowed, header-version, header-fit, at-values}
+use Rattle.sheet.specs.HeaderExactly.{header-read-given, header-bytes-length, header-write-given, header-write-fine, header-write-bytes}
 
--- the number of 96 bits that a header is
-abbrev pub headerNumber : Header → ℕ
-headerNumber h = pack headerWidths (headerValues h 0)
+-- what a header's bytes hold in its version: it is long enough, its fields are the header's values, and none is at fault
+pub record Holds (s : List ℕ) (h : Header) : Type 0 where
+  pub long : headerSize h ≤ length s
+  pub version : versionIn s ≡ versionOf (h .own)
+  pub fields : headerFields s ≡ headerValues h 0 0
+  pub fine : headerFault h ≡ 0
 
--- the number of a header with no fault is read as that header
-number-read : (h : Header) → headerFault h 0 ≡ 0 → (headerNumber h < 2 ^ total (bytes 12)) × (headerIn (headerNumber h) ≡ given h)
-unfolding headerIn headerFault
-number-read h e =
-    let fit = header-fit h e in
-    let vs = headerValues h 0 in (
-      pack-lt headerWidths vs fit,
-      ap (λ (l : List ℕ). headerRefused (faultFrom 1 headerLines l) (given (headerAt l))) (unpack-pack headerWidths vs fit)
-          ∙ at-none (refused 2 0) (λ k. refused 3 k) (headerFault h 0) (given (headerAt vs)) e
-          ∙ ap given (rw (flag-read (h .«two_runs»))),
-    )
+-- ---- a header is read exactly where the bytes hold it
 
--- in a header with no fault nothing stands in the bits that carry nothing
-no-spare : (h : Header) (spare : ℕ) → headerFault h spare ≡ 0 → spare ≡ 0
-unfolding headerFault
-no-spare h spare e =
-    let a : Allowed headerLines (headerValues h spare) = none-all 0 headerLines (headerValues h spare) e in
-    omega (arith, low-high (from 0 0) spare (a .1 .1 .1 .1 .1 .1 .1 .1 .0))
+-- allowed values of its own have nothing in the bits that carry nothing
+no-rest : (o : Own) (rest : ℕ) → Allowed (versionOf o .lines) (ownValues o rest) → ownValues o rest ≡ ownValues o 0
+no-rest One rest a = refl
+no-rest (Two s) rest a =
+    let z : rest ≡ 0 = omega (arith, low-high (from 0 0) rest (a .1 .1 .0)) in
+    ap (λ (n : ℕ). s .«inner_modulus» ∷ s .depth .0 ∷ n ∷ []) z
 
--- a number that is read as a header is that header's, and it has no fault
-module _ (n : ℕ) (h : Header) (e : headerIn n ≡ given h) where
-  abbrev vs : List ℕ
-  vs = unpack headerWidths n
+no-spare : (h : Header) (spare rest : ℕ) → Allowed (headerLines (versionOf (h .own))) (headerValues h spare rest) → headerValues h spare rest ≡ headerValues h 0 0
+no-spare h spare rest a =
+    let b = a .1 .1 .1 .1 .1 .1 .1 .1 in
+    let z : spare ≡ 0 = omega (arith, low-high (from 0 0) spare (b .0)) in
+    ap₂ (λ (n : ℕ) (vs : List ℕ). firstValues h n ++ vs) z (no-rest (h .own) rest (b .1))
 
-  read-as : (headerFault (headerAt vs) (getD vs 8 0) ≡ 0) × (headerAt vs ≡ h)
-  read-as = by-none 2 0 3 (λ k. k) (headerFault (headerAt vs) (getD vs 8 0)) (headerAt vs) h (sym (header-in n) ∙ e)
+module _ (s : List ℕ) (h : Header) where
+  pub read-holds : readHeader s ≡ given h → Holds s h
+  unfolding rawFault
+  read-holds e =
+      let r = header-read-given s h .0 e in
+      let version : versionIn s ≡ versionOf (h .own) = sym (version-at (headerFields s)) ∙ ap (λ (g : Header). versionOf (g .own)) (r .2) in
+      let values : headerValues h (spareIn s) (restIn s) ≡ headerFields s = ap (λ (g : Header). headerValues g (spareIn s) (restIn s)) (sym (r .2)) ∙ values-at s in
+      let allowed : Allowed (headerLines (versionOf (h .own))) (headerValues h (spareIn s) (restIn s)) =
+      subst (λ (v : Version). Allowed (headerLines v) (headerValues h (spareIn s) (restIn s))) version
+      (subst (λ (l : List ℕ). Allowed (headerLines (versionIn s)) l) (sym values) (r .1)) in
+      let none = no-spare h (spareIn s) (restIn s) allowed in
+      record {
+        long = subst (λ (v : Version). v .size ≤ length s) version (r .0);
+        version = version;
+        fields = sym values ∙ none;
+        fine = all-none 1 (headerLines (versionOf (h .own))) (headerValues h 0 0) (subst (λ (l : List ℕ). Allowed (headerLines (versionOf (h .own))) l) none allowed);
+      }
 
-  spare : getD vs 8 0 ≡ 0
-  spare = no-spare (headerAt vs) (getD vs 8 0) (read-as .0)
+  pub holds-read : Holds s h → readHeader s ≡ given h
+  holds-read t =
+      header-read-given s h .1 (
+        subst (λ (v : Version). v .size ≤ length s) (sym (t .version)) (t .long),
+        subst (λ (v : Version). Allowed (headerLines v) (headerFields s)) (sym (t .version))
+            (subst (λ (l : List ℕ). Allowed (headerLines (versionOf (h .own))) l) (sym (t .fields)) (header-allowed h (t .fine))),
+        ap headerAt (t .fields) ∙ at-values h (header-version h (t .fine)),
+      )
 
-  read-fine : headerFault h 0 ≡ 0
-  read-fine = ap₂ headerFault (sym (read-as .1)) (sym spare) ∙ read-as .0
-
-  read-number : n < 2 ^ total (bytes 12) → headerNumber h ≡ n
-  read-number l =
-      ap₂ (λ (g : Header) (t : ℕ). pack headerWidths (headerValues g t)) (sym (read-as .1)) (sym spare)
-      ∙ ap (pack headerWidths) (values-at n)
-      ∙ pack-unpack-lt headerWidths n l
-
-read-back : (n : ℕ) (h : Header) → n < 2 ^ total (bytes 12) → headerIn n ≡ given h → (headerFault h 0 ≡ 0) × (headerNumber h ≡ n)
-read-back n h l e = (read-fine n h e, read-number n h e l)
-
--- what is written is read again
-pub header-read-again : (h : Header) (o : List ℕ) → writeHeader h o .answer ≡ given tt → readHeader (writeHeader h o .bytes) ≡ given h
-unfolding readHeader writeHeader
-header-read-again h o e = read-again headerCases headerIn headerNumber (λ g. headerFault g 0) number-read read-back h o e
-
-module _ (s : List ℕ) (h : Header) (e : readHeader s ≡ given h) where
   -- what is read has no fault
-  pub header-read-fine : headerFault h 0 ≡ 0
-  unfolding readHeader
-  header-read-fine =
-      let n = pack (bytes 12) (take 12 s) in
-      read-fine n h (slice-long 1 headerCases s (headerIn n) (given h) (λ q. given-refused (sym q)) .0 e .1)
+  pub header-read-fine : readHeader s ≡ given h → headerFault h ≡ 0
+  header-read-fine e = read-holds e .fine
 
-  -- it is written again: the same twelve bytes, and onto those read, nothing changes
-  module _ (fit : Fit (bytes 12) (take 12 s)) where
-    pub header-written-again : (o : List ℕ) → 12 ≤ length o → (writeHeader h o .answer ≡ given tt) × (take 12 (writeHeader h o .bytes) ≡ take 12 s)
-    unfolding readHeader writeHeader
-    header-written-again o l = written-again headerCases headerIn headerNumber (λ g. headerFault g 0) number-read read-back s h fit e o l
+-- ---- what is written is read again
 
-    pub header-written-onto : writeHeader h s .bytes ≡ s
-    unfolding readHeader writeHeader
-    header-written-onto = written-onto headerCases headerIn headerNumber (λ g. headerFault g 0) number-read read-back s h fit e
+-- a header's bytes, whatever follows them, hold it
+pub bytes-hold : (h : Header) (z : List ℕ) → headerFault h ≡ 0 → Holds (headerBytes h ++ z) h
+bytes-hold h z e = record { long = long; version = version; fields = ap₂ (λ (x y : List ℕ). x ++ y) first own; fine = e }
+  where
+    v : Version
+    v = versionOf (h .own)
+
+    s : List ℕ
+    s = headerBytes h ++ z
+
+    ownPart : List ℕ
+    ownPart = unpack (bytes (ownBytes v)) (pack (ownWidths v) (ownValues (h .own) 0))
+
+    long : headerSize h ≤ length s
+    long = omega (arith, length-append (headerBytes h) z, header-bytes-length h)
+
+    first : firstFields s ≡ firstValues h 0
+    first = fields-again firstWidths firstBytes refl (firstValues h 0) (header-fit h e .0)
+
+    version : versionIn s ≡ v
+    version = numbered-own (h .own) (versionField s) (ap (λ (l : List ℕ). getD l 0 0) first ∙ header-version h e)
+
+    own-taken : take (ownBytes v) (drop firstBytes s) ≡ ownPart
+    own-taken = take-at ownPart z (ownBytes v) (length-unpack (bytes (ownBytes v)) (pack (ownWidths v) (ownValues (h .own) 0)) ∙ length-bytes (ownBytes v))
+
+    own : ownFields (versionIn s) s ≡ ownValues (h .own) 0
+    own =
+        ap (λ (w : Version). ownFields w s) version
+        ∙ ap (λ (l : List ℕ). unpack (ownWidths v) (pack (bytes (ownBytes v)) l)) own-taken
+        ∙ fields-again (ownWidths v) (ownBytes v) (regular (h .own) .filled) (ownValues (h .own) 0) (header-fit h e .1)
+
+pub header-read-again : (h : Header) (o : List ℕ) → writeHeader h o .answer ≡ given tt → readHeader (writeHeader h o .bytes) ≡ given h
+header-read-again h o e =
+    let w = header-write-fine h o e in
+    ap readHeader (header-write-bytes h o e) ∙ holds-read (headerBytes h ++ drop (headerSize h) o) h (bytes-hold h (drop (headerSize h) o) (w .1))
+
+-- ---- what is read is written again
+
+-- as many bytes as a version takes are those of the first fields and its own
+two-parts : (o : Own) (l : List ℕ) → Fit (bytes (versionOf o .size)) l → Fit (bytes firstBytes ++ bytes (ownBytes (versionOf o))) l
+two-parts One l f = f
+two-parts (Two s) l f = f
+
+module _ (s : List ℕ) (h : Header) (e : readHeader s ≡ given h) (fit : Fit (bytes (headerSize h)) (take (headerSize h) s)) where
+  abbrev v : Version
+  v = versionOf (h .own)
+
+  t : Holds s h
+  t = read-holds s h e
+
+  in-two : take (headerSize h) s ≡ take firstBytes s ++ take (ownBytes v) (drop firstBytes s)
+  in-two =
+      let whole : firstBytes + ownBytes v ≡ headerSize h = omega (arith, regular (h .own) .least) in
+      ap (λ (n : ℕ). take n s) (sym whole) ∙ take-add firstBytes (ownBytes v) s
+
+  fits : Fit (bytes firstBytes) (take firstBytes s) × Fit (bytes (ownBytes v)) (take (ownBytes v) (drop firstBytes s))
+  fits =
+      let l : length (take firstBytes s) ≡ length (bytes firstBytes) = length-take-le firstBytes s (omega (arith, regular (h .own) .least, t .long)) in
+      fit-parts (bytes firstBytes) (bytes (ownBytes v)) (take firstBytes s) (take (ownBytes v) (drop firstBytes s)) l
+      (subst (Fit (bytes firstBytes ++ bytes (ownBytes v))) in-two (two-parts (h .own) (take (headerSize h) s) fit))
+
+  -- the values are the fields, part by part
+  parts : (firstFields s ≡ firstValues h 0) × (ownFields v s ≡ ownValues (h .own) 0)
+  parts =
+      let all : firstFields s ++ ownFields v s ≡ firstValues h 0 ++ ownValues (h .own) 0 = ap (λ (w : Version). firstFields s ++ ownFields w s) (sym (t .version)) ∙ t .fields in
+      (ap (take 9) all, ap (drop 9) all)
+
+  -- a header's bytes are those that it was read of
+  pub header-bytes-same : headerBytes h ≡ take (headerSize h) s
+  header-bytes-same =
+      ap₂ (λ (x y : List ℕ). unpack (bytes firstBytes) (pack firstWidths x) ++ unpack (bytes (ownBytes v)) (pack (ownWidths v) y)) (sym (parts .0)) (sym (parts .1))
+      ∙ ap₂ (λ (x y : List ℕ). x ++ y)
+      (bytes-again firstWidths firstBytes refl (take firstBytes s) (fits .0))
+      (bytes-again (ownWidths v) (ownBytes v) (regular (h .own) .filled) (take (ownBytes v) (drop firstBytes s)) (fits .1))
+      ∙ sym in-two
+
+  -- it is written again: the same bytes, and onto those read, nothing changes
+  pub header-written-again : (o : List ℕ) → headerSize h ≤ length o → (writeHeader h o .answer ≡ given tt) × (take (headerSize h) (writeHeader h o .bytes) ≡ take (headerSize h) s)
+  header-written-again o l =
+      let fine = header-write-given h o .1 (l, header-allowed h (t .fine)) in
+      (fine, ap (take (headerSize h)) (header-write-bytes h o fine) ∙ take-at (headerBytes h) (drop (headerSize h) o) (headerSize h) (header-bytes-length h) ∙ header-bytes-same)
+
+  pub header-written-onto : writeHeader h s .bytes ≡ s
+  header-written-onto =
+      header-write-bytes h s (header-written-again s (t .long) .0)
+      ∙ ap (λ (x : List ℕ). x ++ drop (headerSize h) s) header-bytes-same
+      ∙ take-append-drop (headerSize h) s

@@ -1,20 +1,27 @@
 -- The header: its values and their fields, and what the absence of a fault gives.
 -- Assumes nothing.
 use Prim.Native.Nat.{ℕ, zero, suc, _≤_, _<_}
-use mathlib.Core.Path.{_≡_, refl, sym, ap}
+use mathlib.Core.Path.{_≡_, refl, sym, ap₂}
 use mathlib.Core.Bool.{Bool, true, false, cond}
-use mathlib.Core.List.{List}
+use mathlib.Core.List.{List, _++_}
 use native.Mathlib.Omega.{arith}
 use native.Mathlib.Nat.{mod-lt}
-use lib.ListN.{length, getD, take}
+use lib.ListN.{length, getD}
 use lib.Dec.{eqb}
+use borrow.Author.Tests.{eq-eqb}
 use Rattle.quantity.specs.Range.{within, from}
-use Rattle.layout.specs.Layout.{unpack, Fit, pack, bytes}
+use Rattle.layout.specs.Layout.{Fit}
+use Rattle.layout.specs.Laws.{fit-parts}
 use Rattle.layout.specs.Line.{among, Allowed, faultFrom}
 use Rattle.layout.specs.LineLaws.{none-all, allowed-fit, low-high, among-below}
 use Rattle.sheet.specs.declared.Header.{Header}
-use Rattle.sheet.specs.Lines.{headerLines, headerWidths, waves}
-use Rattle.sheet.specs.Header.{headerValues, headerAt, headerFault, headerIn}
+use Rattle.sheet.specs.declared.Own.{Own}
+use Rattle.sheet.specs.declared.Own.the-variants.{One, Two}
+use Rattle.sheet.specs.declared.Section.{Section}
+use Rattle.sheet.specs.Versions.{Version, hullModulus, one, two, numbered, versionOf}
+use Rattle.sheet.specs.VersionLaws.{regular}
+use Rattle.sheet.specs.Lines.{headerLines, firstWidths, ownWidths, waves}
+use Rattle.sheet.specs.Header.{innerOf, firstValues, ownValues, headerValues, headerAt, rawFault, headerFault, firstFields, ownFields, versionField, versionIn, headerFields, headerOf}
 use Rattle.sheet.specs.Ranges.{HeaderRanges}
 use Rattle.sheet.specs.Refusals.{given, headerRefused}
 
@@ -32,36 +39,82 @@ flag-written zero h = refl
 flag-written (suc zero) h = refl
 flag-written (suc (suc x)) h = absurd (omega arith)
 
--- the values of the header that a number's fields are are those fields
-pub values-at : (n : ℕ) → let vs = unpack headerWidths n in headerValues (headerAt vs) (getD vs 8 0) ≡ vs
-values-at n = let vs = unpack headerWidths n in rw (flag-written (getD vs 4 0) (mod-lt _ (omega arith)))
+-- ---- the fields in bytes
 
--- reading a number goes by the fault of the header in it
-pub header-in : (n : ℕ) → let vs = unpack headerWidths n in headerIn n ≡ headerRefused (headerFault (headerAt vs) (getD vs 8 0)) (given (headerAt vs))
-unfolding headerIn headerFault
-header-in n =
-    let vs = unpack headerWidths n in
-    ap (λ (l : List ℕ). headerRefused (faultFrom 1 headerLines l) (given (headerAt vs))) (sym (values-at n))
+-- the version of the header that values are goes by their first
+pub version-at : (vs : List ℕ) → versionOf (headerAt vs .own) ≡ numbered (getD vs 0 0)
+version-at vs = go (eqb (getD vs 0 0) (two .number)) _
+  where
+    go : (t : Bool) (s : Section) → versionOf (cond t (Two s) One) ≡ cond t two one
+    go true s = refl
+    go false s = refl
+
+module _ (s : List ℕ) where
+  -- by whether the version is the second
+  abbrev fieldsAs : Bool → List ℕ
+  fieldsAs t = firstFields s ++ ownFields (cond t two one) s
+
+  -- there are as many fields as lines
+  pub fields-lines : length (headerFields s) ≡ length (headerLines (versionIn s))
+  fields-lines = go (eqb (versionField s) (two .number))
+    where
+      go : (t : Bool) → length (fieldsAs t) ≡ length (headerLines (cond t two one))
+      go true = refl
+      go false = refl
+
+  -- what stands in the bits that carry nothing
+  abbrev pub spareIn : ℕ
+  spareIn = getD (headerFields s) 8 0
+
+  abbrev pub restIn : ℕ
+  restIn = getD (headerFields s) 11 0
+
+  -- the values of the header that the fields are are those fields
+  pub values-at : headerValues (headerOf s) spareIn restIn ≡ headerFields s
+  values-at = rw (flag-written (getD (firstFields s) 4 0) (mod-lt _ (omega arith))) (go (eqb (versionField s) (two .number)))
+    where
+      section : List ℕ → Own
+      section us = Two (record { «inner_modulus» = getD us 0 0; depth = record { 0 = getD us 1 0 } })
+
+      go : (t : Bool) → firstFields s ++ ownValues (cond t (section (ownFields (cond t two one) s)) One) (getD (fieldsAs t) 11 0) ≡ fieldsAs t
+      go true = refl
+      go false = refl
+
+  -- reading goes by the fault of the header there
+  pub read-fault : faultFrom 1 (headerLines (versionIn s)) (headerFields s) ≡ rawFault (headerOf s) spareIn restIn
+  unfolding rawFault
+  read-fault = sym (ap₂ (λ (v : Version) (vs : List ℕ). faultFrom 1 (headerLines v) vs) (version-at (headerFields s)) values-at)
 
 -- ---- a header with no fault
 
-module _ (h : Header) (spare : ℕ) (e : headerFault h spare ≡ 0) where
-  pub header-allowed : Allowed headerLines (headerValues h spare)
-  unfolding headerFault
-  header-allowed = none-all 0 headerLines (headerValues h spare) e
+module _ (h : Header) (e : headerFault h ≡ 0) where
+  pub header-allowed : Allowed (headerLines (versionOf (h .own))) (headerValues h 0 0)
+  unfolding rawFault
+  header-allowed = none-all 0 (headerLines (versionOf (h .own))) (headerValues h 0 0) e
+
+  -- its version is that of what it holds of its own
+  pub header-version : h .version ≡ versionOf (h .own) .number
+  header-version = let n = versionOf (h .own) .number in omega (arith, low-high (from n n) (h .version) (header-allowed .0))
 
   wave : (x : ℕ) → among waves x ≡ true → x ≤ 120
   wave x a = omega (arith, among-below 121 waves x refl a)
+
+  -- the inner bottom's modulus is within the values of ZDB, which are those of ZB
+  inner : (ZB : ℕ) → within hullModulus ZB ≡ true → (o : Own) → Allowed (versionOf o .lines) (ownValues o 0) → within hullModulus (innerOf ZB o) ≡ true
+  inner ZB a One b = a
+  inner ZB a (Two s) b = b .0
 
   -- its numbers are within their ranges
   pub header-ranges : HeaderRanges h
   header-ranges =
       let a = header-allowed in
+      let from-M = a .1 .1 .1 .1 .1 in
       let length = low-high _ _ (a .1 .0) in
       let draught = low-high _ _ (a .1 .1 .0) in
-      let moment = low-high _ _ (a .1 .1 .1 .1 .1 .0) in
-      let modulus = low-high _ _ (a .1 .1 .1 .1 .1 .1 .0) in
-      let count = low-high _ _ (a .1 .1 .1 .1 .1 .1 .1 .0) in
+      let moment = low-high _ _ (from-M .0) in
+      let modulus = low-high hullModulus (h .«bottom_modulus») (from-M .1 .0) in
+      let inside = low-high _ _ (inner (h .«bottom_modulus») (from-M .1 .0) (h .own) (from-M .1 .1 .1 .1)) in
+      let count = low-high _ _ (from-M .1 .1 .0) in
       record {
         length-low = length .0;
         length-high = length .1;
@@ -71,15 +124,37 @@ module _ (h : Header) (spare : ℕ) (e : headerFault h spare ≡ 0) where
         moment-high = moment .1;
         modulus-low = modulus .0;
         modulus-high = modulus .1;
+        inner-low = inside .0;
+        inner-high = inside .1;
         count-high = count .1;
+        count-few = omega (arith, count .1, regular (h .own) .few);
       }
 
--- and they fit their fields
-pub header-fit : (h : Header) → headerFault h 0 ≡ 0 → Fit headerWidths (headerValues h 0)
-header-fit h e = allowed-fit headerLines (headerValues h 0) refl (header-allowed h 0 e)
+-- and they fit their fields: those that every version has, and its own
+pub header-fit : (h : Header) → headerFault h ≡ 0 → Fit firstWidths (firstValues h 0) × Fit (ownWidths (versionOf (h .own))) (ownValues (h .own) 0)
+header-fit h e =
+    let v = versionOf (h .own) in
+    fit-parts firstWidths (ownWidths v) (firstValues h 0) (ownValues (h .own) 0) refl
+    (allowed-fit (headerLines v) (headerValues h 0 0) (regular (h .own) .fit) (header-allowed h e))
 
--- ---- reading
+-- the values of a header with no fault are that header
+pub at-values : (h : Header) → h .version ≡ versionOf (h .own) .number → headerAt (headerValues h 0 0) ≡ h
+at-values h = go (h .own)
+  where
+    with-own : Own → Header
+    with-own o =
+        record {
+          version = h .version;
+          length = h .length;
+          draught = h .draught;
+          wave = h .wave;
+          «two_runs» = h .«two_runs»;
+          moment = h .moment;
+          «bottom_modulus» = h .«bottom_modulus»;
+          count = h .count;
+          own = o;
+        }
 
--- the fields in the first twelve bytes
-abbrev pub headerFields : List ℕ → List ℕ
-headerFields s = unpack headerWidths (pack (bytes 12) (take 12 s))
+    go : (o : Own) → h .version ≡ versionOf o .number → headerAt (headerValues (with-own o) 0 0) ≡ with-own o
+    go One e = rw (flag-read (h .«two_runs»), e)
+    go (Two s) e = rw (flag-read (h .«two_runs»), e)

@@ -1,4 +1,5 @@
 pub mod Kinds
+pub mod Versions
 pub mod Lines
 pub mod Refusals
 pub mod Writes
@@ -9,6 +10,7 @@ pub mod RefusalLaws
 pub mod HeaderLaws
 pub mod RecordLaws
 pub mod Exactly
+pub mod VersionLaws
 pub mod Written
 pub mod HeaderExactly
 pub mod RecordExactly
@@ -18,4 +20,5 @@ pub mod RecordBack
 pub mod FirstNamed
 pub mod Only
 pub mod FirstByte
+pub mod HeaderFront
 pub mod OwnBytes

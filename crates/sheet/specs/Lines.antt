@@ -4,6 +4,7 @@ use mathlib.Core.Bool.{Bool, false, cond}
 use mathlib.Core.List.{List, [], _∷_}
 use Rattle.quantity.specs.Range.{Range, from, span, spacing, thickness, modulus, shearArea, steelFactor}
 use Rattle.layout.specs.Line.{Line, line, zeros, widths}
+use Rattle.sheet.specs.Versions.{Version, hullModulus, one}
 use Rattle.sheet.specs.Kinds.{isLong, isBottom, isFloor, isDeep}
 
 -- one range where a test holds, else another
@@ -22,9 +23,9 @@ waves = from 0 0 ∷ from 60 60 ∷ from 120 120 ∷ []
 abbrev pub ruleLength : Range
 ruleLength = from 4000 (span .high)
 
--- the number of records n
-abbrev pub counts : Range
-counts = from 0 400
+-- the number of records n, by the version
+abbrev pub counts : Version → Range
+counts v = from 0 (v .most)
 
 -- the id of a record
 abbrev pub ids : Range
@@ -38,19 +39,19 @@ plateSpacing = from (spacing .low) 2000
 abbrev pub sides : Range
 sides = from 10 1000
 
--- the header: version, L, D0, H, runs, M, ZB, n, zero
-abbrev pub headerLines : List Line
-headerLines =
-    line 4 (from 1 1)
+-- the header: version, L, D0, H, runs, M, ZB, n, zero, and what the version has of its own
+abbrev pub headerLines : Version → List Line
+headerLines v =
+    line 4 (from (v .number) (v .number))
     ∷ line 14 ruleLength
     ∷ line 10 (from 1 1000)
     ∷ record { width = 8; values = waves }
     ∷ line 1 (from 0 1)
     ∷ line 20 (from 0 1000000)
-    ∷ line 27 (from 1 100000000)
-    ∷ line 9 counts
+    ∷ line 27 hullModulus
+    ∷ line 9 (counts v)
     ∷ zeros 3
-    ∷ []
+    ∷ v .lines
 
 -- a plate: kind, id, K, z, S, T, b1, b2, ballast, zL, cargo pressure, zero; kinds 2 and 4 carry no b1 and b2, kinds 1 and 2 no cargo, and zL is
 -- from z to 1200 with ballast
@@ -96,8 +97,11 @@ abbrev pub memberLines : (kind : ℕ) → List Line
 memberLines kind = memberTable (isDeep kind) (isFloor kind)
 
 -- the widths alone, which rest on no field
-abbrev pub headerWidths : List ℕ
-headerWidths = widths headerLines
+abbrev pub firstWidths : List ℕ
+firstWidths = widths (headerLines one)
+
+abbrev pub ownWidths : Version → List ℕ
+ownWidths v = widths (v .lines)
 
 abbrev pub plateWidths : List ℕ
 plateWidths = widths (plateLines 1 false 0)

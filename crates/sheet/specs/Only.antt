@@ -1,9 +1,10 @@
 -- Two results that meet a promise of the crates `sheet`, `header` and `record` are equal.
 -- Assumes nothing.
 use Prim.Native.Nat.{ℕ}
-use mathlib.Core.Path.{_≡_, sym, _∙_}
+use mathlib.Core.Path.{_≡_, sym, ap, ap₂, _∙_}
 use mathlib.Core.List.{List}
 use Rattle.sheet.specs.declared.Header.{Header}
+use Rattle.sheet.specs.declared.Version.{Version as Told}
 use Rattle.sheet.specs.declared.Record.{Record}
 use Rattle.sheet.specs.declared.Raw.{Raw}
 use Rattle.sheet.specs.declared.Outcome.{Outcome}
@@ -12,7 +13,8 @@ use Rattle.sheet.specs.declared.HeaderRead.{HeaderRead}
 use Rattle.sheet.specs.declared.RecordRead.{RecordRead}
 use Rattle.sheet.specs.Refusals.{given, numberOf, placeOf, toldOutcome, toldHeader, toldRecord, headerRefused, recordRefused, Wrote}
 use Rattle.sheet.specs.RefusalLaws.{outcome-only, header-only, record-only}
-use Rattle.sheet.specs.Header.{headerFault, readHeader, writeHeader}
+use Rattle.sheet.specs.Versions.{Version, IsVersion}
+use Rattle.sheet.specs.Header.{headerSize, innerModulus, headerFault, readHeader, writeHeader}
 use Rattle.layout.specs.Bytes.{readOf}
 use Rattle.sheet.specs.RecordLaws.{rawAt}
 use Rattle.sheet.specs.Record.{recordFault, readRecord, writeRecord}
@@ -30,8 +32,19 @@ pub write-header-only : (h : Header) (o : List ℕ) (a b : Outcome) (x y : List 
 write-header-only h o = writes-only (writeHeader h o)
 
 pub header-fault-only : (h : Header) (a b : Outcome)
-    → toldOutcome a ≡ headerRefused (headerFault h 0) (given tt) → toldOutcome b ≡ headerRefused (headerFault h 0) (given tt) → a ≡ b
-header-fault-only h = outcome-only (headerRefused (headerFault h 0) (given tt))
+    → toldOutcome a ≡ headerRefused (headerFault h) (given tt) → toldOutcome b ≡ headerRefused (headerFault h) (given tt) → a ≡ b
+header-fault-only h = outcome-only (headerRefused (headerFault h) (given tt))
+
+pub version-only : (v : Version) (a b : Told) → IsVersion a v → IsVersion b v → a ≡ b
+version-only v a b p q =
+    ap₂ {C = Told} (λ k s. record { number = k; size = s; most = a .most }) (p .number ∙ sym (q .number)) (p .size ∙ sym (q .size))
+    ∙ ap (λ (m : ℕ). record { number = b .number; size = b .size; most = m }) (p .most ∙ sym (q .most))
+
+pub size-only : (h : Header) (a b : ℕ) → a ≡ headerSize h → b ≡ headerSize h → a ≡ b
+size-only h a b p q = p ∙ sym q
+
+pub inner-modulus-only : (h : Header) (a b : ℕ) → a ≡ innerModulus h → b ≡ innerModulus h → a ≡ b
+inner-modulus-only h a b p q = p ∙ sym q
 
 -- `read_record_as`; `read_record` at i = 0
 pub read-record-only : (i : ℕ) (s : List ℕ) (a b : RecordRead) → toldRecord a ≡ readRecord i s → toldRecord b ≡ readRecord i s → a ≡ b

@@ -4,7 +4,9 @@ use mathlib.Core.Path.{_≡_}
 use mathlib.Core.Bool.{true, false}
 use Rattle.quantity.specs.Range.{thickness, spacing, modulus, shearArea, steelFactor}
 use Rattle.sheet.specs.Kinds.{isLong}
-use Rattle.sheet.specs.Lines.{ruleLength, counts, plateSpacing, sides}
+use Rattle.sheet.specs.Versions.{hullModulus, versionOf, mostRecords}
+use Rattle.sheet.specs.Lines.{ruleLength, plateSpacing, sides}
+use Rattle.sheet.specs.Header.{innerModulus}
 use Rattle.sheet.specs.declared.Header.{Header}
 use Rattle.sheet.specs.declared.Plate.{Plate}
 use Rattle.sheet.specs.declared.Member.{Member}
@@ -16,9 +18,12 @@ pub record HeaderRanges (h : Header) : Type 0 where
   pub draught-high : h .draught .0 ≤ 1000
   pub wave-high : h .wave .0 ≤ 120
   pub moment-high : h .moment ≤ 1000000
-  pub modulus-low : 1 ≤ h .«bottom_modulus»
-  pub modulus-high : h .«bottom_modulus» ≤ 100000000
-  pub count-high : h .count ≤ counts .high
+  pub modulus-low : hullModulus .low ≤ h .«bottom_modulus»
+  pub modulus-high : h .«bottom_modulus» ≤ hullModulus .high
+  pub inner-low : hullModulus .low ≤ innerModulus h
+  pub inner-high : innerModulus h ≤ hullModulus .high
+  pub count-high : h .count ≤ versionOf (h .own) .most
+  pub count-few : h .count ≤ mostRecords
 
 pub record PlateRanges (kind : ℕ) (p : Plate) : Type 0 where
   pub kind-low : 1 ≤ kind

@@ -8,8 +8,10 @@ use quantity::SteelFactor;
 use quantity::Thickness;
 ghost use mathlib.Core.Path.{_≡_};
 ghost use Rattle.sheet.specs.Refusals.{numberOf, placeOf};
+ghost use Rattle.sheet.specs.Versions.{IsVersion, versionOf};
+ghost use Rattle.sheet.specs.Header.{headerSize, innerModulus};
 
-// The header of version 1.
+// A header: what every version holds, and what its own version holds besides.
 pub struct Header {
     pub version: u8,
     // L
@@ -25,6 +27,70 @@ pub struct Header {
     pub bottom_modulus: u32,
     // n
     pub count: u16,
+    pub own: Own,
+}
+
+// What each version holds of its own: version 1 nothing, version 2 two numbers of the midship section. A case that is not the version's can be held, so
+// that writing can refuse it.
+pub enum Own {
+    One,
+    Two(Section),
+}
+
+pub struct Section {
+    // ZDB, cm³
+    pub inner_modulus: u32,
+    pub depth: Span,
+}
+
+// A version of the header: its number, how many bytes the header takes, and the most records that it counts.
+pub struct Version {
+    pub number: u8,
+    pub size: usize,
+    pub most: u16,
+}
+
+impl Own {
+    // The version that holds this.
+    pub fn version(self) -> Version
+        ensures { λ r. ⌜ IsVersion r (versionOf self) ⌝ }
+    {
+        match self {
+            Own::One => Version {
+                number: 1,
+                size: 12,
+                most: 400,
+            },
+            Own::Two(_) => Version {
+                number: 2,
+                size: 20,
+                most: 400,
+            },
+        }
+    }
+}
+
+impl Header {
+    // How many bytes the header takes.
+    pub fn size(self) -> usize
+        ensures { λ r. ⌜ r ≡ headerSize self ⌝ }
+    {
+        let own = self.own;
+        let version = own.version();
+        version.size
+    }
+
+    // The modulus of the inner bottom: ZDB, and ZB where the header has none.
+    pub fn inner_modulus(self) -> u32
+        ensures { λ r. ⌜ r ≡ innerModulus self ⌝ }
+    {
+        let bottom = self.bottom_modulus;
+        let own = self.own;
+        match own {
+            Own::One => bottom,
+            Own::Two(section) => section.inner_modulus,
+        }
+    }
 }
 
 // What a record of kind 1 to 4 carries.

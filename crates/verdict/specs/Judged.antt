@@ -22,4 +22,4 @@ toldJudged (notJudged r) = told r
 
 -- 2 and 3 for the header, then 6 and 7 for the record as record 0, and else what is given
 unfoldable pub judgedBy : {A : Type 0} → Header → Record → A → Answer A
-judgedBy h r a = headerRefused (headerFault h 0) (recordRefused 0 (recordFault r 0) (given a))
+judgedBy h r a = headerRefused (headerFault h) (recordRefused 0 (recordFault r 0) (given a))

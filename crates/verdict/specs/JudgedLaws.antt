@@ -19,7 +19,7 @@ use Rattle.verdict.specs.Judged.{Finding, toldJudged, judgedBy}
 
 -- neither the header nor the record is at fault
 pub record Sound (h : Header) (r : Record) : Type 0 where
-  pub header : headerFault h 0 ≡ 0
+  pub header : headerFault h ≡ 0
   pub body : recordFault r 0 ≡ 0
 
 -- the tests that the answer goes by
@@ -49,12 +49,12 @@ module _ (h : Header) (r : Record) where
   pub given-sound : {A : Type 0} (a b : A) → judgedBy h r a ≡ given b → Sound h r
   unfolding judgedBy
   given-sound a b e =
-      let s = tested-given (eqb (headerFault h 0) 0) (eqb (headerFault h 0) 1) (eqb (recordFault r 0) 0) (eqb (recordFault r 0) 1) (headerFault h 0) (32 * 0 + recordFault r 0) a b e in
+      let s = tested-given (eqb (headerFault h) 0) (eqb (headerFault h) 1) (eqb (recordFault r 0) 0) (eqb (recordFault r 0) 1) (headerFault h) (32 * 0 + recordFault r 0) a b e in
       record { header = eqb-true _ _ (s .0); body = eqb-true _ _ (s .1) }
 
   pub sound-given : {A : Type 0} (a : A) → Sound h r → judgedBy h r a ≡ given a
   unfolding judgedBy
-  sound-given a s = rw (eq-eqb (headerFault h 0) 0 (s .header), eq-eqb (recordFault r 0) 0 (s .body))
+  sound-given a s = rw (eq-eqb (headerFault h) 0 (s .header), eq-eqb (recordFault r 0) 0 (s .body))
 
   -- so with what was found, part by part
   pub found-given : {v w : Verdict} {m n : ℕ} → Sound h r → v ≡ w → m ≡ n
@@ -65,7 +65,7 @@ module _ (h : Header) (r : Record) where
   pub refused-same : {A B : Type 0} (a : A) (b : B) (k p : ℕ) → judgedBy h r a ≡ refused k p → judgedBy h r b ≡ refused k p
   unfolding judgedBy
   refused-same a b k p e =
-      tested-refused (eqb (headerFault h 0) 0) (eqb (headerFault h 0) 1) (eqb (recordFault r 0) 0) (eqb (recordFault r 0) 1) (headerFault h 0) (32 * 0 + recordFault r 0) a b k p e
+      tested-refused (eqb (headerFault h) 0) (eqb (headerFault h) 1) (eqb (recordFault r 0) 0) (eqb (recordFault r 0) 1) (headerFault h) (32 * 0 + recordFault r 0) a b k p e
 
 -- two answers that say the same are equal
 pub judged-only : (a : Answer Finding) (i j : Judged) → toldJudged i ≡ a → toldJudged j ≡ a → i ≡ j
@@ -78,17 +78,17 @@ judged-only a (notJudged r) (notJudged s) p q = ap notJudged (refusal-only r s (
 
 -- the header goes first
 module _ (h : Header) (r : Record) where
-  pub header-first : (k p : ℕ) → headerRefused (headerFault h 0) (given (tt {0})) ≡ refused k p → judgedBy h r (tt {0}) ≡ refused k p
+  pub header-first : (k p : ℕ) → headerRefused (headerFault h) (given (tt {0})) ≡ refused k p → judgedBy h r (tt {0}) ≡ refused k p
   unfolding judgedBy
-  header-first k p e = go (eqb (headerFault h 0) 0) e
+  header-first k p e = go (eqb (headerFault h) 0) e
     where
       rest : Answer (Unit {0})
-      rest = cond (eqb (headerFault h 0) 1) (refused 2 0) (refused 3 (headerFault h 0))
+      rest = cond (eqb (headerFault h) 1) (refused 2 0) (refused 3 (headerFault h))
 
       go : (t : Bool) → cond t (given (tt {0})) rest ≡ refused k p → cond t (recordRefused 0 (recordFault r 0) (given (tt {0}))) rest ≡ refused k p
       go true e = given-refused e
       go false e = e
 
-  pub then-record : headerRefused (headerFault h 0) (given (tt {0})) ≡ given (tt {0}) → recordRefused 0 (recordFault r 0) (given (tt {0})) ≡ judgedBy h r (tt {0})
+  pub then-record : headerRefused (headerFault h) (given (tt {0})) ≡ given (tt {0}) → recordRefused 0 (recordFault r 0) (given (tt {0})) ≡ judgedBy h r (tt {0})
   unfolding judgedBy
-  then-record e = rw (eq-eqb (headerFault h 0) 0 (by-none 2 0 3 (λ k. k) (headerFault h 0) (tt {0}) (tt {0}) e .0))
+  then-record e = rw (eq-eqb (headerFault h) 0 (by-none 2 0 3 (λ k. k) (headerFault h) (tt {0}) (tt {0}) e .0))

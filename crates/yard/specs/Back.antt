@@ -31,7 +31,7 @@ use Rattle.yard.specs.Writing.{writeHeaderNumbers, writeRecordNumbers}
 
 -- writing a header's own numbers is writing the header
 pub header-as-numbers : (h : Header) (o : List ℕ) → writeHeaderNumbers (headerNumbers h) o ≡ writeHeader h o
-unfolding writeHeaderNumbers writeHeader headerNumbersFault headerFault
+unfolding writeHeaderNumbers writeHeader headerNumbersFault rawFault
 header-as-numbers h o = rw (flag-read (h .«two_runs»))
 
 -- writing numbers with no fault is writing the header that they are

@@ -34,10 +34,10 @@ module _ (c : tie.After-header-fault) where
   more : c .before .counted .result ≡ counting (start-of .args .h .count + 1) (start-of .args .h)
   more = c .before .counted .ensures
 
-  tested : toldOutcome (c .header-fault .result) ≡ headerRefused (headerFault (counting (start-of .args .h .count + 1) (start-of .args .h)) 0) (given (tt {0}))
-  tested = c .header-fault .ensures ∙ ap (λ (g : Header). headerRefused (headerFault g 0) (given (tt {0}))) more
+  tested : toldOutcome (c .header-fault .result) ≡ headerRefused (headerFault (counting (start-of .args .h .count + 1) (start-of .args .h))) (given (tt {0}))
+  tested = c .header-fault .ensures ∙ ap (λ (g : Header). headerRefused (headerFault g) (given (tt {0}))) more
 
-  sound : headerFault (start-of .args .h) 0 ≡ 0
+  sound : headerFault (start-of .args .h) ≡ 0
   sound = its-header (now (start-of .args .buf)) (start-of .args .len) (start-of .args .h) (start-of .pre .0)
 
   room : start-of .args .len + 16 ≤ length (now (start-of .args .buf))
@@ -53,7 +53,7 @@ returns-2 c =
     (at-highest (a .h) (a .h .count) (sound f) (a .len) (length b) _ _ (room f) (sym (ap toldOutcome (c .enum-told .given .1)) ∙ tested f))
 
 -- none of the header's fields is at fault, and n is below its highest
-fine : (c : tie.After-enum-told2) → let a = start-of (c .before .before) .args in (headerFault (counting (a .h .count + 1) (a .h)) 0 ≡ 0) × (a .h .count < counts .high)
+fine : (c : tie.After-enum-told2) → let a = start-of (c .before .before) .args in (headerFault (counting (a .h .count + 1) (a .h)) ≡ 0) × (a .h .count < counts .high)
 fine c =
     let f = c .before .before in
     let a = start-of f .args in
@@ -66,7 +66,7 @@ insert-requires c κs =
     let a = s .args in
     let b = now (a .buf) in
     record {
-      header = ap (λ (g : Header). headerFault g 0) (more f) ∙ fine (c .before) .0;
+      header = ap (λ (g : Header). headerFault g) (more f) ∙ fine (c .before) .0;
       sound = s .pre .1;
       inside = omega (arith, within s .0, s .pre .2, place-most b (a .len) (a .h) (s .pre .0) (a .r .id));
       room = room f;

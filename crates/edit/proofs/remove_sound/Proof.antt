@@ -39,7 +39,7 @@ take-out-requires c κs =
     let s = from-has (t .before) in
     let a = s .args in
     record {
-      header = ap (λ (g : Header). headerFault g 0) (c .before .counted .ensures)
+      header = ap (λ (g : Header). headerFault g) (c .before .counted .ensures)
           ∙ counting-sound (a .h) _ (its-header (now (a .buf)) (a .len) (a .h) (s .pre)) (omega (arith, within s .2));
       inside = omega (arith, within s .0, below t);
       whole = within s .1;

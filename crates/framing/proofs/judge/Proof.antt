@@ -36,7 +36,7 @@ member-verdict-requires : tie.Need-member-verdict-requires
 member-verdict-requires c κs =
     let a = c .before .before .before .before .args in
     let s = sound (c .before) in
-    (header-ranges (a .h) 0 (s .header), member-ranges (a .kind) (a .id) (a .m) (s .body), load-pressure c)
+    (header-ranges (a .h) (s .header), member-ranges (a .kind) (a .id) (a .m) (s .body), load-pressure c)
 
 returns-2 : tie.Need-returns-2
 returns-2 c =

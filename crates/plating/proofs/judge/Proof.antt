@@ -36,7 +36,7 @@ plate-verdict-requires : tie.Need-plate-verdict-requires
 plate-verdict-requires c κs =
     let a = c .before .before .before .before .args in
     let s = sound (c .before) in
-    (header-ranges (a .h) 0 (s .header), plate-ranges (a .kind) (a .id) (a .p) 0 (s .body), load-pressure c)
+    (header-ranges (a .h) (s .header), plate-ranges (a .kind) (a .id) (a .p) 0 (s .body), load-pressure c)
 
 returns-2 : tie.Need-returns-2
 returns-2 c =
