@@ -240,6 +240,7 @@ pub fn write_header(h: Header, out: &mut [u8]) -> Outcome
         return Outcome::Refused(refuse(f));
     }
     layout::write_short(out, number_of(h));
-    write_own(h.own, &mut out[FIRST..]);
+    let own = h.own;
+    write_own(own, &mut out[FIRST..]);
     Outcome::Fine
 }

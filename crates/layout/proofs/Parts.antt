@@ -1,20 +1,15 @@
--- A part that goes to the end of its slice, and two words side by side. Assumes nothing.
+-- Two words side by side.
+-- Assumes nothing.
 use Prim.Native.Nat.{ℕ, _+_, _-_, _*_, _^_, _≤_, _<_}
 use mathlib.Core.Path.{_≡_, sym, ap, ap₂, _∙_}
-use mathlib.Core.List.{List, _++_, append-assoc, append-nil}
+use mathlib.Core.List.{List, _++_, append-assoc}
 use native.Mathlib.Omega.{arith}
-use lib.ListN.{length, take, drop, length-drop, drop-of-length-le}
-use lib.Seq.{take-all, take-add, drop-drop, length-take-le}
+use lib.ListN.{length, take, drop}
+use lib.Seq.{take-add, drop-drop, length-take-le}
 use borrow.Rule.Slice.PartMut.{midOf, putMid}
 use Rattle.layout.specs.Layout.{total, pack, unpack, bytes}
+use Rattle.layout.specs.Tail.{mid-tail, put-tail}
 use Rattle.layout.specs.Laws.{pack-append, unpack-append, length-bytes}
-
-mid-tail : (a : ℕ) (xs : List ℕ) → midOf a (length xs - a) xs ≡ drop a xs
-mid-tail a xs = take-all (length xs - a) (drop a xs) (omega (arith, length-drop a xs))
-
-put-tail : (a : ℕ) (xs ys : List ℕ) → a ≤ length xs → putMid a (length xs - a) xs ys ≡ take a xs ++ ys
-put-tail a xs ys h =
-    ap (λ (t : List ℕ). take a xs ++ (ys ++ t)) (drop-of-length-le (drop a xs) {i = length xs - a} (omega (arith, length-drop a xs))) ∙ ap (λ (t : List ℕ). take a xs ++ t) (append-nil ys)
 
 -- the bytes of a first part and of a second make the bytes' number together
 pub get-law : (a b : ℕ) (s : List ℕ) → a + b ≤ length s

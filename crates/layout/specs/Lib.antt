@@ -4,4 +4,5 @@ pub mod Bytes
 pub mod BytesLaws
 pub mod Line
 pub mod LineLaws
+pub mod Tail
 pub mod Only

@@ -1,21 +1,23 @@
 -- `header::fault` meets its contract: the lines from the last to the first.
 -- Assumes nothing.
 use borrow.Author.Needs.{needs}
-use Rattle.sheet.specs.Header.{headerFault}
+use Rattle.sheet.specs.Header.{rawFault}
 use Rattle.sheet.specs.HeaderLaws.{flag-within}
 use Rattle.header.proofs.fault.Statement.{statement}
 use Rattle.header.proofs.fault.Tie as tie
 
 returns : tie.Need-returns
-unfolding headerFault
+unfolding rawFault
 returns c =
-    let c₂ = c .before .before in
+    let c₂ = c .before .before .before in
     let c₃ = c₂ .before .before in
     let c₄ = c₃ .before .before in
     let c₆ = c₄ .before in
     let c₇ = c₆ .before in
     let c₈ = c₇ .before in
-    let c₉ = c₈ .before .before in
+    let c₉ = c₈ .before .before .before in
+    let own = c₉ .before in
+    let version = own .before in
     rw (
       c .fault-unless7 .ensures,
       c₂ .fault-unless6 .ensures,
@@ -25,7 +27,10 @@ returns c =
       c₇ .fault-unless3 .ensures,
       c₈ .fault-unless2 .ensures,
       c₉ .fault-unless .ensures,
-      flag-within (c₉ .before .args .h .«two_runs»),
+      own .own-fault .ensures,
+      version .version .ensures .number,
+      version .version .ensures .most,
+      flag-within (version .before .args .h .«two_runs»),
     )
 
 pub fault-spec : {M : Type 1} → statement M
@@ -33,6 +38,9 @@ fault-spec =
     tie.close
     (tie.spec
     (λ c κs. search needs)
+    (λ c κs. search needs)
+    (λ c κs. search needs)
+    (λ c. search needs)
     (λ c. search needs)
     (λ c κs. search needs)
     (λ c κs. search needs)
@@ -43,6 +51,7 @@ fault-spec =
     (λ c. search needs)
     (λ c. search needs)
     (λ c κs. search needs)
+    (λ c. search needs)
     (λ c. search needs)
     (λ c κs. search needs)
     returns)
