@@ -1,4 +1,4 @@
--- Numbers off the drawing board: the document's twelve cases, in one table.
+-- Numbers off the drawing board: the document's twelve cases, in one table; and what the inner bottom's own modulus makes of them in version 2.
 -- Assumes nothing.
 use Prim.Native.Nat.{ℕ}
 use mathlib.Core.Path.{_≡_, refl}
@@ -8,17 +8,20 @@ use Rattle.gauge.specs.Ceil.{ceilOf}
 use Rattle.gauge.specs.Least.{firstFrom, leastIn, numberOf}
 use Rattle.loads.specs.Loads.{sea, relief, bottomPressure, innerPressure, deepPressure, lineLoad}
 use Rattle.sheet.specs.declared.Header.{Header}
+use Rattle.sheet.specs.declared.Own.{Own}
+use Rattle.sheet.specs.declared.Own.the-variants.{One, Two}
 use Rattle.sheet.specs.declared.Plate.{Plate}
 use Rattle.sheet.specs.declared.Member.{Member}
+use Rattle.sheet.specs.Versions.{versionOf}
 use Rattle.verdict.specs.Verdict.{Rule}
 use Rattle.plating.specs.Rules.{K2, asked3, plateRules}
 use Rattle.framing.specs.Rules.{rule4, rule5, rule6, memberLine, webRule, memberRules}
 
--- vessel V with another length, moment or modulus
-abbrev pub vessel : ℕ → ℕ → ℕ → Header
-vessel L M ZB =
+-- vessel V with another length, moment or modulus, in the version that holds this of its own
+abbrev pub vesselOf : Own → ℕ → ℕ → ℕ → Header
+vesselOf own L M ZB =
     record {
-      version = 1;
+      version = versionOf own .number;
       length = record { 0 = L };
       draught = record { 0 = 250 };
       wave = record { 0 = 60 };
@@ -26,7 +29,12 @@ vessel L M ZB =
       moment = M;
       «bottom_modulus» = ZB;
       count = 1;
+      own = own;
     }
+
+-- in version 1
+abbrev pub vessel : ℕ → ℕ → ℕ → Header
+vessel = vesselOf One
 
 -- V
 abbrev pub v : Header
@@ -113,3 +121,22 @@ printed =
 pub twelve-cases : computed ≡ printed
 unfolding firstFrom leastIn ceilOf sea bottomPressure innerPressure deepPressure lineLoad K2 memberLine rule4 rule5 rule6
 twelve-cases = refl
+
+-- V in version 2, with depth 300 and this ZDB
+abbrev pub second : ℕ → Header
+second ZDB = vesselOf (Two (record { «inner_modulus» = ZDB; depth = record { 0 = 300 } })) 8000 20000 200000
+
+-- case 9, its plate under transverse framing, and case 4, by ZDB
+abbrev pub inner : ℕ → List (List ℕ)
+inner ZDB =
+    map required (plateRules (second ZDB) 4 (plate 1 0 0 30000))
+    ∷ map required (plateRules (second ZDB) 3 (plate 1 250 50 30000))
+    ∷ map required (plateRules (second ZDB) 2 (plate 1 0 0 0))
+    ∷ []
+
+-- twice ZB, ZB itself and half of it: rule 3 of kinds 3 and 4 goes by ZDB, that of kind 2 stays
+pub inner-cases : (inner 400000 ≡ (458 ∷ 329 ∷ 437 ∷ []) ∷ (458 ∷ 439 ∷ 732 ∷ []) ∷ (530 ∷ 315 ∷ 617 ∷ []) ∷ [])
+    × (inner 200000 ≡ (458 ∷ 329 ∷ 617 ∷ []) ∷ (458 ∷ 439 ∷ 1034 ∷ []) ∷ (530 ∷ 315 ∷ 617 ∷ []) ∷ [])
+    × (inner 100000 ≡ (458 ∷ 329 ∷ 873 ∷ []) ∷ (458 ∷ 439 ∷ 1463 ∷ []) ∷ (530 ∷ 315 ∷ 617 ∷ []) ∷ [])
+unfolding firstFrom leastIn ceilOf sea bottomPressure innerPressure K2
+inner-cases = (refl, refl, refl)

@@ -17,7 +17,7 @@ use Rattle.loads.specs.SourceLaws.{either-both, bottom-pressure, inner-pressure
 use Rattle.sheet.specs.declared.Header.{Header}
 use Rattle.sheet.specs.declared.Plate.{Plate}
 use Rattle.sheet.specs.Kinds.{isLong, isBottom}
-use Rattle.plating.specs.Rules.{R, greatestK2, K2, allowance, rule1, rule2, rule3, isSecond, firstForm, secondForm, limit, platePressure, plateNamed, asked1, asked2, asked3}
+use Rattle.plating.specs.Rules.{plateModulus, R, greatestK2, K2, allowance, rule1, rule2, rule3, isSecond, firstForm, secondForm, limit, platePressure, plateNamed, asked1, asked2, asked3}
 use Rattle.plating.specs.Bounds.{greatestR}
 
 -- K2 is at least 1000 and at most the greatest

@@ -2,7 +2,8 @@
 -- Assumes nothing.
 use Prim.Native.Nat.{ℕ, _≤_}
 use mathlib.Core.List.{[], _∷_}
-use mathlib.Core.Path.{_≡_, sym, subst, _∙_}
+use mathlib.Core.Path.{_≡_, sym, ap, subst, _∙_}
+use mathlib.Core.Bool.{Bool, true, false, cond}
 use borrow.Author.Needs.{needs}
 use native.Mathlib.Omega.{arith}
 use Rattle.quantity.specs.Range.{thickness, pressure}
@@ -13,7 +14,7 @@ use Rattle.sheet.specs.Kinds.{isBottom}
 use Rattle.sheet.specs.Ranges.{HeaderRanges, PlateRanges}
 use Rattle.loads.specs.Bounds.{either, bottom-bound, inner-bound}
 use Rattle.verdict.specs.Verdict.{Rule, verdictOf, failedOf}
-use Rattle.plating.specs.Rules.{K2, rule2, rule3, platePressure, asked1, asked2, asked3}
+use Rattle.plating.specs.Rules.{R, K2, rule2, rule3, platePressure, asked1, asked2, asked3}
 use Rattle.plating.specs.Laws.{R-high}
 use Rattle.plating.proofs.Steps.{Step, step}
 use Rattle.plating.proofs.plate_verdict.Statement.{statement}
@@ -33,7 +34,7 @@ abbrev start2 : tie.After-meets2 → tie.Start
 start2 c = start1 (c .before .before .before)
 
 abbrev start3 : tie.After-meets3 → tie.Start
-start3 c = start2 (c .before .before .before .before)
+start3 c = start2 (c .before .before .before .before .before)
 
 -- the rules of the plate, in their order
 abbrev r1 : tie.Start → Rule
@@ -51,14 +52,25 @@ rule2-requires c κs =
     let p = s .pre .1 in
     (p .factor-high, p .spacing-high, rw (s .pre .2) (load-high (s .args .h) (s .args .kind) (s .args .p) (s .pre .0) p))
 
+-- the modulus at the plate is not 0
+some : (c : tie.After-modulus) → 1 ≤ c .modulus .result
+some c =
+    let s = start2 (c .before .before) in
+    let h = s .pre .0 in
+    subst (λ (Z : ℕ). 1 ≤ Z) (sym (c .modulus .ensures)) (either-low (isBottom (s .args .kind)) _ _ (h .modulus-low) (h .inner-low))
+  where
+    either-low : (t : Bool) (x y : ℕ) → 1 ≤ x → 1 ≤ y → 1 ≤ cond t x y
+    either-low true x y a b = a
+    either-low false x y a b = b
+
 rule3-requires : tie.Need-rule3-requires
 rule3-requires c κs =
-    let s = start2 (c .before .before) in
+    let s = start2 (c .before .before .before) in
     let h = s .pre .0 in
     let p = s .pre .1 in (
       record { spacing-low = p .spacing-low; spacing-high = p .spacing-high; b1-low = λ e. omega (arith, p .b1-low e) },
       p .factor-high,
-      rw (c .hull-stress .ensures) (R-high (s .args .h .moment) (s .args .h .«bottom_modulus») (h .moment-high) (h .modulus-low)),
+      rw (c .hull-stress .ensures) (R-high (s .args .h .moment) _ (h .moment-high) (some (c .before))),
     )
 
 step1 : (c : tie.After-meets) → Step (c .before .rule1 .result) (r1 (start1 c)) (r2 (start1 c) ∷ r3 (start1 c) ∷ []) (c .meets .result)
@@ -81,7 +93,8 @@ step3 c =
     let a = start3 c .args in
     let d = c .before .rule3 .result in
     let says : Says d (thickness .high) (r3 (start3 c) .asks) =
-    subst (λ (r : ℕ). Says d (thickness .high) (rule3 (a .kind) (a .p .factor .0) (a .p .spacing .0) (K2 (a .p .b1 .0) (a .p .b2 .0)) r)) (c .before .before .hull-stress .ensures) (c .before .rule3 .ensures) in
+    subst (λ (r : ℕ). Says d (thickness .high) (rule3 (a .kind) (a .p .factor .0) (a .p .spacing .0) (K2 (a .p .b1 .0) (a .p .b2 .0)) r))
+    (c .before .before .hull-stress .ensures ∙ ap (R (a .h .moment)) (c .before .before .before .modulus .ensures)) (c .before .rule3 .ensures) in
     step d (r3 (start3 c)) _ says (p .thickness-low) (p .thickness-high) (c .meets3 .ensures)
 
 passed1 : (c : tie.Else1) → let s = start1 (c .before) in verdictOf (r1 s ∷ r2 s ∷ r3 s ∷ []) ≡ verdictOf (r2 s ∷ r3 s ∷ [])
@@ -106,12 +119,12 @@ returns-3 : tie.Need-returns-3
 returns-3 c =
     let m = c .before .before in
     let named : c .failed3 .result ≡ failedOf 3 (m .before .rule3 .result) (thickness .high) = c .failed3 .ensures in
-    named ∙ step3 m .fails (c .before .if3 .taken) ∙ sym (passed2 (m .before .before .before))
+    named ∙ step3 m .fails (c .before .if3 .taken) ∙ sym (passed2 (m .before .before .before .before))
 
 returns-4 : tie.Need-returns-4
 returns-4 c =
     let m = c .before in
-    sym (passed2 (m .before .before .before) ∙ step3 m .passes (c .if3 .left))
+    sym (passed2 (m .before .before .before .before) ∙ step3 m .passes (c .if3 .left))
 
 pub plate-verdict-spec : {M : Type 1} → statement M
 plate-verdict-spec =
@@ -128,6 +141,7 @@ plate-verdict-spec =
     (λ c κs. search needs)
     returns-2
     (λ c κs. search needs)
+    (λ c κs. some c)
     rule3-requires
     (λ c κs. search needs)
     (λ c κs. search needs)
