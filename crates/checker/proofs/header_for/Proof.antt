@@ -2,23 +2,29 @@
 -- Assumes nothing.
 use borrow.Author.Needs.{needs}
 use mathlib.Core.Path.{sym, ap, _∙_}
+use native.Mathlib.Omega.{arith}
 use denote.Ref.{now}
 use Rattle.sheet.specs.Refusals.{given, toldHeader}
+use Rattle.sheet.specs.VersionLaws.{regular}
 use Rattle.checker.proofs.Faults.{header-refused, header-length, header-room, header-good}
 use Rattle.checker.proofs.header_for.Statement.{statement}
 use Rattle.checker.proofs.header_for.Tie as tie
 
 returns : tie.Need-returns
 returns c =
-    let at-read = c .before .before .before in
+    let at-size = c .before in
+    let at-read = at-size .before .before .before in
     let at-header = at-read .before .before in
-    header-length (now (at-header .before .before .args .sheet)) _ _ (sym (ap toldHeader (at-read .read2 .given .1)) ∙ at-header .read-header .ensures) (c .if1 .taken)
+    header-length (now (at-header .before .before .args .sheet)) _ _ (sym (ap toldHeader (at-read .read2 .given .1)) ∙ at-header .read-header .ensures)
+    (λ e. c .if1 .taken (omega (arith, e, at-size .size .ensures)))
 
 returns-2 : tie.Need-returns-2
 returns-2 c =
-    let at-read = c .before .before .before .before in
+    let at-size = c .before .before in
+    let at-read = at-size .before .before .before in
     let at-header = at-read .before .before in
-    header-room (now (at-header .before .before .args .sheet)) _ _ (sym (ap toldHeader (at-read .read2 .given .1)) ∙ at-header .read-header .ensures) (c .before .if1 .left) (c .if2 .taken)
+    header-room (now (at-header .before .before .args .sheet)) _ _ (sym (ap toldHeader (at-read .read2 .given .1)) ∙ at-header .read-header .ensures)
+    (omega (arith, c .before .if1 .left, at-size .size .ensures)) (c .if2 .taken)
 
 returns-3 : tie.Need-returns-3
 returns-3 c =
@@ -27,9 +33,11 @@ returns-3 c =
 
 returns-4 : tie.Need-returns-4
 returns-4 c =
-    let at-read = c .before .before .before .before in
+    let at-size = c .before .before in
+    let at-read = at-size .before .before .before in
     let at-header = at-read .before .before in
-    header-good (now (at-header .before .before .args .sheet)) _ _ (sym (ap toldHeader (at-read .read2 .given .1)) ∙ at-header .read-header .ensures) (c .before .if1 .left) (c .if2 .left)
+    header-good (now (at-header .before .before .args .sheet)) _ _ (sym (ap toldHeader (at-read .read2 .given .1)) ∙ at-header .read-header .ensures)
+    (omega (arith, c .before .if1 .left, at-size .size .ensures)) (c .if2 .left)
 
 pub header-for-spec : {M : Type 1} → statement M
 header-for-spec =
@@ -39,8 +47,9 @@ header-for-spec =
     (λ c. search needs)
     (λ c. search needs)
     (λ c. search needs)
+    (λ c κs. search needs)
     (λ c. search needs)
-    (λ c. search needs)
+    (λ c. omega (arith, c .size .ensures, regular (c .before .before .before .read2 .given .0 .0 .own) .short))
     returns
     (λ c. search needs)
     returns-2

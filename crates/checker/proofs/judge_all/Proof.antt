@@ -15,16 +15,16 @@ use Rattle.checker.proofs.judge_all.Statement.{statement}
 use Rattle.checker.proofs.judge_all.Tie as tie
 
 abbrev Inv-loop : tie.InvT-loop
-Inv-loop h sheet draft₀ n failed₀ before₀ i₀ draft failed before i =
-    (i ≤ n) × (failed ≤ i) × (length draft ≡ length draft₀) × (passFrom n h sheet i before failed draft ≡ passOver h sheet draft₀)
+Inv-loop h records draft₀ n failed₀ before₀ i₀ draft failed before i =
+    (i ≤ n) × (failed ≤ i) × (length draft ≡ length draft₀) × (passFrom n h records i before failed draft ≡ passOver h records draft₀)
 
 abbrev μ-loop : tie.MeasureT-loop
-μ-loop h sheet draft₀ n failed₀ before₀ i₀ draft failed before i = n - i
+μ-loop h records draft₀ n failed₀ before₀ i₀ draft failed before i = n - i
 
 loop-holds : tie.Need-loop-holds Inv-loop μ-loop
 loop-holds c =
     let a = c .before .before .args in
-    (search needs, search needs, refl, pass-start (a .h) (now (a .sheet)) (now (a .draft)))
+    (search needs, search needs, refl, pass-start (a .h) (now (a .records)) (now (a .draft)))
 
 returns : tie.Need-returns Inv-loop μ-loop
 returns c =
@@ -32,7 +32,7 @@ returns c =
     let turn = at-judged .before in
     let l = turn .before .loop in
     let a = turn .before .before .before .before .args in
-    pass-refused (a .h .count) (a .h) (now (a .sheet)) (l .i) (l .before) (l .failed) (l .draft) (l .inv .3) _ _ (turn .loop-test .taken)
+    pass-refused (a .h .count) (a .h) (now (a .records)) (l .i) (l .before) (l .failed) (l .draft) (l .inv .3) _ _ (turn .loop-test .taken)
     (sym (ap toldEntry (c .before .judged .given .1)) ∙ at-judged .judged-at .ensures)
 
 loop-again : tie.Need-loop-again Inv-loop μ-loop
@@ -45,11 +45,11 @@ loop-again c =
     let start = turn .before .before .before .before in
     let a = start .args in
     let e = at-entry .judged2 .given .0 .0 in
-    let judged : given e ≡ judgedAfter (a .h) (l .i) (l .before) (recordPart (now (a .sheet)) (l .i)) = sym (ap toldEntry (at-entry .judged2 .given .1)) ∙ at-judged .judged-at .ensures in (
+    let judged : given e ≡ judgedAfter (a .h) (l .i) (l .before) (recordPart (now (a .records)) (l .i)) = sym (ap toldEntry (at-entry .judged2 .given .1)) ∙ at-judged .judged-at .ensures in (
       search needs,
       search needs,
       omega (arith, c .before .before .draft .given .1, l .inv .2),
-      pass-turn (a .h .count) (a .h) (now (a .sheet)) (l .i) (l .before) (l .failed) (l .draft) (l .inv .3) (turn .loop-test .taken) e judged _ (at-write .write-verdict .last .1 .0) refl
+      pass-turn (a .h .count) (a .h) (now (a .records)) (l .i) (l .before) (l .failed) (l .draft) (l .inv .3) (turn .loop-test .taken) e judged _ (at-write .write-verdict .last .1 .0) refl
           (at-write .write-verdict .ensures .bytes) (omega (arith, l .inv .2, start .pre .fits)) (c .failing .result) (c .failing .ensures .0),
     )
 
@@ -57,7 +57,7 @@ returns-2 : tie.Need-returns-2 Inv-loop μ-loop
 returns-2 c =
     let l = c .before .loop in
     let a = c .before .before .before .before .args in
-    pass-end (a .h .count) (a .h) (now (a .sheet)) (l .i) (l .before) (l .failed) (l .draft) (l .inv .3) (omega arith)
+    pass-end (a .h .count) (a .h) (now (a .records)) (l .i) (l .before) (l .failed) (l .draft) (l .inv .3) (omega arith)
 
 pub judge-all-spec : {M : Type 1} → statement M
 judge-all-spec =

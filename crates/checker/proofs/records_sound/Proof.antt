@@ -13,15 +13,15 @@ use Rattle.checker.proofs.records_sound.Statement.{statement}
 use Rattle.checker.proofs.records_sound.Tie as tie
 
 abbrev Inv-loop : tie.InvT-loop
-Inv-loop sheet n before₀ i₀ before i = (i ≤ n) × (soundFrom n sheet i before ≡ recordsSound sheet n)
+Inv-loop records n before₀ i₀ before i = (i ≤ n) × (soundFrom n records i before ≡ recordsSound records n)
 
 abbrev μ-loop : tie.MeasureT-loop
-μ-loop sheet n before₀ i₀ before i = n - i
+μ-loop records n before₀ i₀ before i = n - i
 
 loop-holds : tie.Need-loop-holds Inv-loop μ-loop
 loop-holds c =
     let a = c .before .args in
-    (search needs, sound-start (a .n) (now (a .sheet)))
+    (search needs, sound-start (a .n) (now (a .records)))
 
 returns : tie.Need-returns Inv-loop μ-loop
 returns c =
@@ -29,7 +29,7 @@ returns c =
     let turn = at-record .before in
     let l = turn .before .loop in
     let a = turn .before .before .before .args in
-    sound-refused (a .n) (now (a .sheet)) (l .i) (l .before) (turn .loop-test .taken) _ _ (sym (ap toldRecord (c .before .read .given .1)) ∙ at-record .sound-at .ensures)
+    sound-refused (a .n) (now (a .records)) (l .i) (l .before) (turn .loop-test .taken) _ _ (sym (ap toldRecord (c .before .read .given .1)) ∙ at-record .sound-at .ensures)
     ∙ l .inv .1
 
 loop-again : tie.Need-loop-again Inv-loop μ-loop
@@ -40,14 +40,14 @@ loop-again c =
     let l = turn .before .loop in
     let a = turn .before .before .before .args in
     let r = at-read .read2 .given .0 .0 in
-    let sound : given r ≡ soundAfter (l .i) (l .before) (recordPart (now (a .sheet)) (l .i)) = sym (ap toldRecord (at-read .read2 .given .1)) ∙ at-record .sound-at .ensures in
-    (search needs, sound-turn (a .n) (now (a .sheet)) (l .i) (l .before) (turn .loop-test .taken) r sound ∙ l .inv .1)
+    let sound : given r ≡ soundAfter (l .i) (l .before) (recordPart (now (a .records)) (l .i)) = sym (ap toldRecord (at-read .read2 .given .1)) ∙ at-record .sound-at .ensures in
+    (search needs, sound-turn (a .n) (now (a .records)) (l .i) (l .before) (turn .loop-test .taken) r sound ∙ l .inv .1)
 
 returns-2 : tie.Need-returns-2 Inv-loop μ-loop
 returns-2 c =
     let l = c .before .loop in
     let a = c .before .before .before .args in
-    sound-end (a .n) (now (a .sheet)) (l .i) (l .before) (omega arith) ∙ l .inv .1
+    sound-end (a .n) (now (a .records)) (l .i) (l .before) (omega arith) ∙ l .inv .1
 
 pub records-sound-spec : {M : Type 1} → statement M
 records-sound-spec =
