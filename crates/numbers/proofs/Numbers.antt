@@ -10,17 +10,21 @@ use lib.Dec.{eqb, lit≤, leb·zero}
 use borrow.Author.Tests.{eq-eqb, ne-eqb, eqb-true, eqb-false}
 use Rattle.quantity.specs.Range.{Range, within, from, span, spacing, thickness, modulus, shearArea, steelFactor}
 use Rattle.quantity.specs.Laws.{one-value}
-use Rattle.layout.specs.Line.{Line, Allowed, faultFrom}
+use Rattle.layout.specs.Line.{Line, zeros, Allowed, faultFrom}
 use Rattle.layout.specs.LineLaws.{none-all}
+use Rattle.sheet.specs.declared.Header.{Header}
+use Rattle.sheet.specs.declared.Own.{Own}
+use Rattle.sheet.specs.declared.Own.the-variants.{One, Two}
 use Rattle.sheet.specs.declared.Record.{Record}
 use Rattle.sheet.specs.declared.Body.the-variants.{Plate as isPlate, Member as isMember}
 use Rattle.sheet.specs.Kinds.{isLong, isBottom, isFloor, isDeep}
+use Rattle.sheet.specs.Versions.{Version, depths, one, two, versionOf}
 use Rattle.sheet.specs.Lines.{either, none, ruleLength, counts, ids, plateSpacing, sides, headerLines, plateLines, memberLines, waves}
-use Rattle.sheet.specs.Header.{headerValues, headerAt, headerFault}
+use Rattle.sheet.specs.Header.{ownValues, rawFault, headerFault}
 use Rattle.sheet.specs.Record.{plateValues, memberValues, plateRecord, memberRecord, plateLinesOf, memberLinesOf, plateFault, memberFault, bodyFault, recordFault}
 use Rattle.sheet.specs.HeaderLaws.{flag-within}
 use Rattle.numbers.specs.Held.{held, heldIn, firstOf, headerHeld, headerApart, plateHeld, plateApart, memberHeld, memberApart, recordHeld, recordApart}
-use Rattle.numbers.specs.From.{numbersFrom, headerNumbersFault, plateFields, recordOfNumbers, recordNumbersFault, plateNumbered}
+use Rattle.numbers.specs.From.{numbersFrom, headerOfNumbers, fieldsAs, inSecond, headerNumbersFault, plateFields, recordOfNumbers, recordNumbersFault, plateNumbered}
 use Rattle.numbers.proofs.First.{okays, Agree, agree-fault}
 use Rattle.numbers.proofs.Kept.{liesIn, keeps, around, held-allows, held-in, held-alone}
 
@@ -31,68 +35,6 @@ and-true false = refl
 -- a flag's number is tested by itself: what it is held as is always allowed
 flag-alone : (x : ℕ) → within (from 0 1) x ≡ (within (from 0 1) x && within (from 0 1) (cond (eqb x 1) 1 0))
 flag-alone x = rw (flag-within (eqb x 1)) (and-true (within (from 0 1) x))
-
--- ---- a header
-
-module _ (ns : List ℕ) where
-  abbrev n : ℕ → ℕ
-  n i = getD ns i 0
-
-  abbrev headerTests : List Bool
-  headerTests = true ∷ true ∷ true ∷ true ∷ within (from 0 1) (n 4) ∷ true ∷ true ∷ true ∷ true ∷ []
-
-  header-agree : Agree (okays headerLines (numbersFrom 0 8 ns ++ 0 ∷ [])) headerTests (okays headerLines (headerValues (headerHeld ns) 0))
-  header-agree = (
-    held-allows 255 (from 0 255) (from 1 1 ∷ []) (n 0) refl,
-    λ t₁. (
-      held-allows 65535 span (ruleLength ∷ []) (n 1) refl,
-      λ t₂. (
-        held-allows 65535 span (from 1 1000 ∷ []) (n 2) refl,
-        λ t₃. (
-          held-allows 65535 span waves (n 3) refl,
-          λ t₄. (
-            flag-alone (n 4),
-            λ t₅. (
-              refl,
-              λ t₆. (
-                refl,
-                λ t₇. (
-                  held-allows 65535 (from 0 65535) (counts ∷ []) (n 7) refl,
-                  λ t₈.
-                      (refl, λ t₉. tt),
-                ),
-              ),
-            ),
-          ),
-        ),
-      ),
-    ),
-  )
-
-  pub header-numbers-fault : headerNumbersFault ns ≡ firstOf (headerFault (headerHeld ns)) (headerApart ns)
-  unfolding headerNumbersFault rawFault
-  header-numbers-fault = agree-fault 0 (okays headerLines (numbersFrom 0 8 ns ++ 0 ∷ [])) headerTests (okays headerLines (headerValues (headerHeld ns) 0)) header-agree
-
-  pub header-held-same : headerNumbersFault ns ≡ 0 → headerHeld ns ≡ headerAt ns
-  unfolding headerNumbersFault
-  header-held-same e =
-      let a : Allowed headerLines (numbersFrom 0 8 ns ++ 0 ∷ []) = none-all 0 headerLines (numbersFrom 0 8 ns ++ 0 ∷ []) e in
-      rw (
-        held-in 255 (from 0 255) (from 1 1 ∷ []) (n 0) refl (a .0),
-        held-in 65535 span (ruleLength ∷ []) (n 1) refl (a .1 .0),
-        held-in 65535 span (from 1 1000 ∷ []) (n 2) refl (a .1 .1 .0),
-        held-in 65535 span waves (n 3) refl (a .1 .1 .1 .0),
-        held-in 65535 (from 0 65535) (counts ∷ []) (n 7) refl (a .1 .1 .1 .1 .1 .1 .1 .0),
-      )
-
-  pub header-apart-past : (headerApart ns ≡ 0 → ⊥) → 2 ≤ headerApart ns
-  header-apart-past = go (within (from 0 1) (n 4))
-    where
-      go : (b : Bool) → (_≡_ {A = ℕ} (cond b 0 5) 0 → ⊥) → 2 ≤ cond b 0 5
-      go true h = absurd (h refl)
-      go false h = lit≤ tt
-
--- ---- a plate
 
 -- one test and then another is both
 both-tests : {A : Type 0} (a b : Bool) (x y : A) → cond (a && b) x y ≡ cond a (cond b x y) y
@@ -107,6 +49,125 @@ zero-sum a b = one-value 0 (a + b) ∙ go (eqb a 0) refl (eqb b 0) refl ∙ sym 
     go true p true q = eq-eqb (a + b) 0 (omega (arith, eqb-true a 0 p, eqb-true b 0 q))
     go true p false q = let m = eqb-false b 0 q in ne-eqb (a + b) 0 (λ z. m (omega arith))
     go false p t q = let m = eqb-false a 0 p in ne-eqb (a + b) 0 (λ z. m (omega arith))
+
+-- ---- a header
+
+module _ (ns : List ℕ) where
+  abbrev n : ℕ → ℕ
+  n i = getD ns i 0
+
+  -- the fields that every version has, as they are held
+  abbrev heldFirst : List ℕ
+  heldFirst = held 255 (n 0) ∷ heldIn span 65535 (n 1) ∷ heldIn span 65535 (n 2) ∷ heldIn span 65535 (n 3) ∷ cond (eqb (n 4) 1) 1 0 ∷ n 5 ∷ n 6 ∷ held 65535 (n 7) ∷ []
+
+  abbrev firstTests : List Bool
+  firstTests = true ∷ true ∷ true ∷ true ∷ within (from 0 1) (n 4) ∷ true ∷ true ∷ true ∷ []
+
+  -- in any version, with what stands after them
+  agree-first : (v : Version) → keeps 255 (from 0 255) (from (v .number) (v .number) ∷ []) ≡ true → keeps 65535 (from 0 65535) (counts v ∷ []) ≡ true
+      → (xs ys : List ℕ) (ts : List Bool) → Agree (okays (zeros 3 ∷ v .lines) xs) ts (okays (zeros 3 ∷ v .lines) ys)
+      → Agree (okays (headerLines v) (numbersFrom 0 8 ns ++ xs)) (firstTests ++ ts) (okays (headerLines v) (heldFirst ++ ys))
+  agree-first v kv kc xs ys ts rest = (
+    held-allows 255 (from 0 255) (from (v .number) (v .number) ∷ []) (n 0) kv,
+    λ t₁. (
+      held-allows 65535 span (ruleLength ∷ []) (n 1) refl,
+      λ t₂. (
+        held-allows 65535 span (from 1 1000 ∷ []) (n 2) refl,
+        λ t₃. (
+          held-allows 65535 span waves (n 3) refl,
+          λ t₄. (
+            flag-alone (n 4),
+            λ t₅. (
+              refl,
+              λ t₆. (
+                refl,
+                λ t₇.
+                    (held-allows 65535 (from 0 65535) (counts v ∷ []) (n 7) kc, λ t₈. rest),
+              ),
+            ),
+          ),
+        ),
+      ),
+    ),
+  )
+
+  -- what is held of the version's own, in version 2 and else
+  abbrev ownAs : Bool → Own
+  ownAs t = cond t (Two (record { «inner_modulus» = n 8; depth = record { 0 = heldIn span 65535 (n 9) } })) One
+
+  pub header-numbers-fault : headerNumbersFault ns ≡ firstOf (headerFault (headerHeld ns)) (headerApart ns)
+  unfolding headerNumbersFault rawFault
+  header-numbers-fault = go (inSecond ns)
+    where
+      runs : Bool
+      runs = within (from 0 1) (n 4)
+
+      past : ℕ
+      past = cond (within none (n 8)) (cond (within none (n 9)) 0 9) 9
+
+      go : (t : Bool)
+          → faultFrom 1 (headerLines (cond t two one)) (fieldsAs t ns)
+          ≡ firstOf (faultFrom 1 (headerLines (versionOf (ownAs t))) (heldFirst ++ (0 ∷ ownValues (ownAs t) 0))) (cond t (cond runs 0 5) (cond runs past 5))
+      go true =
+          agree-fault 0 (okays (headerLines two) (fieldsAs true ns)) (firstTests ++ (true ∷ true ∷ true ∷ true ∷ []))
+          (okays (headerLines two) (heldFirst ++ (0 ∷ n 8 ∷ heldIn span 65535 (n 9) ∷ 0 ∷ [])))
+          (agree-first two refl refl (0 ∷ n 8 ∷ n 9 ∷ 0 ∷ []) (0 ∷ n 8 ∷ heldIn span 65535 (n 9) ∷ 0 ∷ []) (true ∷ true ∷ true ∷ true ∷ [])
+          (refl, λ t₉. (refl, λ t₁₀. (held-allows 65535 span (depths ∷ []) (n 9) refl, λ t₁₁. (refl, λ t₁₂. tt)))))
+      go false =
+          agree-fault 0 (okays (headerLines one) (fieldsAs false ns)) (firstTests ++ ((within none (n 8) && within none (n 9)) ∷ [])) (okays (headerLines one) (heldFirst ++ (0 ∷ [])))
+          (agree-first one refl refl ((n 8 + n 9) ∷ []) (0 ∷ []) ((within none (n 8) && within none (n 9)) ∷ []) (zero-sum (n 8) (n 9), λ t₉. tt))
+          ∙ ap (λ (x : ℕ). firstOf (faultFrom 1 (headerLines one) (heldFirst ++ (0 ∷ []))) (cond runs x 5)) (both-tests (within none (n 8)) (within none (n 9)) 0 9)
+
+  pub header-held-same : headerNumbersFault ns ≡ 0 → headerHeld ns ≡ headerOfNumbers ns
+  unfolding headerNumbersFault
+  header-held-same = go (inSecond ns)
+    where
+      headed : (List ℕ → Own → Header)
+      headed vs o =
+          record {
+            version = getD vs 0 0;
+            length = record { 0 = getD vs 1 0 };
+            draught = record { 0 = getD vs 2 0 };
+            wave = record { 0 = getD vs 3 0 };
+            «two_runs» = eqb (n 4) 1;
+            moment = n 5;
+            «bottom_modulus» = n 6;
+            count = getD vs 7 0;
+            own = o;
+          }
+
+      -- the fields that every version has
+      first : (v : Version) → keeps 255 (from 0 255) (from (v .number) (v .number) ∷ []) ≡ true → keeps 65535 (from 0 65535) (counts v ∷ []) ≡ true
+          → (xs : List ℕ) → Allowed (headerLines v) (numbersFrom 0 8 ns ++ xs) → (o : Own) → headed heldFirst o ≡ headed (numbersFrom 0 8 ns) o
+      first v kv kc xs a o =
+          rw (
+            held-in 255 (from 0 255) (from (v .number) (v .number) ∷ []) (n 0) kv (a .0),
+            held-in 65535 span (ruleLength ∷ []) (n 1) refl (a .1 .0),
+            held-in 65535 span (from 1 1000 ∷ []) (n 2) refl (a .1 .1 .0),
+            held-in 65535 span waves (n 3) refl (a .1 .1 .1 .0),
+            held-in 65535 (from 0 65535) (counts v ∷ []) (n 7) kc (a .1 .1 .1 .1 .1 .1 .1 .0),
+          )
+
+      go : (t : Bool) → faultFrom 1 (headerLines (cond t two one)) (fieldsAs t ns) ≡ 0
+          → headed heldFirst (ownAs t) ≡ headed (numbersFrom 0 8 ns) (cond t (Two (record { «inner_modulus» = n 8; depth = record { 0 = n 9 } })) One)
+      go true e =
+          let a : Allowed (headerLines two) (fieldsAs true ns) = none-all 0 (headerLines two) (fieldsAs true ns) e in
+          first two refl refl (0 ∷ n 8 ∷ n 9 ∷ 0 ∷ []) a (ownAs true)
+          ∙ rw (held-in 65535 span (depths ∷ []) (n 9) refl (a .1 .1 .1 .1 .1 .1 .1 .1 .1 .1 .0))
+      go false e = first one refl refl ((n 8 + n 9) ∷ []) (none-all 0 (headerLines one) (fieldsAs false ns) e) One
+
+  pub header-apart-past : (headerApart ns ≡ 0 → ⊥) → 2 ≤ headerApart ns
+  header-apart-past = go (inSecond ns) (within (from 0 1) (n 4)) (within none (n 8)) (within none (n 9))
+    where
+      go : (t b c d : Bool) → (_≡_ {A = ℕ} (cond t (cond b 0 5) (cond b (cond c (cond d 0 9) 9) 5)) 0 → ⊥) → 2 ≤ cond t (cond b 0 5) (cond b (cond c (cond d 0 9) 9) 5)
+      go true true c d h = absurd (h refl)
+      go true false c d h = lit≤ tt
+      go false true true true h = absurd (h refl)
+      go false true true false h = lit≤ tt
+      go false true false d h = lit≤ tt
+      go false false c d h = lit≤ tt
+
+-- ---- a plate
 
 -- a line by a test is kept, where it is in either case
 by-test : (t : Bool) (top : ℕ) (q r s : Range) → keeps top q (r ∷ []) ≡ true → keeps top q (s ∷ []) ≡ true → keeps top q (either t r s ∷ []) ≡ true

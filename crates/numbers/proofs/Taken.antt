@@ -9,11 +9,12 @@ use lib.Dec.{eqb}
 use Rattle.sheet.specs.declared.Header.{Header}
 use Rattle.sheet.specs.declared.Record.{Record}
 use Rattle.sheet.specs.Refusals.{Answer, given, headerRefused, recordRefused}
-use Rattle.sheet.specs.Header.{headerAt, headerFault}
+use Rattle.sheet.specs.Versions.{firstBytes}
+use Rattle.sheet.specs.Header.{headerFault}
 use Rattle.sheet.specs.Record.{recordFault}
 use Rattle.sheet.specs.HeaderExactly.{headerCases}
 use Rattle.sheet.specs.RecordExactly.{recordCases}
-use Rattle.numbers.specs.From.{headerNumbersFault, headerFrom, recordOfNumbers, recordNumbersFault, recordFrom}
+use Rattle.numbers.specs.From.{headerOfNumbers, headerNumbersFault, headerFrom, recordOfNumbers, recordNumbersFault, recordFrom}
 use Rattle.numbers.specs.Held.{firstOf, earlierOf, headerHeld, headerApart, recordHeld, recordApart}
 use Rattle.numbers.proofs.Numbers.{header-numbers-fault, header-held-same, header-apart-past, record-numbers-fault, record-held-same, record-apart-past}
 use Rattle.numbers.proofs.Places.{carrying, taken}
@@ -22,7 +23,7 @@ pub header-by-held : (ns : List ℕ) (h : Header) (e : ℕ) {x y : Answer (Unit 
     → x ≡ headerRefused (headerFault h) (given tt) → y ≡ cond (eqb e 0) x (earlierOf x 3 e) → carrying h y ≡ headerFrom ns
 unfolding headerFrom
 header-by-held ns h e is-held is-apart =
-    taken headerCases 0 (λ k. omega arith) (omega arith) (headerNumbersFault ns) (headerFault h) e h (headerAt ns)
+    taken (headerCases firstBytes) 0 (λ k. omega arith) (omega arith) (headerNumbersFault ns) (headerFault h) e h (headerOfNumbers ns)
     (header-numbers-fault ns ∙ ap₂ firstOf (ap (λ (y : Header). headerFault y) (sym is-held)) (sym is-apart))
     (subst (λ (k : ℕ). (k ≡ 0 → ⊥) → 2 ≤ k) (sym is-apart) (header-apart-past ns))
     (λ z. is-held ∙ header-held-same ns z)

@@ -8,22 +8,26 @@ use native.Mathlib.Omega.{arith}
 use lib.ListN.{length, getD}
 use lib.Dec.{eqb}
 use borrow.Author.Tests.{lt-ltb, le-ltb}
-use Rattle.quantity.specs.Range.{from}
+use Rattle.quantity.specs.Range.{within, from}
 use Rattle.layout.specs.Line.{Allowed, faultFrom}
 use Rattle.layout.specs.LineLaws.{none-all, low-high}
 use Rattle.sheet.specs.declared.Header.{Header}
+use Rattle.sheet.specs.declared.Own.{Own}
+use Rattle.sheet.specs.declared.Own.the-variants.{One, Two}
+use Rattle.sheet.specs.declared.Section.{Section}
 use Rattle.sheet.specs.declared.Body.{Body}
 use Rattle.sheet.specs.declared.Body.the-variants.{Plate as isPlate, Member as isMember}
 use Rattle.sheet.specs.declared.Record.{Record}
+use Rattle.sheet.specs.Versions.{one, two, versionOf}
 use Rattle.sheet.specs.Lines.{none, headerLines}
 use Rattle.sheet.specs.Refusals.{given, refused, headerRefused}
 use Rattle.sheet.specs.RefusalLaws.{by-none, at-none}
-use Rattle.sheet.specs.Header.{headerAt, headerFault}
+use Rattle.sheet.specs.Header.{rawFault, headerFault}
 use Rattle.sheet.specs.Record.{plateRecord, memberRecord, plateLinesOf, memberLinesOf, plateFault, memberFault, recordFault}
 use Rattle.sheet.specs.HeaderLaws.{flag-read, flag-written}
 use Rattle.sheet.specs.RecordLaws.{plate-ranges, member-ranges}
 use Rattle.numbers.specs.Fields.{headerNumbers, recordNumbers}
-use Rattle.numbers.specs.From.{numbersFrom, headerNumbersFault, headerFrom, plateNumbered, recordOfNumbers, plateFields, recordNumbersFault, recordFrom}
+use Rattle.numbers.specs.From.{numbersFrom, headerOfNumbers, fieldsAs, inSecond, headerNumbersFault, headerFrom, plateNumbered, recordOfNumbers, plateFields, recordNumbersFault, recordFrom}
 
 -- ---- all the numbers of a list
 
@@ -37,29 +41,88 @@ all-numbers (x ∷ ns) = ap (λ (l : List ℕ). x ∷ l) (one-further x ns 0 (le
 
 -- ---- a header
 
--- a header's own numbers are taken as the header, or refused as it is
-pub header-from-numbers : (h : Header) → headerFrom (headerNumbers h) ≡ headerRefused (headerFault h) (given h)
+-- the header's own numbers are taken as the header, or refused as it is, where it holds what its version does
+pub header-from-numbers : (h : Header) → h .version ≡ versionOf (h .own) .number → headerFrom (headerNumbers h) ≡ headerRefused (headerFault h) (given h)
 unfolding headerFrom headerNumbersFault rawFault
-header-from-numbers h = rw (flag-read (h .«two_runs»))
+header-from-numbers h e = subst Taken-as (sym e) (go (h .own))
+  where
+    named : ℕ → Own → Header
+    named k o =
+        record {
+          version = k;
+          length = h .length;
+          draught = h .draught;
+          wave = h .wave;
+          «two_runs» = h .«two_runs»;
+          moment = h .moment;
+          «bottom_modulus» = h .«bottom_modulus»;
+          count = h .count;
+          own = o;
+        }
+
+    as-it-is : Header → Type 0
+    as-it-is g = headerFrom (headerNumbers g) ≡ headerRefused (headerFault g) (given g)
+
+    Taken-as : ℕ → Type 0
+    Taken-as k = as-it-is (named k (h .own))
+
+    go : (o : Own) → as-it-is (named (versionOf o .number) o)
+    go One = rw (flag-read (h .«two_runs»))
+    go (Two s) = rw (flag-read (h .«two_runs»))
 
 -- what numbers with no fault give: the header that they are has none either, and has the same numbers
 abbrev pub HeaderSound : List ℕ → Header → Type 0
-HeaderSound ns h = (headerFault h ≡ 0) × (headerNumbers h ≡ numbersFrom 0 8 ns)
+HeaderSound ns h = (headerFault h ≡ 0) × (headerNumbers h ≡ numbersFrom 0 10 ns)
 
-pub header-sound : (ns : List ℕ) → headerNumbersFault ns ≡ 0 → HeaderSound ns (headerAt ns)
+pub header-sound : (ns : List ℕ) → headerNumbersFault ns ≡ 0 → HeaderSound ns (headerOfNumbers ns)
 unfolding headerNumbersFault rawFault
-header-sound ns e =
-    let a : Allowed headerLines (numbersFrom 0 8 ns ++ 0 ∷ []) = none-all 0 headerLines (numbersFrom 0 8 ns ++ 0 ∷ []) e in
-    let runs = getD ns 4 0 in
-    let flag : cond (eqb runs 1) 1 0 ≡ runs = flag-written runs (omega (arith, low-high (from 0 1) runs (a .1 .1 .1 .1 .0))) in (
-      ap (λ (x : ℕ). faultFrom 1 headerLines (numbersFrom 0 4 ns ++ (x ∷ (numbersFrom 5 3 ns ++ 0 ∷ [])))) flag ∙ e,
-      ap (λ (x : ℕ). numbersFrom 0 4 ns ++ (x ∷ numbersFrom 5 3 ns)) flag,
-    )
+header-sound ns = go (inSecond ns)
+  where
+    n : ℕ → ℕ
+    n i = getD ns i 0
+
+    section : Section
+    section = record { «inner_modulus» = n 8; depth = record { 0 = n 9 } }
+
+    headed : Own → Header
+    headed o =
+        record {
+          version = n 0;
+          length = record { 0 = n 1 };
+          draught = record { 0 = n 2 };
+          wave = record { 0 = n 3 };
+          «two_runs» = eqb (n 4) 1;
+          moment = n 5;
+          «bottom_modulus» = n 6;
+          count = n 7;
+          own = o;
+        }
+
+    -- runs is written as it was read
+    flag : within (from 0 1) (n 4) ≡ true → cond (eqb (n 4) 1) 1 0 ≡ n 4
+    flag a = flag-written (n 4) (omega (arith, low-high (from 0 1) (n 4) a))
+
+    go : (t : Bool) → faultFrom 1 (headerLines (cond t two one)) (fieldsAs t ns) ≡ 0 → HeaderSound ns (headed (cond t (Two section) One))
+    go true e =
+        let a : Allowed (headerLines two) (fieldsAs true ns) = none-all 0 (headerLines two) (fieldsAs true ns) e in
+        let runs = flag (a .1 .1 .1 .1 .0) in (
+          ap (λ (x : ℕ). faultFrom 1 (headerLines two) (numbersFrom 0 4 ns ++ (x ∷ (numbersFrom 5 3 ns ++ (0 ∷ n 8 ∷ n 9 ∷ 0 ∷ []))))) runs ∙ e,
+          ap (λ (x : ℕ). numbersFrom 0 4 ns ++ (x ∷ numbersFrom 5 5 ns)) runs,
+        )
+    go false e =
+        let a : Allowed (headerLines one) (fieldsAs false ns) = none-all 0 (headerLines one) (fieldsAs false ns) e in
+        let runs = flag (a .1 .1 .1 .1 .0) in
+        let z : n 8 + n 9 ≡ 0 = omega (arith, low-high none (n 8 + n 9) (a .1 .1 .1 .1 .1 .1 .1 .1 .0)) in
+        let z₁ : 0 ≡ n 8 = omega arith in
+        let z₂ : 0 ≡ n 9 = omega arith in (
+          ap₂ (λ (x y : ℕ). faultFrom 1 (headerLines one) (numbersFrom 0 4 ns ++ (x ∷ (numbersFrom 5 3 ns ++ y ∷ [])))) runs (sym z) ∙ e,
+          ap (λ (x : ℕ). numbersFrom 0 4 ns ++ (x ∷ (numbersFrom 5 3 ns ++ (0 ∷ 0 ∷ [])))) runs ∙ ap₂ (λ (x y : ℕ). numbersFrom 0 8 ns ++ (x ∷ y ∷ [])) z₁ z₂,
+        )
 
 -- numbers that are taken have no fault, and are those of the header that is given
-pub header-taken : (ns : List ℕ) (h : Header) → headerFrom ns ≡ given h → (headerNumbersFault ns ≡ 0) × (headerAt ns ≡ h)
+pub header-taken : (ns : List ℕ) (h : Header) → headerFrom ns ≡ given h → (headerNumbersFault ns ≡ 0) × (headerOfNumbers ns ≡ h)
 unfolding headerFrom
-header-taken ns h e = by-none 2 0 3 (λ k. k) (headerNumbersFault ns) (headerAt ns) h e
+header-taken ns h e = by-none 2 0 3 (λ k. k) (headerNumbersFault ns) (headerOfNumbers ns) h e
 
 pub header-numbers-same : (ns : List ℕ) (h : Header) → headerFrom ns ≡ given h → HeaderSound ns h
 header-numbers-same ns h e = let t = header-taken ns h e in subst (HeaderSound ns) (t .1) (header-sound ns (t .0))

@@ -3,37 +3,40 @@
 use Prim.Native.Nat.{ℕ, _+_, _*_}
 use mathlib.Core.Path.{_≡_, refl, ap}
 use mathlib.Core.Bool.{Bool, true, false, cond}
-use mathlib.Core.List.{List, [], _∷_, _++_}
+use mathlib.Core.List.{List}
 use lib.ListN.{length}
 use Rattle.layout.specs.Line.{Line, Allowed, faultFrom}
 use Rattle.layout.specs.LineLaws.{FirstFault}
 use Rattle.sheet.specs.declared.Header.{Header}
 use Rattle.sheet.specs.declared.Record.{Record}
+use Rattle.sheet.specs.Versions.{firstBytes, one, two}
 use Rattle.sheet.specs.Lines.{headerLines}
 use Rattle.sheet.specs.Refusals.{given, refused, recordRefused}
-use Rattle.sheet.specs.Header.{headerAt}
 use Rattle.sheet.specs.Record.{plateLinesOf, memberLinesOf}
 use Rattle.sheet.specs.Exactly.{Exactly, LaterFault, byFields, exactly-of, fields-first, fields-later, fields-given}
 use Rattle.sheet.specs.HeaderExactly.{headerCases}
 use Rattle.sheet.specs.RecordExactly.{recordCases}
-use Rattle.numbers.specs.From.{numbersFrom, headerNumbersFault, headerFrom, plateNumbered, recordOfNumbers, plateFields, recordNumbersFault, recordFrom}
+use Rattle.numbers.specs.From.{numbersFrom, headerOfNumbers, fieldsAs, inSecond, headerFieldsOf, headerLinesOf, headerNumbersFault, headerFrom, plateNumbered, recordOfNumbers, plateFields, recordNumbersFault, recordFrom}
 
 module _ (ns : List ℕ) where
-  -- a header's numbers as its fields
-  abbrev pub headerFields : List ℕ
-  headerFields = numbersFrom 0 8 ns ++ 0 ∷ []
+  same-header : length (headerFieldsOf ns) ≡ length (headerLinesOf ns)
+  same-header = go (inSecond ns)
+    where
+      go : (t : Bool) → length (fieldsAs t ns) ≡ length (headerLines (cond t two one))
+      go true = refl
+      go false = refl
 
-  pub header-from-2 : (p : ℕ) → Exactly (headerFrom ns ≡ refused 2 p) (FirstFault 0 headerLines headerFields × (p ≡ 0))
+  pub header-from-2 : (p : ℕ) → Exactly (headerFrom ns ≡ refused 2 p) (FirstFault 0 (headerLinesOf ns) (headerFieldsOf ns) × (p ≡ 0))
   unfolding headerFrom headerNumbersFault
-  header-from-2 p = fields-first headerCases headerLines headerFields refl (headerAt ns) p
+  header-from-2 p = fields-first (headerCases firstBytes) (headerLinesOf ns) (headerFieldsOf ns) same-header (headerOfNumbers ns) p
 
-  pub header-from-3 : (p : ℕ) → Exactly (headerFrom ns ≡ refused 3 p) (LaterFault (λ k. k) headerLines headerFields p)
+  pub header-from-3 : (p : ℕ) → Exactly (headerFrom ns ≡ refused 3 p) (LaterFault (λ k. k) (headerLinesOf ns) (headerFieldsOf ns) p)
   unfolding headerFrom headerNumbersFault
-  header-from-3 p = fields-later headerCases headerLines headerFields refl (headerAt ns) p
+  header-from-3 p = fields-later (headerCases firstBytes) (headerLinesOf ns) (headerFieldsOf ns) same-header (headerOfNumbers ns) p
 
-  pub header-from-given : (h : Header) → Exactly (headerFrom ns ≡ given h) (Allowed headerLines headerFields × (headerAt ns ≡ h))
+  pub header-from-given : (h : Header) → Exactly (headerFrom ns ≡ given h) (Allowed (headerLinesOf ns) (headerFieldsOf ns) × (headerOfNumbers ns ≡ h))
   unfolding headerFrom headerNumbersFault
-  header-from-given h = fields-given headerCases headerLines headerFields refl (headerAt ns) h
+  header-from-given h = fields-given (headerCases firstBytes) (headerLinesOf ns) (headerFieldsOf ns) same-header (headerOfNumbers ns) h
 
   -- a record's numbers as its fields
   abbrev pub recordFields : List ℕ

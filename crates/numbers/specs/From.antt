@@ -3,10 +3,11 @@ use Prim.Native.Nat.{ℕ, zero, suc, _+_}
 use mathlib.Core.Bool.{Bool, cond}
 use mathlib.Core.List.{List, [], _∷_, _++_}
 use lib.ListN.{getD}
-use lib.Dec.{ltb}
-use Rattle.layout.specs.Line.{faultFrom}
+use lib.Dec.{ltb, eqb}
+use Rattle.layout.specs.Line.{Line, faultFrom}
 use Rattle.sheet.specs.declared.Header.{Header}
 use Rattle.sheet.specs.declared.Record.{Record}
+use Rattle.sheet.specs.Versions.{two, numbered}
 use Rattle.sheet.specs.Lines.{headerLines}
 use Rattle.sheet.specs.Refusals.{Answer, given, headerRefused, recordRefused}
 use Rattle.sheet.specs.Header.{headerAt}
@@ -17,13 +18,32 @@ abbrev pub numbersFrom : (i count : ℕ) → List ℕ → List ℕ
 numbersFrom i zero ns = []
 numbersFrom i (suc count) ns = getD ns i 0 ∷ numbersFrom (suc i) count ns
 
--- the first faulty field of a header's numbers, version being 1; 0 where there is none. The zero bits are 0
+-- the header that numbers are, whatever they are: between n and ZDB stand the three zero bits
+abbrev pub headerOfNumbers : List ℕ → Header
+headerOfNumbers ns = headerAt (numbersFrom 0 8 ns ++ (0 ∷ numbersFrom 8 2 ns))
+
+-- a header's numbers as its fields, in version 2 and else. All zero bits are 0; where the version has nothing of its own, what is not 0 past n stands where the
+-- zero bits are
+abbrev pub fieldsAs : (second : Bool) → List ℕ → List ℕ
+fieldsAs second ns = numbersFrom 0 8 ns ++ cond second (0 ∷ (numbersFrom 8 2 ns ++ 0 ∷ [])) ((getD ns 8 0 + getD ns 9 0) ∷ [])
+
+abbrev pub inSecond : List ℕ → Bool
+inSecond ns = eqb (getD ns 0 0) (two .number)
+
+abbrev pub headerFieldsOf : List ℕ → List ℕ
+headerFieldsOf ns = fieldsAs (inSecond ns) ns
+
+-- the lines that they answer to
+abbrev pub headerLinesOf : List ℕ → List Line
+headerLinesOf ns = headerLines (numbered (getD ns 0 0))
+
+-- the first faulty field of a header's numbers, version being 1; 0 where there is none
 unfoldable pub headerNumbersFault : List ℕ → ℕ
-headerNumbersFault ns = faultFrom 1 headerLines (numbersFrom 0 8 ns ++ 0 ∷ [])
+headerNumbersFault ns = faultFrom 1 (headerLinesOf ns) (headerFieldsOf ns)
 
 -- the header that numbers are: 2 and 3 by the first number that its field does not allow
 unfoldable pub headerFrom : List ℕ → Answer Header
-headerFrom ns = headerRefused (headerNumbersFault ns) (given (headerAt ns))
+headerFrom ns = headerRefused (headerNumbersFault ns) (given (headerOfNumbers ns))
 
 -- up to 4 the kind is that of a plate
 abbrev pub plateNumbered : List ℕ → Bool

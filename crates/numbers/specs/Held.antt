@@ -8,11 +8,13 @@ use Rattle.quantity.specs.Range.{Range, within, from, span, spacing, thickness,
 use Rattle.sheet.specs.Refusals.{Answer, given, refused}
 use Rattle.sheet.specs.Lines.{none}
 use Rattle.sheet.specs.declared.Header.{Header}
+use Rattle.sheet.specs.declared.Own.{Own}
+use Rattle.sheet.specs.declared.Own.the-variants.{One, Two}
 use Rattle.sheet.specs.declared.Plate.{Plate}
 use Rattle.sheet.specs.declared.Member.{Member}
 use Rattle.sheet.specs.declared.Body.the-variants.{Plate as isPlate, Member as isMember}
 use Rattle.sheet.specs.declared.Record.{Record}
-use Rattle.numbers.specs.From.{plateNumbered}
+use Rattle.numbers.specs.From.{inSecond, plateNumbered}
 
 -- a number within a range as it is, and every other as the highest that its field can hold
 abbrev pub heldIn : Range → (top x : ℕ) → ℕ
@@ -31,6 +33,10 @@ abbrev pub earlierOf : Answer (Unit {0}) → (number place : ℕ) → Answer (Un
 earlierOf (given u) k p = refused k p
 earlierOf (refused j q) k p = cond (ltb q p) (refused j q) (refused k p)
 
+-- a version's own numbers in its fields
+abbrev pub ownHeld : List ℕ → Own
+ownHeld ns = cond (inSecond ns) (Two (record { «inner_modulus» = getD ns 8 0; depth = record { 0 = heldIn span 65535 (getD ns 9 0) } })) One
+
 -- a header's numbers in its fields
 abbrev pub headerHeld : List ℕ → Header
 headerHeld ns =
@@ -43,11 +49,15 @@ headerHeld ns =
       moment = getD ns 5 0;
       «bottom_modulus» = getD ns 6 0;
       count = held 65535 (getD ns 7 0);
+      own = ownHeld ns;
     }
 
--- the first field that is at fault although what it is held as is not, or 0
+-- the first field that is at fault although what it is held as is not, or 0: runs, and in version 1 the numbers past n
 abbrev pub headerApart : List ℕ → ℕ
-headerApart ns = cond (within (from 0 1) (getD ns 4 0)) 0 5
+headerApart ns =
+    cond (inSecond ns)
+    (cond (within (from 0 1) (getD ns 4 0)) 0 5)
+    (cond (within (from 0 1) (getD ns 4 0)) (cond (within none (getD ns 8 0)) (cond (within none (getD ns 9 0)) 0 9) 9) 5)
 
 -- a plate's numbers in its fields
 abbrev pub plateHeld : List ℕ → Plate

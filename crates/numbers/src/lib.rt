@@ -8,19 +8,34 @@ use sheet::Header;
 use sheet::HeaderRead;
 use sheet::Member;
 use sheet::Outcome;
+use sheet::Own;
 use sheet::Plate;
 use sheet::Record;
 use sheet::RecordRead;
 use sheet::Refusal;
+use sheet::Section;
 ghost use mathlib.Core.Path.{_≡_};
 ghost use mathlib.Core.Bool.{cond};
 ghost use lib.Dec.{eqb};
 ghost use Rattle.sheet.specs.Refusals.{numberOf, placeOf, toldOutcome, toldHeader, toldRecord};
-ghost use Rattle.numbers.specs.Fields.{headerNumbers, plateNumbers, memberNumbers, recordNumbers};
+ghost use Rattle.numbers.specs.Fields.{ownNumbers, headerNumbers, plateNumbers, memberNumbers, recordNumbers};
 ghost use Rattle.numbers.specs.From.{headerFrom, recordFrom};
-ghost use Rattle.numbers.specs.Held.{earlierOf, headerHeld, plateHeld, memberHeld, recordHeld, plateApart, recordApart};
+ghost use Rattle.numbers.specs.Held.{earlierOf, ownHeld, headerHeld, headerApart, plateHeld, memberHeld, recordHeld, plateApart, recordApart};
 
-pub fn header_numbers(h: Header) -> [u32; 8]
+// The two numbers of what a version has of its own; version 1 has none, and they are 0.
+fn own_numbers(own: Own) -> [u32; 2]
+    ensures { λ r. ⌜ r ≡ ownNumbers own ⌝ }
+{
+    match own {
+        Own::One => [0, 0],
+        Own::Two(section) => {
+            let depth = values::short(section.depth.0);
+            [section.inner_modulus, depth]
+        }
+    }
+}
+
+pub fn header_numbers(h: Header) -> [u32; 10]
     ensures { λ r. ⌜ r ≡ headerNumbers h ⌝ }
 {
     let version = h.version as u32;
@@ -29,6 +44,8 @@ pub fn header_numbers(h: Header) -> [u32; 8]
     let wave = h.wave.0 as u32;
     let runs = values::flag(h.two_runs);
     let count = h.count as u32;
+    let own = h.own;
+    let more = own_numbers(own);
     [
         version,
         length,
@@ -38,6 +55,8 @@ pub fn header_numbers(h: Header) -> [u32; 8]
         h.moment,
         h.bottom_modulus,
         count,
+        more[0],
+        more[1],
     ]
 }
 
@@ -130,7 +149,21 @@ fn earlier(found: Outcome, field: u8, here: Refusal) -> Outcome
     }
 }
 
-fn header_held(f: [u32; 8]) -> Header
+fn own_held(f: [u32; 10]) -> Own
+    ensures { λ r. ⌜ r ≡ ownHeld f ⌝ }
+{
+    if f[0] == 2 {
+        let inner_modulus = f[8];
+        let depth = held::span_of(f[9]);
+        return Own::Two(Section {
+            inner_modulus,
+            depth,
+        });
+    }
+    Own::One
+}
+
+fn header_held(f: [u32; 10]) -> Header
     ensures { λ r. ⌜ r ≡ headerHeld f ⌝ }
 {
     let version = held::byte(f[0]);
@@ -141,6 +174,7 @@ fn header_held(f: [u32; 8]) -> Header
     let moment = f[5];
     let bottom_modulus = f[6];
     let count = held::short(f[7]);
+    let own = own_held(f);
     Header {
         version,
         length,
@@ -150,17 +184,29 @@ fn header_held(f: [u32; 8]) -> Header
         moment,
         bottom_modulus,
         count,
+        own,
     }
 }
 
+// The first field of a header that is at fault although what it was held as is not, or 0: runs, and the numbers past n in version 1, which are 0.
+fn header_apart(f: [u32; 10]) -> u8
+    ensures { λ r. ⌜ r ≡ headerApart f ⌝ }
+{
+    if f[0] == 2 {
+        return layout::fault_unless(f[4], 0, 1, 5, 0);
+    }
+    let past = layout::fault_unless(f[9], 0, 0, 9, 0);
+    let past = layout::fault_unless(f[8], 0, 0, 9, past);
+    layout::fault_unless(f[4], 0, 1, 5, past)
+}
+
 // The header that numbers are, or why they are none.
-pub fn header_from(f: [u32; 8]) -> HeaderRead
+pub fn header_from(f: [u32; 10]) -> HeaderRead
     ensures { λ r. ⌜ toldHeader r ≡ headerFrom f ⌝ }
 {
     let h = header_held(f);
     let found = header::header_fault(h);
-    // runs: what it is held as is never at fault
-    let field = layout::fault_unless(f[4], 0, 1, 5, 0);
+    let field = header_apart(f);
     let place = field as u32;
     let fault = earlier(found, field, Refusal::HeaderField(place));
     match fault {

@@ -10,12 +10,12 @@ use Rattle.numbers.proofs.Taken.{header-by-held}
 use Rattle.numbers.proofs.header_from.Statement.{statement}
 use Rattle.numbers.proofs.header_from.Tie as tie
 
-found : (c : tie.After-earlier) → carrying (c .before .before .before .header-held .result) (toldOutcome (c .earlier .result)) ≡ headerFrom (c .before .before .before .before .args .t1)
+found : (c : tie.After-earlier) → carrying (c .before .before .before .header-held .result) (toldOutcome (c .earlier .result)) ≡ headerFrom (c .before .before .before .before .args .f)
 found c =
     let apart = c .before in
     let fault = apart .before in
     let kept = fault .before in
-    header-by-held (kept .before .args .t1) (kept .header-held .result) (apart .fault-unless .result) (kept .header-held .ensures) (apart .fault-unless .ensures)
+    header-by-held (kept .before .args .f) (kept .header-held .result) (apart .header-apart .result) (kept .header-held .ensures) (apart .header-apart .ensures)
     (fault .header-fault .ensures) (c .earlier .ensures)
 
 returns : tie.Need-returns
@@ -36,7 +36,6 @@ header-from-spec =
     (tie.spec
     (λ c κs. search needs)
     (λ c κs. search needs)
-    (λ c. search needs)
     (λ c κs. search needs)
     (λ c. search needs)
     (λ c κs. search needs)

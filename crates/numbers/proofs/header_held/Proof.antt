@@ -6,12 +6,14 @@ use Rattle.numbers.proofs.header_held.Tie as tie
 
 returns : tie.Need-returns
 returns c =
-    let c₁ = c .before in
+    let c₀ = c .before in
+    let c₁ = c₀ .before in
     let c₂ = c₁ .before in
     let c₃ = c₂ .before in
     let c₄ = c₃ .before in
     rw (
-      c .short .ensures,
+      c .own-held .ensures,
+      c₀ .short .ensures,
       c₁ .span-of3 .ensures,
       c₂ .span-of2 .ensures,
       c₃ .span-of .ensures,
@@ -34,5 +36,6 @@ header-held-spec =
     (λ c. search needs)
     (λ c. search needs)
     (λ c. search needs)
+    (λ c κs. search needs)
     (λ c κs. search needs)
     returns)
