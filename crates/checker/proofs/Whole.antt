@@ -1,13 +1,11 @@
 -- The whole check: which answer it gives in each case, and what it leaves in the output.
 -- Assumes nothing.
-use Prim.Native.Nat.{ℕ, _-_, _*_, _≤_}
+use Prim.Native.Nat.{ℕ, _*_, _≤_}
 use native.Mathlib.Omega.{arith}
 use mathlib.Core.Path.{_≡_, sym, ap, ap₂, _∙_}
 use mathlib.Core.List.{List, _++_, map}
 use lib.ListN.{length, take, drop, length-map, length-drop}
 use lib.Seq.{take-at, take-all}
-use borrow.Rule.Slice.PartMut.{midOf}
-use Rattle.layout.specs.Tail.{mid-tail}
 use Rattle.sheet.specs.declared.Header.{Header}
 use Rattle.sheet.specs.declared.Record.{Record}
 use Rattle.sheet.specs.declared.Refusal.{Refusal}
@@ -20,10 +18,6 @@ use Rattle.checker.specs.declared.Checked.the-variants.{Done, Refused as
 use Rattle.checker.specs.Check.{_then_, headerFor, recordsPart, partsFrom, recordsIn, Sheet, sheetIn, entryOf, verdicts, bytesOf, answerOf, Checks}
 use Rattle.checker.specs.CheckLaws.{header-fits, then-given, taken, bytes-length, answer-done, output-done, refused-as-lent}
 use Rattle.checker.specs.Passes.{Ready, Pass, passOf, passOver}
-
--- what stands past the header, lent as a part that goes to the end
-pub past-header : (h : Header) (s : List ℕ) (size : ℕ) → size ≡ headerSize h → midOf size (length s - size) s ≡ recordsPart h s
-past-header h s size e = ap (λ (k : ℕ). midOf k (length s - k) s) e ∙ mid-tail (headerSize h) s
 
 -- ---- what the table says
 

@@ -1,7 +1,7 @@
 -- Which answer an edit gives in each case, and what it leaves.
 -- Assumes nothing.
 use Prim.Native.Nat.{ℕ, _+_, _-_, _≤_, _<_}
-use mathlib.Core.Path.{_≡_, sym, ap, ap₂, _∙_}
+use mathlib.Core.Path.{_≡_, sym, ap, ap₂, subst, _∙_}
 use mathlib.Core.Bool.{true, false}
 use mathlib.Core.List.{List}
 use native.Mathlib.Omega.{arith}
@@ -12,19 +12,18 @@ use Rattle.sheet.specs.declared.Header.{Header}
 use Rattle.sheet.specs.declared.Record.{Record}
 use Rattle.sheet.specs.declared.Refusal.{Refusal}
 use Rattle.sheet.specs.declared.Refusal.the-variants.{NoSuchId, NoRoom}
-use Rattle.sheet.specs.Lines.{counts}
 use Rattle.sheet.specs.Refusals.{Answer, given, refused, numberOf, placeOf as placeIn-table, told, headerRefused, recordRefused}
 use Rattle.sheet.specs.RefusalLaws.{at-none, by-none, given-refused, given-same, refused-number, refused-place}
 use Rattle.sheet.specs.Header.{headerFault}
 use Rattle.sheet.specs.Record.{recordFault}
 use Rattle.numbers.specs.From.{recordFrom}
-use Rattle.checker.specs.Check.{_then_, demand, Sheet}
+use Rattle.checker.specs.Check.{_then_, demand, sheetSize, recordsPart, Sheet}
 use Rattle.checker.specs.CheckLaws.{then-given}
 use Rattle.checker.specs.Unjudged.{soundHeader}
 use Rattle.edit.specs.declared.Edited.the-variants.{Length, Refused as notEdited}
 use Rattle.keyed.specs.Keyed.{placeOf, hasOf}
 use Rattle.keyed.specs.Places.{place-le, has-lt}
-use Rattle.edit.specs.Edit.{sheetAt, headerOf, start, idOf, counting, replacing, inserting, removing, After, hasRoom, placing, putIn, putNumbersIn, removeIn, sizeBy, bytesBy, Edits}
+use Rattle.edit.specs.Edit.{sheetAt, headerOf, highest, idOf, counting, replacing, inserting, removing, After, hasRoom, placing, putIn, putNumbersIn, removeIn, sizeBy, bytesBy, Edits}
 use Rattle.edit.specs.Steps.{placeIn, hasIn, Known}
 use Rattle.edit.specs.HeaderCount.{counting-sound, counting-few}
 use Rattle.edit.specs.Taken.{Taken, taken-at, place-same, has-same}
@@ -57,28 +56,28 @@ known b len h e =
 
 -- ---- room
 
-pub no-room : (n len size : ℕ) → size < len + 16 → hasRoom n len size ≡ false
-no-room n len size l = rw (lt-leb (len + 16) size l)
+pub no-room : (h : Header) (len size : ℕ) → size < len + 16 → hasRoom h len size ≡ false
+no-room h len size l = rw (lt-leb (len + 16) size l)
 
-pub room-for-one : (n len size : ℕ) → len + 16 ≤ size → n < counts .high → hasRoom n len size ≡ true
-room-for-one n len size l m = rw (le-leb (len + 16) size l, lt-ltb n (counts .high) m)
+pub room-for-one : (h : Header) (len size : ℕ) → len + 16 ≤ size → h .count < highest h → hasRoom h len size ≡ true
+room-for-one h len size l m = rw (le-leb (len + 16) size l, lt-ltb (h .count) (highest h) m)
 
 -- the header's own test of the count that is one more
-module _ (h : Header) (n : ℕ) (z : headerFault h ≡ 0) where
+module _ (h : Header) (z : headerFault h ≡ 0) where
   abbrev more : ℕ
-  more = headerFault (counting (n + 1) h)
+  more = headerFault (counting (h .count + 1) h)
 
-  pub at-highest : (len size k p : ℕ) → len + 16 ≤ size → refused k p ≡ headerRefused more (given (tt {0})) → hasRoom n len size ≡ false
-  at-highest len size k p l e = go (decLt n (counts .high))
+  pub at-highest : (len size k p : ℕ) → len + 16 ≤ size → refused k p ≡ headerRefused more (given (tt {0})) → hasRoom h len size ≡ false
+  at-highest len size k p l e = go (decLt (h .count) (highest h))
     where
-      go : Dec (n < counts .high) → hasRoom n len size ≡ false
-      go (yes m) = given-refused (sym (e ∙ at-none (refused 2 0) (λ f. refused 3 f) more (given (tt {0})) (counting-sound h (n + 1) z (omega arith))))
-      go (no m) = rw (le-leb (len + 16) size l, le-ltb n (counts .high) (omega arith))
+      go : Dec (h .count < highest h) → hasRoom h len size ≡ false
+      go (yes m) = given-refused (sym (e ∙ at-none (refused 2 0) (λ f. refused 3 f) more (given (tt {0})) (counting-sound h (h .count + 1) z (omega arith))))
+      go (no m) = rw (le-leb (len + 16) size l, le-ltb (h .count) (highest h) (omega arith))
 
-  pub below-highest : given (tt {0}) ≡ headerRefused more (given tt) → (more ≡ 0) × (n < counts .high)
+  pub below-highest : given (tt {0}) ≡ headerRefused more (given tt) → (more ≡ 0) × (h .count < highest h)
   below-highest e =
       let f = by-none 2 0 3 (λ k. k) more (tt {0}) (tt {0}) (sym e) .0 in
-      (f, omega (arith, counting-few h (n + 1) f))
+      (f, omega (arith, counting-few h (h .count + 1) f))
 
 -- ---- refusals
 
@@ -116,9 +115,17 @@ module _ (b : List ℕ) (len : ℕ) where
     same-count : t .header .count ≡ n
     same-count = ap (λ (g : Header). g .count) (sym (k .header))
 
+    -- the bytes of its records
+    abbrev rs : List ℕ
+    rs = recordsPart h b
+
     -- what the code may count on
-    pub size : (len ≡ start n) × (len ≤ length b) × (n ≤ counts .high)
-    size = (sheet-taken .whole ∙ ap start same-count, sheet-taken .fits, omega (arith, sheet-taken .few, same-count))
+    pub size : (len ≡ sheetSize h) × (len ≤ length b) × (n ≤ highest h)
+    size = (
+      sheet-taken .whole ∙ ap (λ (g : Header). sheetSize g) (sym (k .header)),
+      sheet-taken .fits,
+      subst (λ (g : Header). g .count ≤ highest g) (sym (k .header)) (sheet-taken .few),
+    )
 
     pub its-header : headerFault h ≡ 0
     its-header = ap (λ (g : Header). headerFault g) (k .header) ∙ sheet-taken .sound
@@ -127,26 +134,26 @@ module _ (b : List ℕ) (len : ℕ) where
       abbrev i : ℕ
       i = placeOf idOf id (t .records)
 
-      pub place-is : placeIn b n id ≡ i
-      place-is = ap (λ (m : ℕ). placeIn b m id) (sym same-count) ∙ place-same b len t sheet-taken id
+      pub place-is : placeIn rs n id ≡ i
+      place-is = ap (λ (g : Header). placeIn (recordsPart g b) (g .count) id) (k .header) ∙ place-same b len t sheet-taken id
 
-      has-is : hasIn b n id ≡ hasOf idOf id (t .records)
-      has-is = ap (λ (m : ℕ). hasIn b m id) (sym same-count) ∙ has-same b len t sheet-taken id
+      has-is : hasIn rs n id ≡ hasOf idOf id (t .records)
+      has-is = ap (λ (g : Header). hasIn (recordsPart g b) (g .count) id) (k .header) ∙ has-same b len t sheet-taken id
 
       -- the place of an id is at most the end, and that of one that is there is before it
-      pub place-most : placeIn b n id ≤ n
+      pub place-most : placeIn rs n id ≤ n
       place-most = omega (arith, place-is, place-le idOf id (t .records), sheet-taken .number, same-count)
 
-      pub place-within : hasIn b n id ≡ true → placeIn b n id < n
+      pub place-within : hasIn rs n id ≡ true → placeIn rs n id < n
       place-within e = omega (arith, place-is, has-lt idOf id (t .records) (sym has-is ∙ e), sheet-taken .number, same-count)
 
       -- ---- a removal
 
-      pub remove-none : hasIn b n id ≡ false → Edits (removeIn b len id) b (notEdited NoSuchId) b
+      pub remove-none : hasIn rs n id ≡ false → Edits (removeIn b len id) b (notEdited NoSuchId) b
       unfolding removeIn _then_ demand
       remove-none e = refused-edits (removeIn b len id) b NoSuchId (rw (k .found, sym has-is ∙ e))
 
-      pub remove-done : hasIn b n id ≡ true → (g : Header) → g ≡ counting (n - 1) h → (after : List ℕ) → after ≡ removing g (placeIn b n id) len b → Edits (removeIn b len id) b (Length (len - 16)) after
+      pub remove-done : hasIn rs n id ≡ true → (g : Header) → g ≡ counting (n - 1) h → (after : List ℕ) → after ≡ removing g (placeIn rs n id) len b → Edits (removeIn b len id) b (Length (len - 16)) after
       unfolding removeIn _then_ demand
       remove-done e g f after w =
           let counted : g ≡ counting (t .header .count - 1) (t .header) = f ∙ ap (λ (x : Header). counting (x .count - 1) x) (k .header) in
@@ -183,21 +190,21 @@ module _ (b : List ℕ) (len : ℕ) where
         unfolding putIn _then_
         put-is = rw (k .found, eq-eqb (recordFault r 0) 0 z)
 
-        pub put-replaced : hasIn b n (r .id) ≡ true → (after : List ℕ) → after ≡ replacing (placeIn b n (r .id)) r b → Edits (putIn b len r) b (Length len) after
+        pub put-replaced : hasIn rs n (r .id) ≡ true → (after : List ℕ) → after ≡ replacing h (placeIn rs n (r .id)) r b → Edits (putIn b len r) b (Length len) after
         unfolding placing
         put-replaced e after w =
             given-edits (putIn b len r) b after len
-            (put-is ∙ rw (sym (has-is (r .id)) ∙ e) (ap (λ (x : List ℕ). given (record { size = len; bytes = x })) (sym (w ∙ ap (λ (y : ℕ). replacing y r b) (place-is (r .id))))))
+            (put-is ∙ rw (sym (has-is (r .id)) ∙ e) (ap (λ (x : List ℕ). given (record { size = len; bytes = x })) (sym (w ∙ ap₂ (λ (g : Header) (y : ℕ). replacing g y r b) (k .header) (place-is (r .id))))))
 
-        module _ (new : hasIn b n (r .id) ≡ false) where
-          room-is : hasRoom (t .header .count) len (length b) ≡ hasRoom n len (length b)
-          room-is = ap (λ (m : ℕ). hasRoom m len (length b)) same-count
+        module _ (new : hasIn rs n (r .id) ≡ false) where
+          room-is : hasRoom (t .header) len (length b) ≡ hasRoom h len (length b)
+          room-is = ap (λ (g : Header). hasRoom g len (length b)) (sym (k .header))
 
-          pub put-full : hasRoom n len (length b) ≡ false → Edits (putIn b len r) b (notEdited NoRoom) b
+          pub put-full : hasRoom h len (length b) ≡ false → Edits (putIn b len r) b (notEdited NoRoom) b
           unfolding placing _then_ demand
           put-full e = refused-edits (putIn b len r) b NoRoom (put-is ∙ rw (sym (has-is (r .id)) ∙ new, room-is ∙ e))
 
-          pub put-inserted : hasRoom n len (length b) ≡ true → (g : Header) → g ≡ counting (n + 1) h → (after : List ℕ) → after ≡ inserting g (placeIn b n (r .id)) len r b
+          pub put-inserted : hasRoom h len (length b) ≡ true → (g : Header) → g ≡ counting (n + 1) h → (after : List ℕ) → after ≡ inserting g (placeIn rs n (r .id)) len r b
               → Edits (putIn b len r) b (Length (len + 16)) after
           unfolding placing _then_ demand
           put-inserted e g f after w =

@@ -1,6 +1,6 @@
 -- What the steps that write leave in the buffer.
 -- Assumes nothing.
-use Prim.Native.Nat.{ℕ, _+_, _-_, _≤_}
+use Prim.Native.Nat.{ℕ, _+_, _-_, _*_, _≤_}
 use mathlib.Core.Path.{_≡_, sym, ap, ap₂, _∙_}
 use mathlib.Core.List.{List, [], _++_, append-assoc, append-nil}
 use native.Mathlib.Omega.{arith}
@@ -8,14 +8,16 @@ use lib.ListN.{length, take, drop, replicate, length-append, length-take, length
 use lib.Seq.{take-at, drop-at, take-append-le, drop-append-le, take-append-add, take-take, drop-drop, length-take-le}
 use borrow.Author.Tests.{le-ltb, eq-eqb}
 use borrow.Rule.Slice.PartMut.{putMid}
+use Rattle.layout.specs.BytesLaws.{drop-take}
 use Rattle.sheet.specs.declared.Header.{Header}
 use Rattle.sheet.specs.declared.Record.{Record}
-use Rattle.sheet.specs.Header.{headerFault, headerBytes, writeHeader}
+use Rattle.sheet.specs.Header.{headerSize, headerFault, headerBytes, writeHeader}
+use Rattle.sheet.specs.HeaderLaws.{header-allowed}
+use Rattle.sheet.specs.HeaderExactly.{header-write-given, header-write-bytes}
 use Rattle.sheet.specs.Record.{recordFault, recordBytes, writeRecord}
 use Rattle.checker.specs.Check.{part}
 use Rattle.edit.specs.Edit.{start, replacing, inserting, removing}
 use Rattle.edit.specs.Steps.{opened, without, closed, cleared, Fits, Stands}
-use Rattle.edit.specs.Parts.{drop-take}
 
 -- a part, the other way round
 part-is : (b : List ℕ) (a e : ℕ) → a ≤ e → part b a e ≡ drop a (take e b)
@@ -24,19 +26,26 @@ part-is b a e l =
     sym (ap (λ (k : ℕ). drop a (take k b)) (sym m) ∙ drop-take a (e - a) b)
 
 -- the record's sixteen bytes come back into their place
-pub replaced : (b v : List ℕ) (i : ℕ) (r : Record) → recordFault r 0 ≡ 0 → start i + 16 ≤ length b → v ≡ writeRecord r (take (start i + 16 - start i) (drop (start i) b)) .bytes
-    → putMid (start i) (start i + 16 - start i) b v ≡ replacing i r b
+in-place : (b v : List ℕ) (h : Header) (i : ℕ) (r : Record) → recordFault r 0 ≡ 0 → start h i + 16 ≤ length b → v ≡ writeRecord r (take (start h i + 16 - start h i) (drop (start h i) b)) .bytes
+    → putMid (start h i) (start h i + 16 - start h i) b v ≡ replacing h i r b
 unfolding writeRecord replacing
-replaced b v i r z l w =
-    let d : start i + 16 - start i ≡ 16 = omega arith in
-    let o = take (start i + 16 - start i) (drop (start i) b) in
-    let n : length o ≡ 16 = ap (λ (k : ℕ). length (take k (drop (start i) b))) d ∙ length-take-le 16 (drop (start i) b) (omega (arith, length-drop (start i) b)) in
+in-place b v h i r z l w =
+    let d : start h i + 16 - start h i ≡ 16 = omega arith in
+    let o = take (start h i + 16 - start h i) (drop (start h i) b) in
+    let n : length o ≡ 16 = ap (λ (k : ℕ). length (take k (drop (start h i) b))) d ∙ length-take-le 16 (drop (start h i) b) (omega (arith, length-drop (start h i) b)) in
     let long : 16 ≤ length o = omega arith in
     let short : length o ≤ 16 = omega arith in
     let end : drop 16 o ≡ [] = drop-of-length-le o short in
     let own : v ≡ recordBytes r = w ∙ rw (le-ltb (length o) 16 long, eq-eqb (recordFault r 0) 0 z, end) (append-nil (recordBytes r)) in
-    ap₂ (λ (x : List ℕ) (k : ℕ). take (start i) b ++ (x ++ drop k (drop (start i) b))) own d
-    ∙ ap (λ (x : List ℕ). take (start i) b ++ (recordBytes r ++ x)) (drop-drop 16 (start i) b)
+    ap₂ (λ (x : List ℕ) (k : ℕ). take (start h i) b ++ (x ++ drop k (drop (start h i) b))) own d
+    ∙ ap (λ (x : List ℕ). take (start h i) b ++ (recordBytes r ++ x)) (drop-drop 16 (start h i) b)
+
+-- the header's size being known by another name
+pub replaced : (b v : List ℕ) (h : Header) (i k : ℕ) → k ≡ headerSize h → (r : Record) → recordFault r 0 ≡ 0 → start h i + 16 ≤ length b
+    → v ≡ writeRecord r (take (k + 16 * i + 16 - (k + 16 * i)) (drop (k + 16 * i) b)) .bytes → putMid (k + 16 * i) (k + 16 * i + 16 - (k + 16 * i)) b v ≡ replacing h i r b
+replaced b v h i k e r z l w =
+    ap (λ (n : ℕ). putMid (n + 16 * i) (n + 16 * i + 16 - (n + 16 * i)) b v) e
+    ∙ in-place b v h i r z l (w ∙ ap (λ (n : ℕ). writeRecord r (take (n + 16 * i + 16 - (n + 16 * i)) (drop (n + 16 * i) b)) .bytes) e)
 
 -- a part comes back as zeros
 pub zeroed : (b v : List ℕ) (a e : ℕ) → a ≤ e → e ≤ length b → v ≡ replicate (length (take (e - a) (drop a b))) 0 → putMid a (e - a) b v ≡ cleared b a e
@@ -46,22 +55,21 @@ zeroed b v a e l m f =
     let end : a + (e - a) ≡ e = omega arith in
     ap₂ (λ (x y : List ℕ). take a b ++ (x ++ y)) (f ∙ ap (λ (k : ℕ). replicate k 0) n) (drop-drop (e - a) a b ∙ ap (λ (k : ℕ). drop k b) end)
 
--- the header goes over the first twelve bytes of a buffer whose first a are known
-headed : (h : Header) (x y : List ℕ) → headerFault h ≡ 0 → 12 ≤ length x → writeHeader h (x ++ y) .bytes ≡ headerBytes h ++ (drop 12 x ++ y)
-unfolding writeHeader
+-- the header goes over its bytes in a buffer whose first are known
+headed : (h : Header) (x y : List ℕ) → headerFault h ≡ 0 → headerSize h ≤ length x → writeHeader h (x ++ y) .bytes ≡ headerBytes h ++ (drop (headerSize h) x ++ y)
 headed h x y z l =
-    let m : 12 ≤ length (x ++ y) = omega (arith, length-append x y) in
-    rw (le-ltb (length (x ++ y)) 12 m, eq-eqb (headerFault h) 0 z) (ap (_++_ (headerBytes h)) (drop-append-le 12 x y l))
+    let fine = header-write-given h (x ++ y) .1 (omega (arith, length-append x y), header-allowed h z) in
+    header-write-bytes h (x ++ y) fine ∙ ap (_++_ (headerBytes h)) (drop-append-le (headerSize h) x y l)
 
 module _ (b : List ℕ) (h : Header) (i len : ℕ) where
   abbrev a : ℕ
-  a = start i
+  a = start h i
 
   -- what stands between the header and the place
-  before : a ≤ len → drop 12 (take a b) ≡ part b 12 a
-  before l = sym (part-is b 12 a (omega arith))
+  before : a ≤ len → drop (headerSize h) (take a b) ≡ part b (headerSize h) a
+  before l = sym (part-is b (headerSize h) a (omega arith))
 
-  pub inserted : (r : Record) → Fits h i len r (length b) → (o p q : List ℕ) → o ≡ opened b a len → p ≡ replacing i r o → q ≡ writeHeader h p .bytes → q ≡ inserting h i len r b
+  pub inserted : (r : Record) → Fits h i len r (length b) → (o p q : List ℕ) → o ≡ opened b a len → p ≡ replacing h i r o → q ≡ writeHeader h p .bytes → q ≡ inserting h i len r b
   unfolding opened replacing inserting
   inserted r f o p q eo ep eq =
       let n : length (take a b) ≡ a = length-take-le a b (omega (arith, f .inside, f .room)) in
@@ -95,14 +103,14 @@ module _ (b : List ℕ) (h : Header) (i len : ℕ) where
       ∙ ap (drop (len - k)) (drop-at (take k (without a b)) (drop k b) k c)
       ∙ drop-drop (len - k) k b
       ∙ ap (λ (x : ℕ). drop x b) end in
-      let whole : p ≡ take a b ++ (part b (a + 16) len ++ (replicate 16 0 ++ drop len b)) = ep ∙ in-place (take k o) (replicate (len - k) 0) (drop len o) low (ap (λ (x : ℕ). replicate x 0) freed) high in
+      let whole : p ≡ take a b ++ (part b (a + 16) len ++ (replicate 16 0 ++ drop len b)) = ep ∙ in-three (take k o) (replicate (len - k) 0) (drop len o) low (ap (λ (x : ℕ). replicate x 0) freed) high in
       eq
       ∙ ap (λ (x : List ℕ). writeHeader h x .bytes) whole
       ∙ headed h (take a b) (part b (a + 16) len ++ (replicate 16 0 ++ drop len b)) (f .header) (omega arith)
       ∙ ap (λ (x : List ℕ). headerBytes h ++ (x ++ (part b (a + 16) len ++ (replicate 16 0 ++ drop len b)))) (before (omega (arith, f .inside)))
     where
-      in-place : (x y z : List ℕ) → x ≡ take a b ++ part b (a + 16) len → y ≡ replicate 16 0 → z ≡ drop len b → x ++ (y ++ z) ≡ take a b ++ (part b (a + 16) len ++ (replicate 16 0 ++ drop len b))
-      in-place x y z ex ey ez =
+      in-three : (x y z : List ℕ) → x ≡ take a b ++ part b (a + 16) len → y ≡ replicate 16 0 → z ≡ drop len b → x ++ (y ++ z) ≡ take a b ++ (part b (a + 16) len ++ (replicate 16 0 ++ drop len b))
+      in-three x y z ex ey ez =
           ap₂ (λ (u v : List ℕ). u ++ (y ++ v)) ex ez
           ∙ ap (λ (u : List ℕ). take a b ++ part b (a + 16) len ++ (u ++ drop len b)) ey
           ∙ append-assoc (take a b) (part b (a + 16) len) (replicate 16 0 ++ drop len b)

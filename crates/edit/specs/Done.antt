@@ -8,29 +8,32 @@ use lib.ListN.{length}
 use lib.Dec.{leb, ltb}
 use borrow.Author.Tests.{leb-true, ltb-true}
 use Rattle.keyed.specs.Keyed.{placeOf, hasOf}
+use Rattle.sheet.specs.declared.Header.{Header}
 use Rattle.sheet.specs.declared.Record.{Record}
-use Rattle.sheet.specs.Lines.{counts}
 use Rattle.sheet.specs.Refusals.{given, recordRefused}
 use Rattle.sheet.specs.RefusalLaws.{given-same, by-none}
 use Rattle.sheet.specs.Record.{recordFault}
 use Rattle.checker.specs.Check.{_then_, demand, Sheet}
 use Rattle.checker.specs.CheckLaws.{then-given, demand-given}
-use Rattle.edit.specs.Edit.{sheetAt, idOf, counting, replacing, inserting, removing, After, hasRoom, placing, putIn, removeIn}
+use Rattle.edit.specs.Edit.{sheetAt, highest, idOf, counting, replacing, inserting, removing, After, hasRoom, placing, putIn, removeIn}
 
 module _ (b : List ℕ) (len : ℕ) (t : Sheet) where
+  abbrev h : Header
+  h = t .header
+
   abbrev n : ℕ
-  n = t .header .count
+  n = h .count
 
   -- a record put in: it has no fault, and replaces the one with its id, or goes in at its place
   pub data Put (r : Record) (a : After) : Type 0 where
-    replaces : hasOf idOf (r .id) (t .records) ≡ true → a ≡ record { size = len; bytes = replacing (placeOf idOf (r .id) (t .records)) r b } → Put r a
-    inserts : hasOf idOf (r .id) (t .records) ≡ false → len + 16 ≤ length b → n < counts .high
-        → a ≡ record { size = len + 16; bytes = inserting (counting (n + 1) (t .header)) (placeOf idOf (r .id) (t .records)) len r b } → Put r a
+    replaces : hasOf idOf (r .id) (t .records) ≡ true → a ≡ record { size = len; bytes = replacing (t .header) (placeOf idOf (r .id) (t .records)) r b } → Put r a
+    inserts : hasOf idOf (r .id) (t .records) ≡ false → len + 16 ≤ length b → t .header .count < highest (t .header)
+        → a ≡ record { size = len + 16; bytes = inserting (counting (t .header .count + 1) (t .header)) (placeOf idOf (r .id) (t .records)) len r b } → Put r a
 
   -- a record taken out: one has the id
   pub record Removed (id : ℕ) (a : After) : Type 0 where
     pub there : hasOf idOf id (t .records) ≡ true
-    pub after : a ≡ record { size = len - 16; bytes = removing (counting (n - 1) (t .header)) (placeOf idOf id (t .records)) len b }
+    pub after : a ≡ record { size = len - 16; bytes = removing (counting (t .header .count - 1) (t .header)) (placeOf idOf id (t .records)) len b }
 
   both : (x y : Bool) → (x && y) ≡ true → (x ≡ true) × (y ≡ true)
   both true y e = (refl, e)
@@ -44,14 +47,14 @@ module _ (b : List ℕ) (len : ℕ) (t : Sheet) where
       i = placeOf idOf (r .id) (t .records)
 
       go : (has : Bool) → hasOf idOf (r .id) (t .records) ≡ has
-          → cond has (given (record { size = len; bytes = replacing i r b }))
-          (demand (hasRoom n len (length b)) 11 then λ u. given (record { size = len + 16; bytes = inserting (counting (n + 1) (t .header)) i len r b }))
+          → cond has (given (record { size = len; bytes = replacing h i r b }))
+          (demand (hasRoom h len (length b)) 11 then λ u. given (record { size = len + 16; bytes = inserting (counting (t .header .count + 1) (t .header)) i len r b }))
           ≡ given a → Put r a
       go true f g = replaces f (sym (given-same g))
       go false f g =
-          let d = then-given (demand (hasRoom n len (length b)) 11) _ a g in
-          let m = both (leb (len + 16) (length b)) (ltb n (counts .high)) (demand-given (hasRoom n len (length b)) 11 (d .0) (d .1)) in
-          inserts f (leb-true (len + 16) (length b) (m .0)) (ltb-true n (counts .high) (m .1)) (sym (given-same (d .2)))
+          let d = then-given (demand (hasRoom h len (length b)) 11) _ a g in
+          let m = both (leb (len + 16) (length b)) (ltb n (highest h)) (demand-given (hasRoom h len (length b)) 11 (d .0) (d .1)) in
+          inserts f (leb-true (len + 16) (length b) (m .0)) (ltb-true n (highest h) (m .1)) (sym (given-same (d .2)))
 
   module _ (found : sheetAt b len ≡ given t) where
     pub put-done : (r : Record) (a : After) → putIn b len r ≡ given a → (recordFault r 0 ≡ 0) × Put r a

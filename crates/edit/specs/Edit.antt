@@ -7,9 +7,9 @@ use lib.ListN.{length, take, drop, replicate}
 use lib.Dec.{leb, ltb}
 use Rattle.sheet.specs.declared.Header.{Header}
 use Rattle.sheet.specs.declared.Record.{Record}
-use Rattle.sheet.specs.Lines.{counts}
+use Rattle.sheet.specs.Versions.{versionOf}
 use Rattle.sheet.specs.Refusals.{Answer, given, refused, told, recordRefused}
-use Rattle.sheet.specs.Header.{headerBytes}
+use Rattle.sheet.specs.Header.{headerSize, headerBytes}
 use Rattle.sheet.specs.Record.{recordFault, recordBytes}
 use Rattle.numbers.specs.From.{recordFrom}
 use Rattle.checker.specs.Check.{_then_, demand, part, Sheet}
@@ -28,9 +28,13 @@ sheetAt buffer len = demand (leb len (length buffer)) 1 then λ u. soundSheet (t
 unfoldable pub headerOf : (buffer : List ℕ) (len : ℕ) → Answer Header
 headerOf buffer len = sheetAt buffer len then λ t. given (t .header)
 
--- where record i begins
-abbrev pub start : ℕ → ℕ
-start i = 12 + 16 * i
+-- where record i begins under a header
+abbrev pub start : Header → ℕ → ℕ
+start h i = headerSize h + 16 * i
+
+-- the highest n of its version
+abbrev pub highest : Header → ℕ
+highest h = versionOf (h .own) .most
 
 -- the key of a record
 abbrev pub idOf : Record → ℕ
@@ -48,21 +52,22 @@ counting n h =
       moment = h .moment;
       «bottom_modulus» = h .«bottom_modulus»;
       count = n;
+      own = h .own;
     }
 
 -- ---- the bytes that an edit leaves
 
--- a record in the place of record i: no other byte changes
-unfoldable pub replacing : (i : ℕ) → Record → List ℕ → List ℕ
-replacing i r b = take (start i) b ++ (recordBytes r ++ drop (start i + 16) b)
+-- a record in the place of record i, under the header h: no other byte changes
+unfoldable pub replacing : Header → (i : ℕ) → Record → List ℕ → List ℕ
+replacing h i r b = take (start h i) b ++ (recordBytes r ++ drop (start h i + 16) b)
 
 -- a record put in as record i of a sheet of len bytes, under the header h: what stood from there on stands sixteen bytes further
 unfoldable pub inserting : Header → (i len : ℕ) → Record → List ℕ → List ℕ
-inserting h i len r b = headerBytes h ++ (part b 12 (start i) ++ (recordBytes r ++ (part b (start i) len ++ drop (len + 16) b)))
+inserting h i len r b = headerBytes h ++ (part b (headerSize h) (start h i) ++ (recordBytes r ++ (part b (start h i) len ++ drop (len + 16) b)))
 
 -- record i taken out, under the header h: what stood after it closes the gap, and the sixteen bytes that come free at the end are zero
 unfoldable pub removing : Header → (i len : ℕ) → List ℕ → List ℕ
-removing h i len b = headerBytes h ++ (part b 12 (start i) ++ (part b (start i + 16) len ++ (replicate 16 0 ++ drop len b)))
+removing h i len b = headerBytes h ++ (part b (headerSize h) (start h i) ++ (part b (start h i + 16) len ++ (replicate 16 0 ++ drop len b)))
 
 -- ---- the answers
 
@@ -72,17 +77,17 @@ pub record After : Type 0 where
   pub bytes : List ℕ
 
 -- 11: a new id has room unless the sheet plus 16 exceeds the buffer or n stands at its highest
-abbrev pub hasRoom : (n len size : ℕ) → Bool
-hasRoom n len size = leb (len + 16) size && ltb n (counts .high)
+abbrev pub hasRoom : Header → (len size : ℕ) → Bool
+hasRoom h len size = leb (len + 16) size && ltb (h .count) (highest h)
 
 -- a sound record put into a sheet: it replaces the one with its id, or goes in at its place in the id order
 unfoldable pub placing : Sheet → (buffer : List ℕ) (len : ℕ) → Record → Answer After
 placing t b len r =
-    let n = t .header .count in
+    let h = t .header in
     let i = placeOf idOf (r .id) (t .records) in
     cond (hasOf idOf (r .id) (t .records))
-    (given (record { size = len; bytes = replacing i r b }))
-    (demand (hasRoom n len (length b)) 11 then λ u. given (record { size = len + 16; bytes = inserting (counting (n + 1) (t .header)) i len r b }))
+    (given (record { size = len; bytes = replacing h i r b }))
+    (demand (hasRoom h len (length b)) 11 then λ u. given (record { size = len + 16; bytes = inserting (counting (h .count + 1) h) i len r b }))
 
 -- a record put into the sheet: 6 and 7 on it with n as its record, then 11
 unfoldable pub putIn : (buffer : List ℕ) (len : ℕ) → Record → Answer After

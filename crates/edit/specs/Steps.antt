@@ -39,7 +39,7 @@ cleared xs a e = take a xs ++ (replicate (e - a) 0 ++ drop e xs)
 abbrev pub idIn : List ℕ → ℕ
 idIn b = rawAt (readOf 16 b) .values .id
 
--- the place of an id among the first n records
+-- the place of an id among the first n records, by the bytes of all of them
 unfoldable pub placeIn : List ℕ → (n id : ℕ) → ℕ
 placeIn b n id = placeOf idIn id (partsFrom b 0 n)
 
@@ -59,11 +59,11 @@ pub record Known (b : List ℕ) (len : ℕ) (h : Header) : Type 0 where
 pub record Fits (h : Header) (i len : ℕ) (r : Record) (size : ℕ) : Type 0 where
   pub header : headerFault h ≡ 0
   pub sound : recordFault r 0 ≡ 0
-  pub inside : start i ≤ len
+  pub inside : start h i ≤ len
   pub room : len + 16 ≤ size
 
 -- the header is sound, and record i is one of the sheet's
 pub record Stands (h : Header) (i len size : ℕ) : Type 0 where
   pub header : headerFault h ≡ 0
-  pub inside : start i + 16 ≤ len
+  pub inside : start h i + 16 ≤ len
   pub whole : len ≤ size

@@ -1,6 +1,6 @@
 -- A sheet in a buffer that is not turned away: its length, its header, and its records by their bytes.
 -- Assumes nothing.
-use Prim.Native.Nat.{ℕ, zero, suc, _+_, _≤_}
+use Prim.Native.Nat.{ℕ, zero, suc, _+_, _*_, _≤_}
 use mathlib.Core.Path.{_≡_, refl, sym, ap, subst, _∙_}
 use mathlib.Core.Bool.{Bool, true, false, _&&_}
 use mathlib.Core.List.{List, [], _∷_, _++_}
@@ -9,23 +9,23 @@ use lib.ListN.{length, take, drop}
 use lib.Seq.{length-take-le}
 use lib.Dec.{leb, ltb}
 use borrow.Author.Tests.{leb-true, lt-ltb}
+use Rattle.layout.specs.BytesLaws.{drop-take}
 use Rattle.sheet.specs.declared.Header.{Header}
 use Rattle.sheet.specs.declared.Record.{Record}
 use Rattle.sheet.specs.declared.Raw.{Raw}
-use Rattle.sheet.specs.Lines.{counts}
 use Rattle.sheet.specs.Refusals.{given}
 use Rattle.sheet.specs.RefusalLaws.{given-same}
-use Rattle.sheet.specs.Header.{headerFault, readHeader}
+use Rattle.sheet.specs.Header.{headerSize, headerFault, readHeader}
 use Rattle.sheet.specs.HeaderLaws.{header-ranges}
 use Rattle.sheet.specs.HeaderBack.{header-read-fine}
 use Rattle.sheet.specs.Record.{readRecord}
 use Rattle.sheet.specs.RecordBack.{record-read-any, record-read-raw}
-use Rattle.checker.specs.Check.{_then_, demand, headerFor, partsFrom, soundAfter, recordsIn, Sheet, sheetIn}
+use Rattle.checker.specs.Check.{_then_, demand, sheetSize, headerFor, recordsPart, partsFrom, soundAfter, recordsIn, Sheet, sheetIn}
 use Rattle.checker.specs.CheckLaws.{then-given, demand-given, header-fits, sound-read}
 use Rattle.checker.specs.Unjudged.{room, soundSheet}
 use Rattle.keyed.specs.Keyed.{rises, placeOf, hasOf}
 use Rattle.keyed.specs.Places.{SameKeys, none, next, same-place, same-has}
-use Rattle.edit.specs.Edit.{sheetAt, start, idOf}
+use Rattle.edit.specs.Edit.{sheetAt, highest, idOf}
 use Rattle.edit.specs.Steps.{idIn, placeIn, hasIn}
 use Rattle.edit.specs.Parts.{parts-length, parts-within}
 
@@ -90,12 +90,12 @@ same-ids id (p ∷ ps) (r ∷ rs) (reads f s) = next (ap (λ (w : Raw). w .value
 -- what is known of a sheet in the first len bytes of a buffer
 pub record Taken (b : List ℕ) (len : ℕ) (t : Sheet) : Type 0 where
   pub fits : len ≤ length b
-  pub whole : len ≡ start (t .header .count)
+  pub whole : len ≡ sheetSize (t .header)
   pub read : readHeader (take len b) ≡ given (t .header)
   pub sound : headerFault (t .header) ≡ 0
-  pub few : t .header .count ≤ counts .high
+  pub few : t .header .count ≤ highest (t .header)
   pub number : length (t .records) ≡ t .header .count
-  pub bytes : Reads (partsFrom b 0 (t .header .count)) (t .records)
+  pub bytes : Reads (partsFrom (recordsPart (t .header) b) 0 (t .header .count)) (t .records)
   pub order : rises idOf 0 (t .records) ≡ true
 
 pub taken-at : (b : List ℕ) (len : ℕ) (t : Sheet) → sheetAt b len ≡ given t → Taken b len t
@@ -105,34 +105,37 @@ taken-at b len t e =
     let d = then-given (demand (leb len (length b)) 1) _ t e in
     let fits = leb-true len (length b) (demand-given (leb len (length b)) 1 (d .0) (d .1)) in
     let a = then-given (headerFor s room) _ t (d .2) in
-    let c = then-given (recordsIn 0 0 (partsFrom s 0 (a .0 .count))) _ t (a .2) in
+    let c = then-given (recordsIn 0 0 (partsFrom (recordsPart (a .0) s) 0 (a .0 .count))) _ t (a .2) in
     subst (λ (u : Sheet). Taken b len u) (given-same (c .2)) (from fits (a .0) (a .1) (c .0) (c .1))
   where
-    from : len ≤ length b → (h : Header) → headerFor (take len b) room ≡ given h → (rs : List Record) → recordsIn 0 0 (partsFrom (take len b) 0 (h .count)) ≡ given rs
+    from : len ≤ length b → (h : Header) → headerFor (take len b) room ≡ given h → (rs : List Record) → recordsIn 0 0 (partsFrom (recordsPart h (take len b)) 0 (h .count)) ≡ given rs
         → Taken b len (record { header = h; records = rs })
     from fits h f rs g =
         let hf = header-fits (take len b) room h f in
         let fine = header-read-fine (take len b) h (hf .read) in
-        let size : len ≡ start (h .count) = sym (length-take-le len b fits) ∙ hf .whole in
-        let r = taken-reads 0 0 (partsFrom (take len b) 0 (h .count)) rs g in
-        let same : partsFrom (take len b) 0 (h .count) ≡ partsFrom b 0 (h .count) = parts-within b len 0 (h .count) (omega arith) in
+        let size : len ≡ sheetSize h = sym (length-take-le len b fits) ∙ hf .whole in
+        let r = taken-reads 0 0 (partsFrom (recordsPart h (take len b)) 0 (h .count)) rs g in
+        let same : partsFrom (recordsPart h (take len b)) 0 (h .count) ≡ partsFrom (recordsPart h b) 0 (h .count) =
+        ap (λ (m : ℕ). partsFrom (recordsPart h (take m b)) 0 (h .count)) size
+        ∙ ap (λ (l : List ℕ). partsFrom l 0 (h .count)) (drop-take (headerSize h) (16 * h .count) b)
+        ∙ parts-within (recordsPart h b) (16 * h .count) 0 (h .count) (omega arith) in
         record {
           fits = fits;
           whole = size;
           read = hf .read;
           sound = fine;
           few = header-ranges h fine .count-high;
-          number = sym (reads-length (partsFrom (take len b) 0 (h .count)) rs (r .0)) ∙ ap length same ∙ parts-length b 0 (h .count);
+          number = sym (reads-length (partsFrom (recordsPart h (take len b)) 0 (h .count)) rs (r .0)) ∙ ap length same ∙ parts-length (recordsPart h b) 0 (h .count);
           bytes = subst (λ (l : List (List ℕ)). Reads l rs) same (r .0);
           order = r .1;
         }
 
 -- a place found in the bytes is that among the records, and so is what is there
 module _ (b : List ℕ) (len : ℕ) (t : Sheet) (k : Taken b len t) (id : ℕ) where
-  pub place-same : placeIn b (t .header .count) id ≡ placeOf idOf id (t .records)
+  pub place-same : placeIn (recordsPart (t .header) b) (t .header .count) id ≡ placeOf idOf id (t .records)
   unfolding placeIn
   place-same = same-place idIn idOf id _ _ (same-ids id _ _ (k .bytes))
 
-  pub has-same : hasIn b (t .header .count) id ≡ hasOf idOf id (t .records)
+  pub has-same : hasIn (recordsPart (t .header) b) (t .header .count) id ≡ hasOf idOf id (t .records)
   unfolding hasIn
   has-same = same-has idIn idOf id _ _ (same-ids id _ _ (k .bytes))

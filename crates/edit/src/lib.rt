@@ -14,6 +14,7 @@ ghost use Prim.Native.Nat.{_+_, _*_, _≤_};
 ghost use lib.ListN.{length};
 ghost use Rattle.sheet.specs.Refusals.{toldHeader};
 ghost use Rattle.sheet.specs.Record.{recordFault};
+ghost use Rattle.checker.specs.Check.{recordsPart};
 ghost use Rattle.edit.specs.Edit.{headerOf, start, counting, replacing, inserting, removing, putIn, putNumbersIn, removeIn, Edits};
 ghost use Rattle.edit.specs.Steps.{placeIn, hasIn, Known, Fits, Stands};
 
@@ -23,9 +24,7 @@ pub enum Edited {
     Refused(Refusal),
 }
 
-// How many bytes each takes.
-const HEADER: usize = 12;
-
+// How many bytes a record takes.
 const RECORD: usize = 16;
 
 // The header of the sheet, or why it is turned away.
@@ -48,6 +47,7 @@ fn counted(h: Header, count: u16) -> Header
     let two_runs = h.two_runs;
     let moment = h.moment;
     let bottom_modulus = h.bottom_modulus;
+    let own = h.own;
     Header {
         version,
         length,
@@ -57,15 +57,16 @@ fn counted(h: Header, count: u16) -> Header
         moment,
         bottom_modulus,
         count,
+        own,
     }
 }
 
-// A sound record over the sixteen bytes of record i.
-fn replace(buf: &mut [u8], i: u16, r: Record)
-    requires { ⌜ (recordFault r 0 ≡ 0) × (start i + 16 ≤ length (now buf)) ⌝ }
-    ensures { λ _. ⌜ now (buf .exit) ≡ replacing i r (now (buf .entry)) ⌝ }
+// A sound record over the sixteen bytes of record i, under the header h.
+fn replace(buf: &mut [u8], h: Header, i: u16, r: Record)
+    requires { ⌜ (recordFault r 0 ≡ 0) × (start h i + 16 ≤ length (now buf)) ⌝ }
+    ensures { λ _. ⌜ now (buf .exit) ≡ replacing h i r (now (buf .entry)) ⌝ }
 {
-    let first = HEADER + RECORD * (i as usize);
+    let first = h.size() + RECORD * (i as usize);
     let past = first + RECORD;
     record::write_record(r, &mut buf[first..past]);
 }
@@ -75,9 +76,9 @@ fn insert(buf: &mut [u8], len: usize, h: Header, i: u16, r: Record)
     requires { ⌜ Fits h i len r (length (now buf)) ⌝ }
     ensures { λ _. ⌜ now (buf .exit) ≡ inserting h i len r (now (buf .entry)) ⌝ }
 {
-    let at = HEADER + RECORD * (i as usize);
+    let at = h.size() + RECORD * (i as usize);
     shift::open(buf, at, len);
-    replace(buf, i, r);
+    replace(buf, h, i, r);
     header::write_header(h, buf);
 }
 
@@ -86,7 +87,7 @@ fn take_out(buf: &mut [u8], len: usize, h: Header, i: u16)
     requires { ⌜ Stands h i len (length (now buf)) ⌝ }
     ensures { λ _. ⌜ now (buf .exit) ≡ removing h i len (now (buf .entry)) ⌝ }
 {
-    let at = HEADER + RECORD * (i as usize);
+    let at = h.size() + RECORD * (i as usize);
     shift::close(buf, at, len);
     let freed = len - RECORD;
     shift::clear(buf, freed, len);
@@ -95,7 +96,7 @@ fn take_out(buf: &mut [u8], len: usize, h: Header, i: u16)
 
 // A sound record with a new id, which goes in at its place. The header's own test says whether n can go up.
 fn put_new(buf: &mut [u8], len: usize, h: Header, i: u16, r: Record) -> Edited
-    requires { ⌜ Known (now buf) len h × (recordFault r 0 ≡ 0) × (i ≡ placeIn (now buf) (h .count) (r .id)) × (hasIn (now buf) (h .count) (r .id) ≡ false) ⌝ }
+    requires { ⌜ Known (now buf) len h × (recordFault r 0 ≡ 0) × (i ≡ placeIn (recordsPart h (now buf)) (h .count) (r .id)) × (hasIn (recordsPart h (now buf)) (h .count) (r .id) ≡ false) ⌝ }
     ensures { λ e. ⌜ Edits (putIn (now (buf .entry)) len r) (now (buf .entry)) e (now (buf .exit)) ⌝ }
 {
     if buf.len() - len < RECORD {
@@ -119,9 +120,10 @@ fn put_sound(buf: &mut [u8], len: usize, h: Header, r: Record) -> Edited
 {
     let n = h.count;
     let id = r.id as u32;
-    let i = find::place_of(buf, n, id);
-    if find::has_at(buf, n, i, id) {
-        replace(buf, i, r);
+    let size = h.size();
+    let i = find::place_of(&buf[size..], n, id);
+    if find::has_at(&buf[size..], n, i, id) {
+        replace(buf, h, i, r);
         return Edited::Length(len);
     }
     put_new(buf, len, h, i, r)
@@ -166,8 +168,9 @@ fn remove_sound(buf: &mut [u8], len: usize, h: Header, id: u32) -> Edited
     ensures { λ e. ⌜ Edits (removeIn (now (buf .entry)) len id) (now (buf .entry)) e (now (buf .exit)) ⌝ }
 {
     let n = h.count;
-    let i = find::place_of(buf, n, id);
-    if find::has_at(buf, n, i, id) {
+    let size = h.size();
+    let i = find::place_of(&buf[size..], n, id);
+    if find::has_at(&buf[size..], n, i, id) {
         let fewer = counted(h, n - 1);
         take_out(buf, len, fewer, i);
         return Edited::Length(len - RECORD);

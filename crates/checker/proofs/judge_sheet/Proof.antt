@@ -9,17 +9,19 @@ use Prim.Native.Nat.{ℕ}
 use borrow.Rule.Slice.PartMut.{midOf}
 use denote.Ref.{now}
 use lib.ListN.{length, take, length-take}
+use Rattle.layout.specs.Tail.{mid-past}
+use Rattle.sheet.specs.Header.{headerSize}
 use Rattle.checker.specs.Check.{recordsPart}
 use Rattle.checker.specs.CheckLaws.{header-fits}
 use Rattle.checker.specs.Passes.{Ready, toldPassed, passOver}
-use Rattle.checker.proofs.Whole.{past-header, ready, at-records, refused-checks, copied, done-checks}
+use Rattle.checker.proofs.Whole.{ready, at-records, refused-checks, copied, done-checks}
 use Rattle.checker.proofs.judge_sheet.Statement.{statement}
 use Rattle.checker.proofs.judge_sheet.Tie as tie
 
 -- the bytes of all records, and where they stand
 past : (c : tie.After-size) → let a = c .before .before .before .before .args in
     midOf (c .size .result) (length (now (a .sheet)) - c .size .result) (now (a .sheet)) ≡ recordsPart (a .h) (now (a .sheet))
-past c = let a = c .before .before .before .before .args in past-header (a .h) (now (a .sheet)) (c .size .result) (c .size .ensures)
+past c = let a = c .before .before .before .before .args in mid-past (c .size .result) (headerSize (a .h)) (now (a .sheet)) (c .size .ensures)
 
 inside : (c : tie.After-size) → c .size .result ≤ length (now (c .before .before .before .before .args .sheet))
 inside c = let start = c .before .before .before .before in omega (arith, c .size .ensures, header-fits _ _ _ (sym (start .pre .0)) .whole)

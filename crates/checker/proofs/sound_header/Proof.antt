@@ -8,12 +8,12 @@ use native.Mathlib.Omega.{arith}
 use lib.ListN.{length, length-drop}
 use borrow.Rule.Slice.PartMut.{midOf}
 use denote.Ref.{now}
+use Rattle.layout.specs.Tail.{mid-past}
 use Rattle.sheet.specs.Refusals.{given, toldHeader, toldOutcome}
 use Rattle.sheet.specs.Header.{headerSize}
 use Rattle.checker.specs.Check.{headerFor, recordsPart}
 use Rattle.checker.specs.CheckLaws.{header-fits}
 use Rattle.checker.specs.Unjudged.{room, recordsSound}
-use Rattle.checker.proofs.Whole.{past-header}
 use Rattle.checker.proofs.Unjudged.{header-refused, records-refused, all-sound}
 use Rattle.checker.proofs.sound_header.Statement.{statement}
 use Rattle.checker.proofs.sound_header.Tie as tie
@@ -24,7 +24,7 @@ read c = sym (ap toldHeader (c .read2 .given .1)) ∙ c .before .before .header-
 
 -- the bytes of all records
 past : (c : tie.After-read2) (size : ℕ) → size ≡ headerSize (c .read2 .given .0 .0) → let s = now (c .before .before .before .before .args .sheet) in midOf size (length s - size) s ≡ recordsPart (c .read2 .given .0 .0) s
-past c size e = past-header (c .read2 .given .0 .0) (now (c .before .before .before .before .args .sheet)) size e
+past c size e = mid-past size (headerSize (c .read2 .given .0 .0)) (now (c .before .before .before .before .args .sheet)) e
 
 -- the header's bytes are the sheet's first
 inside : (c : tie.After-size) → let s = now (c .before .before .before .before .before .before .args .sheet) in c .size .result ≤ length s

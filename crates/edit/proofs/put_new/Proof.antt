@@ -8,15 +8,16 @@ use denote.Ref.{now}
 use lib.ListN.{length}
 use Rattle.sheet.specs.declared.Header.{Header}
 use Rattle.sheet.specs.Refusals.{given, toldOutcome, headerRefused}
-use Rattle.sheet.specs.Header.{headerFault}
-use Rattle.sheet.specs.Lines.{counts}
-use Rattle.edit.specs.Edit.{start, counting, inserting}
+use Rattle.sheet.specs.Header.{headerSize, headerFault}
+use Rattle.sheet.specs.VersionLaws.{regular}
+use Rattle.checker.specs.Check.{sheetSize}
+use Rattle.edit.specs.Edit.{highest, counting, inserting}
 use Rattle.edit.proofs.Answers.{no-room, room-for-one, at-highest, below-highest, size, its-header, place-most, put-full, put-inserted}
 use Rattle.edit.proofs.put_new.Statement.{statement}
 use Rattle.edit.proofs.put_new.Tie as tie
 
 -- the buffer has room for the sheet
-within : (c : tie.Start) → (c .args .len ≡ start (c .args .h .count)) × (c .args .len ≤ length (now (c .args .buf))) × (c .args .h .count ≤ counts .high)
+within : (c : tie.Start) → (c .args .len ≡ sheetSize (c .args .h)) × (c .args .len ≤ length (now (c .args .buf))) × (c .args .h .count ≤ highest (c .args .h))
 within c = size (now (c .args .buf)) (c .args .len) (c .args .h) (c .pre .0)
 
 returns : tie.Need-returns
@@ -24,7 +25,7 @@ returns c =
     let s = c .before .before in
     let a = s .args in
     let b = now (a .buf) in
-    put-full b (a .len) (a .h) (s .pre .0) (a .r) (s .pre .1) (s .pre .3) (no-room (a .h .count) (a .len) (length b) (omega (arith, within s .1, c .if1 .taken)))
+    put-full b (a .len) (a .h) (s .pre .0) (a .r) (s .pre .1) (s .pre .3) (no-room (a .h) (a .len) (length b) (omega (arith, within s .1, c .if1 .taken)))
 
 -- the header that counts one more, and what its own test says
 module _ (c : tie.After-header-fault) where
@@ -50,14 +51,14 @@ returns-2 c =
     let a = s .args in
     let b = now (a .buf) in
     put-full b (a .len) (a .h) (s .pre .0) (a .r) (s .pre .1) (s .pre .3)
-    (at-highest (a .h) (a .h .count) (sound f) (a .len) (length b) _ _ (room f) (sym (ap toldOutcome (c .enum-told .given .1)) ∙ tested f))
+    (at-highest (a .h) (sound f) (a .len) (length b) _ _ (room f) (sym (ap toldOutcome (c .enum-told .given .1)) ∙ tested f))
 
 -- none of the header's fields is at fault, and n is below its highest
-fine : (c : tie.After-enum-told2) → let a = start-of (c .before .before) .args in (headerFault (counting (a .h .count + 1) (a .h)) ≡ 0) × (a .h .count < counts .high)
+fine : (c : tie.After-enum-told2) → let a = start-of (c .before .before) .args in (headerFault (counting (a .h .count + 1) (a .h)) ≡ 0) × (a .h .count < highest (a .h))
 fine c =
     let f = c .before .before in
     let a = start-of f .args in
-    below-highest (a .h) (a .h .count) (sound f) (sym (ap toldOutcome (c .enum-told2 .given .1)) ∙ tested f)
+    below-highest (a .h) (sound f) (sym (ap toldOutcome (c .enum-told2 .given .1)) ∙ tested f)
 
 insert-requires : tie.Need-insert-requires
 insert-requires c κs =
@@ -68,7 +69,7 @@ insert-requires c κs =
     record {
       header = ap (λ (g : Header). headerFault g) (more f) ∙ fine (c .before) .0;
       sound = s .pre .1;
-      inside = omega (arith, within s .0, s .pre .2, place-most b (a .len) (a .h) (s .pre .0) (a .r .id));
+      inside = omega (arith, ap (λ (g : Header). headerSize g) (more f), within s .0, s .pre .2, place-most b (a .len) (a .h) (s .pre .0) (a .r .id));
       room = room f;
     }
 
@@ -80,7 +81,7 @@ returns-3 c =
     let s = start-of f in
     let a = s .args in
     let b = now (a .buf) in
-    put-inserted b (a .len) (a .h) (s .pre .0) (a .r) (s .pre .1) (s .pre .3) (room-for-one (a .h .count) (a .len) (length b) (room f) (fine e .1)) (f .before .counted .result) (more f)
+    put-inserted b (a .len) (a .h) (s .pre .0) (a .r) (s .pre .1) (s .pre .3) (room-for-one (a .h) (a .len) (length b) (room f) (fine e .1)) (f .before .counted .result) (more f)
     (p .insert .last .0)
     (p .insert .ensures ∙ ap (λ n. inserting (f .before .counted .result) n (a .len) (a .r) b) (s .pre .2))
 
@@ -90,7 +91,7 @@ put-new-spec =
     (tie.spec
     (λ c. omega (arith, within (c .before) .1))
     returns
-    (λ c. omega (arith, within (c .before .before .before) .2))
+    (λ c. let s = c .before .before .before in omega (arith, within s .2, regular (s .args .h .own) .few))
     (λ c κs. search needs)
     (λ c κs. search needs)
     (λ c. search needs)

@@ -12,13 +12,13 @@ returns : tie.Need-returns
 returns c =
     let start = c .before .before in
     let a = start .args in
-    not-there (now (a .buf)) (a .n) (a .id) (a .place) (start .pre .1) (c .if1 .taken)
+    not-there (now (a .records)) (a .n) (a .id) (a .place) (start .pre .1) (c .if1 .taken)
 
 returns-2 : tie.Need-returns-2
 returns-2 c =
     let start = c .before .before .before in
     let a = start .args in
-    ap (λ n. eqb n (a .id)) (c .id-at .ensures) ∙ there (now (a .buf)) (a .n) (a .id) (a .place) (start .pre .1) (c .before .if1 .left)
+    ap (λ n. eqb n (a .id)) (c .id-at .ensures) ∙ there (now (a .records)) (a .n) (a .id) (a .place) (start .pre .1) (c .before .if1 .left)
 
 pub has-at-spec : {M : Type 1} → statement M
 has-at-spec =
