@@ -18,7 +18,7 @@ fn answer(buffer: &[u8], got: usize) -> Page
 }
 
 fn main() {
-    let mut sheet = [0u8; 6413];
+    let mut sheet = [0u8; 6421];
     let got = io::read_full(STDIN_FILENO, &mut sheet);
     let page = answer(&sheet, got);
     let len = page.len;

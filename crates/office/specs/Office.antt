@@ -16,7 +16,7 @@ use Rattle.office.specs.declared.file.Read.the-variants.{Got, Failed}
 unfoldable pub fieldsOf : ℕ → ℕ
 fieldsOf kind = cond (ltb kind 5) 11 13
 
--- how many records a sheet of so many bytes has
+-- how many records a sheet of so many bytes has: whatever its header takes past twelve bytes is less than a record, and the division leaves it over
 abbrev pub recordsIn : ℕ → ℕ
 recordsIn len = (len - 12) / 16
 

@@ -1,6 +1,6 @@
--- An edit of a file: its new sheet is in the buffer, and what was read of it turns it away as the whole would be.
+-- An edit of a file: how many records are printed, its new sheet is in the buffer, and what was read of it turns it away as the whole would be.
 -- Assumes nothing.
-use Prim.Native.Nat.{ℕ, _≤_}
+use Prim.Native.Nat.{ℕ, _+_, _*_, _≤_}
 use mathlib.Core.Path.{_≡_, sym, ap, ap₂, _∙_}
 use mathlib.Core.Bool.{Bool, true, false, cond}
 use mathlib.Core.List.{List}
@@ -10,16 +10,19 @@ use lib.Seq.{take-all, take-take}
 use lib.Dec.{ltb}
 use borrow.Author.Tests.{le-leb}
 use Rattle.sheet.specs.declared.Header.{Header}
+use Rattle.sheet.specs.declared.Own.{Own}
+use Rattle.sheet.specs.declared.Own.the-variants.{One, Two}
+use Rattle.sheet.specs.Versions.{versionOf}
 use Rattle.sheet.specs.Refusals.{Answer, given, refused}
 use Rattle.sheet.specs.RefusalLaws.{given-refused, refused-number, refused-place}
-use Rattle.checker.specs.Check.{_then_, demand, Sheet, sheetIn}
+use Rattle.checker.specs.Check.{_then_, demand, sheetSize, Sheet, sheetIn}
 use Rattle.checker.specs.Unjudged.{room, soundSheet}
 use Rattle.checker.specs.Longer.{enough, sheet-cut}
 use Rattle.edit.specs.declared.Edited.{Edited}
 use Rattle.edit.specs.declared.Edited.the-variants.{Length, Refused as notEdited}
 use Rattle.edit.specs.Edit.{sheetAt, headerOf, After, putNumbersIn, removeIn, toldEdited, sizeBy, Edits}
 use Rattle.edit.specs.Within.{numbers-within, remove-within, length-within}
-use Rattle.office.specs.Office.{fieldsOf, Inside, OfFile}
+use Rattle.office.specs.Office.{fieldsOf, recordsIn, Inside, OfFile}
 
 -- no record is more than 13 numbers
 pub fields-most : (kind : ℕ) → fieldsOf kind ≤ 13
@@ -29,6 +32,14 @@ fields-most kind = go (ltb kind 5)
     go : (t : Bool) → cond t 11 13 ≤ 13
     go true = omega arith
     go false = omega arith
+
+-- a sheet's bytes say how many records its header counts, in every version
+pub records-counted : (h : Header) → recordsIn (sheetSize h) ≡ h .count
+records-counted h = go (h .own)
+  where
+    go : (o : Own) → recordsIn (versionOf o .size + 16 * h .count) ≡ h .count
+    go One = omega arith
+    go (Two s) = omega arith
 
 -- the new sheet is in the buffer
 inside : (x : Answer After) (b : List ℕ) (e : Edited) (after : List ℕ) → ((a : After) → x ≡ given a → a .size ≤ length b) → Edits x b e after → Inside e (length b)

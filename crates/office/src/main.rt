@@ -33,7 +33,7 @@ const GROUP: usize = 5;
 const FIRST: usize = 6;
 
 // A byte more than the longest sheet has, so that a longer file is turned away as the whole of it would be.
-const LONGEST: usize = 6413;
+const LONGEST: usize = 6421;
 
 fn records_in(len: usize) -> usize
     ensures { λ r. ⌜ r ≡ recordsIn len ⌝ }

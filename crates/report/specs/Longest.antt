@@ -10,7 +10,7 @@ use Rattle.sheet.specs.declared.Header.{Header}
 use Rattle.sheet.specs.declared.Record.{Record}
 use Rattle.sheet.specs.Refusals.{Answer, given, refused}
 use Rattle.sheet.specs.RecordBack.{record-read-fine}
-use Rattle.checker.specs.Check.{_then_, recordPart, Sheet, sheetIn, entryOf, verdicts, failures}
+use Rattle.checker.specs.Check.{_then_, recordsPart, recordPart, Sheet, sheetIn, entryOf, verdicts, failures}
 use Rattle.checker.specs.Entry.{entryValues}
 use Rattle.checker.specs.Unjudged.{room}
 use Rattle.checker.specs.CheckLaws.{Taken, next, sheet-whole}
@@ -44,7 +44,7 @@ sheet-most s t e =
       arith,
       ap length (lines-last (map entryValues (verdicts t)) totals),
       length-append vs (line totals),
-      lines-most (t .header) s 0 0 (t .records) (w .records),
+      lines-most (t .header) (recordsPart (t .header) s) 0 0 (t .records) (w .records),
       w .number,
       k .records,
       pair-most 2 2 (t .header .count) (failures (verdicts t)) (omega (arith, k .records)) (omega (arith, k .failed)),

@@ -16,7 +16,7 @@ use Rattle.checker.specs.declared.Checked.{Checked}
 use Rattle.checker.specs.declared.Checked.the-variants.{Done, Refused as notDone}
 use Rattle.checker.specs.Entry.{entryValues, readEntry}
 use Rattle.checker.specs.EntryLaws.{read-sound}
-use Rattle.checker.specs.Check.{_then_, part, recordOf, Sheet, sheetIn, entryOf, verdicts, failures, Totals, answerOf, outputOf, Checks}
+use Rattle.checker.specs.Check.{_then_, part, recordsPart, recordOf, Sheet, sheetIn, entryOf, verdicts, failures, Totals, answerOf, outputOf, Checks}
 use Rattle.checker.specs.Unjudged.{room}
 use Rattle.checker.specs.CheckLaws.{Taken, next, sheet-whole, verdict-read, answer-sheet}
 use Rattle.checker.specs.Bounds.{sheet-counts}
@@ -96,7 +96,7 @@ module _ (s out : List ℕ) (t : Sheet) (given-t : sheetIn s (length out) ≡ gi
   lines-verdicts =
       let w = sheet-whole s (length out) t given-t in
       ap (verdictsText (outputOf s out) 0) (sym (w .number))
-      ∙ lines-taken (t .header) s (outputOf s out) (t .header .count) 0 0 (t .records) (verdict-read s out t given-t) (omega (arith, w .number)) (w .records)
+      ∙ lines-taken (t .header) (recordsPart (t .header) s) (outputOf s out) (t .header .count) 0 0 (t .records) (verdict-read s out t given-t) (omega (arith, w .number)) (w .records)
 
 -- ---- the whole
 

@@ -11,10 +11,12 @@ use sheet::Header;
 use sheet::HeaderRead;
 use sheet::Member;
 use sheet::Outcome;
+use sheet::Own;
 use sheet::Plate;
 use sheet::Record;
 use sheet::RecordRead;
 use sheet::Refusal;
+use sheet::Section;
 
 fn print(x: u64) {
     io::print_decimal(1, x);
@@ -47,6 +49,11 @@ fn refused(r: Refusal) {
     word(r.place());
 }
 
+fn print_section(section: Section) {
+    word(section.inner_modulus);
+    short(section.depth.0);
+}
+
 fn print_header(h: Header) {
     byte(h.version);
     short(h.length.0);
@@ -56,6 +63,11 @@ fn print_header(h: Header) {
     word(h.moment);
     word(h.bottom_modulus);
     short(h.count);
+    let own = h.own;
+    match own {
+        Own::One => {}
+        Own::Two(section) => print_section(section),
+    }
 }
 
 fn print_plate(p: Plate) {
@@ -114,7 +126,16 @@ fn byte_at(s: &[u8], i: usize) -> u8 {
     (field(s, i) % 256) as u8
 }
 
-fn header_from(s: &[u8]) -> Header {
+fn section_from(s: &[u8]) -> Own {
+    let inner_modulus = field(s, 8);
+    let depth = Span(short_at(s, 9));
+    Own::Two(Section {
+        inner_modulus,
+        depth,
+    })
+}
+
+fn header_from(s: &[u8], own: Own) -> Header {
     let version = byte_at(s, 0);
     let length = Span(short_at(s, 1));
     let draught = Span(short_at(s, 2));
@@ -132,6 +153,7 @@ fn header_from(s: &[u8]) -> Header {
         moment,
         bottom_modulus,
         count,
+        own,
     }
 }
 
@@ -242,7 +264,11 @@ fn put_record(r: Record, out: &mut [u8]) {
 
 fn write_one(what: u8, s: &[u8], out: &mut [u8]) {
     if what == 3 {
-        put_header(header_from(s), out);
+        put_header(header_from(s, Own::One), out);
+        return;
+    }
+    if what == 6 {
+        put_header(header_from(s, section_from(s)), out);
         return;
     }
     if what == 4 {
