@@ -19,7 +19,8 @@ use Rattle.sheet.specs.RecordExactly.{recordCases}
 use Rattle.numbers.specs.From.{numbersFrom, headerOfNumbers, fieldsAs, inSecond, headerFieldsOf, headerLinesOf, headerNumbersFault, headerFrom, plateNumbered, recordOfNumbers, plateFields, recordNumbersFault, recordFrom}
 
 module _ (ns : List ℕ) where
-  same-header : length (headerFieldsOf ns) ≡ length (headerLinesOf ns)
+  -- a header's numbers are as many fields as their version has lines
+  pub same-header : length (headerFieldsOf ns) ≡ length (headerLinesOf ns)
   same-header = go (inSecond ns)
     where
       go : (t : Bool) → length (fieldsAs t ns) ≡ length (headerLines (cond t two one))

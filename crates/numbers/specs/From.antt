@@ -37,6 +37,10 @@ headerFieldsOf ns = fieldsAs (inSecond ns) ns
 abbrev pub headerLinesOf : List ℕ → List Line
 headerLinesOf ns = headerLines (numbered (getD ns 0 0))
 
+-- how many bytes the header takes whose version they name: 12 also where there is no such version
+abbrev pub namedSize : List ℕ → ℕ
+namedSize ns = numbered (getD ns 0 0) .size
+
 -- the first faulty field of a header's numbers, version being 1; 0 where there is none
 unfoldable pub headerNumbersFault : List ℕ → ℕ
 headerNumbersFault ns = faultFrom 1 (headerLinesOf ns) (headerFieldsOf ns)

@@ -19,7 +19,7 @@ ghost use mathlib.Core.Bool.{cond};
 ghost use lib.Dec.{eqb};
 ghost use Rattle.sheet.specs.Refusals.{numberOf, placeOf, toldOutcome, toldHeader, toldRecord};
 ghost use Rattle.numbers.specs.Fields.{ownNumbers, headerNumbers, plateNumbers, memberNumbers, recordNumbers};
-ghost use Rattle.numbers.specs.From.{headerFrom, recordFrom};
+ghost use Rattle.numbers.specs.From.{namedSize, headerFrom, recordFrom};
 ghost use Rattle.numbers.specs.Held.{earlierOf, ownHeld, headerHeld, headerApart, plateHeld, memberHeld, recordHeld, plateApart, recordApart};
 
 // The two numbers of what a version has of its own; version 1 has none, and they are 0.
@@ -186,6 +186,15 @@ fn header_held(f: [u32; 10]) -> Header
         count,
         own,
     }
+}
+
+// How many bytes the header takes whose version the numbers name: those of version 1 also where there is no such version.
+pub fn header_size(f: [u32; 10]) -> usize
+    ensures { λ r. ⌜ r ≡ namedSize f ⌝ }
+{
+    let own = own_held(f);
+    let version = own.version();
+    version.size
 }
 
 // The first field of a header that is at fault although what it was held as is not, or 0: runs, and the numbers past n in version 1, which are 0.

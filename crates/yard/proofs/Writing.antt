@@ -14,11 +14,11 @@ use Rattle.sheet.specs.RefusalLaws.{refused-number, refused-place, given-refuse
 use Rattle.sheet.specs.Writes.{Writes}
 use Rattle.sheet.specs.Exactly.{Cases, byFault}
 use Rattle.sheet.specs.Written.{written, writtenIf}
-use Rattle.sheet.specs.Header.{headerAt, headerBytes, writeHeader}
+use Rattle.sheet.specs.Header.{headerBytes, writeHeader}
 use Rattle.sheet.specs.Record.{recordBytes, writeRecord}
 use Rattle.sheet.specs.HeaderExactly.{headerCases}
 use Rattle.sheet.specs.RecordExactly.{recordCases}
-use Rattle.numbers.specs.From.{headerNumbersFault, headerFrom, recordOfNumbers, recordNumbersFault, recordFrom}
+use Rattle.numbers.specs.From.{namedSize, headerOfNumbers, headerNumbersFault, headerFrom, recordOfNumbers, recordNumbersFault, recordFrom}
 use Rattle.numbers.specs.Back.{header-taken, record-taken}
 use Rattle.yard.specs.Packed.{fine, Wrote}
 use Rattle.yard.specs.Writing.{writeHeaderNumbers, writeRecordNumbers}
@@ -51,13 +51,13 @@ module _ (c : Cases) (o : List ℕ) (f : ℕ) (bs : List ℕ) (r : ℕ) where
 -- ---- a header
 
 module _ (ns o : List ℕ) {r : ℕ} where
-  pub header-short : length o < 12 → r ≡ fine {A = Unit {0}} (refused 5 0) → Wrote (writeHeaderNumbers ns o) r o
+  pub header-short : length o < namedSize ns → r ≡ fine {A = Unit {0}} (refused 5 0) → Wrote (writeHeaderNumbers ns o) r o
   unfolding writeHeaderNumbers
-  header-short = wrote-short headerCases o (headerNumbersFault ns) (headerBytes (headerAt ns)) r
+  header-short = wrote-short (headerCases (namedSize ns)) o (headerNumbersFault ns) (headerBytes (headerOfNumbers ns)) r
 
-  pub header-refused : (k p : ℕ) → 12 ≤ length o → refused k p ≡ headerFrom ns → r ≡ fine {A = Unit {0}} (refused k p) → Wrote (writeHeaderNumbers ns o) r o
+  pub header-refused : (k p : ℕ) → namedSize ns ≤ length o → refused k p ≡ headerFrom ns → r ≡ fine {A = Unit {0}} (refused k p) → Wrote (writeHeaderNumbers ns o) r o
   unfolding writeHeaderNumbers headerFrom
-  header-refused = wrote-refused headerCases o (headerNumbersFault ns) (headerBytes (headerAt ns)) r (headerAt ns)
+  header-refused = wrote-refused (headerCases (namedSize ns)) o (headerNumbersFault ns) (headerBytes (headerOfNumbers ns)) r (headerOfNumbers ns)
 
   pub header-given : (h : Header) {a : Answer (Unit {0})} {after : List ℕ} → given h ≡ headerFrom ns → r ≡ fine a → Writes (writeHeader h o) a after
       → Wrote (writeHeaderNumbers ns o) r after

@@ -5,13 +5,13 @@ use mathlib.Core.Path.{_≡_, refl, sym, ap, subst}
 use mathlib.Core.Bool.{Bool, true, false, cond}
 use mathlib.Core.List.{List, [], _∷_, _++_}
 use native.Mathlib.Omega.{arith}
-use lib.ListN.{length, take}
+use lib.ListN.{length, getD, take}
 use lib.Dec.{ltb, eqb}
 use Rattle.layout.specs.Layout.{pack, unpack, bytes}
 use Rattle.layout.specs.Line.{faultFrom}
-use Rattle.sheet.specs.Lines.{headerLines}
+use Rattle.sheet.specs.VersionLaws.{regular-at}
 use Rattle.sheet.specs.Refusals.{Answer, given, refused}
-use Rattle.sheet.specs.Header.{headerAt, readHeader, headerBytes}
+use Rattle.sheet.specs.Header.{readHeader, headerBytes}
 use Rattle.sheet.specs.Record.{plateLinesOf, memberLinesOf, readRecord, recordBytes}
 use Rattle.sheet.specs.Exactly.{Cases, byFault}
 use Rattle.sheet.specs.Written.{written, written-answer}
@@ -22,7 +22,8 @@ use Rattle.checker.specs.Entry.{verdictLines, verdictWidths, entryValues, entry
 use Rattle.checker.specs.Check.{sheetIn, failures, verdicts, Totals, answerOf}
 use Rattle.checker.specs.CheckLaws.{answer-sheet}
 use Rattle.checker.specs.Bounds.{Refusable, row, most, fault-told as fault-row, by-test, then-told, read-header-told as read-header-row, record-told as record-row, sheet-told, sheet-counts}
-use Rattle.numbers.specs.From.{numbersFrom, headerNumbersFault, plateNumbered, recordOfNumbers, plateFields, recordNumbersFault}
+use Rattle.numbers.specs.From.{numbersFrom, namedSize, headerOfNumbers, headerFieldsOf, headerLinesOf, headerNumbersFault, plateNumbered, recordOfNumbers, plateFields, recordNumbersFault}
+use Rattle.numbers.specs.Exactly.{same-header}
 use Rattle.yard.specs.PackedLaws.{Told, Answered}
 use Rattle.yard.specs.Writing.{writeHeaderNumbers, writeRecordNumbers}
 
@@ -62,9 +63,10 @@ written-told c f bs o t =
 pub write-header-told : (ns o : List ℕ) → Told (writeHeaderNumbers ns o .answer)
 unfolding writeHeaderNumbers headerNumbersFault
 write-header-told ns o =
-    written-told headerCases (headerNumbersFault ns) (headerBytes (headerAt ns)) o
-    (fault-row headerCases (headerNumbersFault ns) (tt {0}) (row 2 0 (omega arith) (omega arith) (omega arith))
-    (row 3 (headerNumbersFault ns) (omega arith) (omega arith) (omega (arith, most headerLines (numbersFrom 0 8 ns ++ 0 ∷ []) refl))))
+    let c = headerCases (namedSize ns) in
+    written-told c (headerNumbersFault ns) (headerBytes (headerOfNumbers ns)) o
+    (fault-row c (headerNumbersFault ns) (tt {0}) (row 2 0 (omega arith) (omega arith) (omega arith))
+    (row 3 (headerNumbersFault ns) (omega arith) (omega arith) (omega (arith, most (headerLinesOf ns) (headerFieldsOf ns) (same-header ns), regular-at (getD ns 0 0) .named))))
 
 -- no field has a number past a member's last
 pub record-numbers-most : (ns : List ℕ) → recordNumbersFault ns ≤ 13

@@ -1,62 +1,93 @@
 -- There and back across the boundary: numbers that are written are read again, and numbers that are read are written to the same bytes.
 -- Assumes nothing.
 use Prim.Native.Nat.{ℕ, _≤_}
-use mathlib.Core.Path.{_≡_, sym, ap, _∙_}
-use mathlib.Core.List.{List}
+use mathlib.Core.Path.{_≡_, sym, ap, ap₂, subst, _∙_}
+use mathlib.Core.List.{List, _∷_, _++_}
 use native.Mathlib.Omega.{arith}
 use lib.ListN.{length, take}
 use borrow.Author.Tests.{lt-ltb, le-ltb}
 use Rattle.layout.specs.Layout.{bytes, Fit}
 use Rattle.sheet.specs.declared.Header.{Header}
+use Rattle.sheet.specs.declared.Own.{Own}
+use Rattle.sheet.specs.declared.Own.the-variants.{One, Two}
 use Rattle.sheet.specs.declared.Body.{Body}
 use Rattle.sheet.specs.declared.Body.the-variants.{Plate as isPlate, Member as isMember}
 use Rattle.sheet.specs.declared.Record.{Record}
 use Rattle.sheet.specs.Refusals.{given}
-use Rattle.sheet.specs.Header.{headerAt, headerFault, readHeader, headerBytes, writeHeader}
+use Rattle.sheet.specs.Versions.{versionOf}
+use Rattle.sheet.specs.Header.{headerSize, rawFault, readHeader, headerBytes, headerNeeds, writeHeader}
 use Rattle.sheet.specs.Record.{plateFault, memberFault, recordFault, readRecord, recordBytes, writeRecord}
-use Rattle.sheet.specs.HeaderLaws.{flag-read}
+use Rattle.sheet.specs.HeaderLaws.{flag-read, version-at, header-version}
 use Rattle.sheet.specs.RecordLaws.{plate-ranges, member-ranges}
 use Rattle.sheet.specs.Written.{written, written-fine}
-use Rattle.sheet.specs.HeaderExactly.{headerCases}
+use Rattle.sheet.specs.HeaderExactly.{headerCases, fine-needs}
 use Rattle.sheet.specs.RecordExactly.{recordCases}
-use Rattle.sheet.specs.HeaderBack.{header-read-again, header-written-again}
+use Rattle.sheet.specs.HeaderBack.{header-read-again, header-read-fine, header-written-again}
 use Rattle.sheet.specs.RecordBack.{record-read-again, record-read-fine, record-written-again}
 use Rattle.numbers.specs.Fields.{headerNumbers, recordNumbers}
-use Rattle.numbers.specs.From.{numbersFrom, headerNumbersFault, recordOfNumbers, recordNumbersFault}
+use Rattle.numbers.specs.From.{numbersFrom, namedSize, headerOfNumbers, headerNumbersFault, recordOfNumbers, recordNumbersFault}
 use Rattle.numbers.specs.Back.{header-sound, record-sound}
 use Rattle.yard.specs.Fields.{numbered}
 use Rattle.yard.specs.Writing.{writeHeaderNumbers, writeRecordNumbers}
 
 -- ---- a header
 
--- writing a header's own numbers is writing the header
-pub header-as-numbers : (h : Header) (o : List ℕ) → writeHeaderNumbers (headerNumbers h) o ≡ writeHeader h o
+-- writing a header's own numbers is writing the header, where it holds what its version does
+pub header-as-numbers : (h : Header) (o : List ℕ) → h .version ≡ versionOf (h .own) .number → writeHeaderNumbers (headerNumbers h) o ≡ writeHeader h o
 unfolding writeHeaderNumbers writeHeader headerNumbersFault rawFault
-header-as-numbers h o = rw (flag-read (h .«two_runs»))
+header-as-numbers h o e = subst Same (sym e) (go (h .own))
+  where
+    named : ℕ → Own → Header
+    named k own =
+        record {
+          version = k;
+          length = h .length;
+          draught = h .draught;
+          wave = h .wave;
+          «two_runs» = h .«two_runs»;
+          moment = h .moment;
+          «bottom_modulus» = h .«bottom_modulus»;
+          count = h .count;
+          own = own;
+        }
+
+    as-it-is : Header → Type 0
+    as-it-is g = writeHeaderNumbers (headerNumbers g) o ≡ writeHeader g o
+
+    Same : ℕ → Type 0
+    Same k = as-it-is (named k (h .own))
+
+    go : (own : Own) → as-it-is (named (versionOf own .number) own)
+    go One = rw (flag-read (h .«two_runs»))
+    go (Two s) = rw (flag-read (h .«two_runs»))
+
+-- the header that numbers with no fault are takes as many bytes as their version
+sized : (ns : List ℕ) → headerNumbersFault ns ≡ 0 → headerNeeds (headerOfNumbers ns) ≡ namedSize ns
+sized ns z = fine-needs (headerOfNumbers ns) (header-sound ns z .0) ∙ ap (λ v. v .size) (version-at (numbersFrom 0 8 ns ++ (0 ∷ numbersFrom 8 2 ns)))
 
 -- writing numbers with no fault is writing the header that they are
-pub header-same : (ns o : List ℕ) → headerNumbersFault ns ≡ 0 → writeHeader (headerAt ns) o ≡ writeHeaderNumbers ns o
+pub header-same : (ns o : List ℕ) → headerNumbersFault ns ≡ 0 → writeHeader (headerOfNumbers ns) o ≡ writeHeaderNumbers ns o
 unfolding writeHeader writeHeaderNumbers
-header-same ns o z = ap (λ (f : ℕ). written headerCases f (headerBytes (headerAt ns)) o) (header-sound ns z .0 ∙ sym z)
+header-same ns o z = ap₂ (λ (k f : ℕ). written (headerCases k) f (headerBytes (headerOfNumbers ns)) o) (sized ns z) (header-sound ns z .0 ∙ sym z)
 
 -- what is written is read again
 pub header-numbers-back : (ns o : List ℕ) → writeHeaderNumbers ns o .answer ≡ given tt
-    → numbered headerNumbers (readHeader (writeHeaderNumbers ns o .bytes)) ≡ given (numbersFrom 0 8 ns)
+    → numbered headerNumbers (readHeader (writeHeaderNumbers ns o .bytes)) ≡ given (numbersFrom 0 10 ns)
 unfolding writeHeaderNumbers
 header-numbers-back ns o e =
-    let z = written-fine headerCases (headerNumbersFault ns) (headerBytes (headerAt ns)) o e .1 in
+    let z = written-fine (headerCases (namedSize ns)) (headerNumbersFault ns) (headerBytes (headerOfNumbers ns)) o e .1 in
     let w = header-same ns o z in
     ap (λ a. numbered headerNumbers a)
-    (ap (λ v. readHeader (v .bytes)) (sym w) ∙ header-read-again (headerAt ns) o (ap (λ v. v .answer) w ∙ e))
+    (ap (λ v. readHeader (v .bytes)) (sym w) ∙ header-read-again (headerOfNumbers ns) o (ap (λ v. v .answer) w ∙ e))
     ∙ ap given (header-sound ns z .1)
 
--- what is read is written again: the same twelve bytes
-pub header-bytes-back : (s o : List ℕ) (h : Header) → readHeader s ≡ given h → Fit (bytes 12) (take 12 s) → 12 ≤ length o
-    → (writeHeaderNumbers (headerNumbers h) o .answer ≡ given tt) × (take 12 (writeHeaderNumbers (headerNumbers h) o .bytes) ≡ take 12 s)
+-- what is read is written again: the same bytes
+pub header-bytes-back : (s o : List ℕ) (h : Header) → readHeader s ≡ given h → Fit (bytes (headerSize h)) (take (headerSize h) s) → headerSize h ≤ length o
+    → (writeHeaderNumbers (headerNumbers h) o .answer ≡ given tt) × (take (headerSize h) (writeHeaderNumbers (headerNumbers h) o .bytes) ≡ take (headerSize h) s)
 header-bytes-back s o h e fit l =
-    let w = header-as-numbers h o in
+    let w = header-as-numbers h o (header-version h (header-read-fine s h e)) in
     let b = header-written-again s h e fit o l in
-    (ap (λ v. v .answer) w ∙ b .0, ap (λ v. take 12 (v .bytes)) w ∙ b .1)
+    (ap (λ v. v .answer) w ∙ b .0, ap (λ v. take (headerSize h) (v .bytes)) w ∙ b .1)
 
 -- ---- a record
 

@@ -9,6 +9,8 @@ use lib.ListN.{length, take}
 use lib.Dec.{leb, eqb}
 use Rattle.sheet.specs.declared.Header.{Header}
 use Rattle.sheet.specs.declared.Record.{Record}
+use Rattle.sheet.specs.Versions.{mostRecords, longestSheet}
+use Rattle.sheet.specs.VersionLaws.{regular}
 use Rattle.sheet.specs.Refusals.{Answer, given, refused, recordRefused}
 use Rattle.sheet.specs.RefusalLaws.{given-same}
 use Rattle.sheet.specs.Record.{recordFault}
@@ -63,12 +65,15 @@ module _ (b : List ℕ) (len : ℕ) where
       then-rowed (demand (leb len (length b)) 1) (λ u. sheetIn (take len b) room) (demand-rowed (leb len (length b)) 1 (omega arith) (omega arith))
       (λ u e. of-table (sheetIn (take len b) room) (sheet-told (take len b) room))
 
+  few : (t : Sheet) → sheetAt b len ≡ given t → t .header .count ≤ mostRecords
+  few t e = omega (arith, taken-at b len t e .few, regular (t .header .own) .few)
+
   -- the header is that of a sheet that is taken
-  header-few : (h : Header) → headerOf b len ≡ given h → h .count ≤ 400
+  header-few : (h : Header) → headerOf b len ≡ given h → h .count ≤ mostRecords
   unfolding headerOf
   header-few h e =
       let s = then-given (sheetAt b len) _ h e in
-      omega (arith, taken-at b len (s .0) (s .1) .few, ap (λ (g : Header). g .count) (given-same (s .2)))
+      omega (arith, few (s .0) (s .1), ap (λ (g : Header). g .count) (given-same (s .2)))
 
   header-rowed : Rowed (headerOf b len)
   unfolding headerOf
@@ -78,16 +83,16 @@ module _ (b : List ℕ) (len : ℕ) where
   unfolding placing
   placing-rowed t r = go (hasOf idOf (r .id) (t .records))
     where
-      n : ℕ
-      n = t .header .count
+      h : Header
+      h = t .header
 
       i : ℕ
       i = placeOf idOf (r .id) (t .records)
 
-      go : (has : Bool) → Rowed {A = After} (cond has (given (record { size = len; bytes = replacing i r b }))
-          (demand (hasRoom n len (length b)) 11 then λ u. given (record { size = len + 16; bytes = inserting (counting (n + 1) (t .header)) i len r b })))
+      go : (has : Bool) → Rowed {A = After} (cond has (given (record { size = len; bytes = replacing h i r b }))
+          (demand (hasRoom h len (length b)) 11 then λ u. given (record { size = len + 16; bytes = inserting (counting (h .count + 1) h) i len r b })))
       go true = tt
-      go false = then-rowed (demand (hasRoom n len (length b)) 11) _ (demand-rowed (hasRoom n len (length b)) 11 (omega arith) (omega arith)) (λ u e. tt)
+      go false = then-rowed (demand (hasRoom h len (length b)) 11) _ (demand-rowed (hasRoom h len (length b)) 11 (omega arith) (omega arith)) (λ u e. tt)
 
   -- a sound record
   put-rowed : (r : Record) → recordFault r 0 ≡ 0 → Rowed (putIn b len r)
@@ -95,7 +100,7 @@ module _ (b : List ℕ) (len : ℕ) where
   put-rowed r z =
       then-rowed (sheetAt b len) (λ t. recordRefused (t .header .count) (recordFault r 0) (given (tt {0})) then λ u. placing t b len r) sheet-rowed
       (λ t e. then-rowed (recordRefused (t .header .count) (recordFault r 0) (given (tt {0}))) (λ u. placing t b len r)
-      (record-rowed (t .header .count) (recordFault r 0) (given (tt {0})) (taken-at b len t e .few) (omega arith) tt) (λ u f. placing-rowed t r))
+      (record-rowed (t .header .count) (recordFault r 0) (given (tt {0})) (few t e) (omega arith) tt) (λ u f. placing-rowed t r))
 
   numbers-rowed : (ns : List ℕ) → Rowed (putNumbersIn b len ns)
   unfolding putNumbersIn recordFrom
@@ -113,28 +118,28 @@ module _ (b : List ℕ) (len : ℕ) where
 
 -- ---- lengths
 
--- no sheet is longer than one of 400 records, and an edit that is done leaves one
-sheet-most : (b : List ℕ) (len : ℕ) (t : Sheet) → sheetAt b len ≡ given t → len ≤ 6412
-sheet-most b len t e = let k = taken-at b len t e in omega (arith, k .whole, k .few)
+-- no sheet is longer than the longest, and an edit that is done leaves one
+sheet-most : (b : List ℕ) (len : ℕ) (t : Sheet) → sheetAt b len ≡ given t → len ≤ longestSheet
+sheet-most b len t e = let k = taken-at b len t e in omega (arith, k .whole, k .few, regular (t .header .own) .short)
 
-put-most : (b : List ℕ) (len : ℕ) (r : Record) (a : After) → putIn b len r ≡ given a → a .size ≤ 6412
+put-most : (b : List ℕ) (len : ℕ) (r : Record) (a : After) → putIn b len r ≡ given a → a .size ≤ longestSheet
 unfolding putIn
 put-most b len r a e =
     let s = then-given (sheetAt b len) _ a e in
     go (s .0) (s .1) (put-done b len (s .0) (s .1) r a e .1)
   where
-    go : (t : Sheet) → sheetAt b len ≡ given t → Put b len t r a → a .size ≤ 6412
+    go : (t : Sheet) → sheetAt b len ≡ given t → Put b len t r a → a .size ≤ longestSheet
     go t f (replaces has g) = omega (arith, sheet-most b len t f, ap (λ (x : After). x .size) g)
-    go t f (inserts new fits few g) = omega (arith, taken-at b len t f .whole, few, ap (λ (x : After). x .size) g)
+    go t f (inserts new fits few g) = omega (arith, taken-at b len t f .whole, few, regular (t .header .own) .short, ap (λ (x : After). x .size) g)
 
-numbers-most : (b : List ℕ) (len : ℕ) (ns : List ℕ) (a : After) → putNumbersIn b len ns ≡ given a → a .size ≤ 6412
+numbers-most : (b : List ℕ) (len : ℕ) (ns : List ℕ) (a : After) → putNumbersIn b len ns ≡ given a → a .size ≤ longestSheet
 unfolding putNumbersIn
 numbers-most b len ns a e =
     let h = then-given (headerOf b len) _ a e in
     let r = then-given (recordFrom (h .0 .count) ns) _ a (h .2) in
     put-most b len (r .0) a (r .2)
 
-remove-most : (b : List ℕ) (len id : ℕ) (a : After) → removeIn b len id ≡ given a → a .size ≤ 6412
+remove-most : (b : List ℕ) (len id : ℕ) (a : After) → removeIn b len id ≡ given a → a .size ≤ longestSheet
 unfolding removeIn
 remove-most b len id a e =
     let s = then-given (sheetAt b len) _ a e in
@@ -142,7 +147,7 @@ remove-most b len id a e =
 
 -- ---- both
 
-ranged : (x : Answer After) → Rowed x → ((a : After) → x ≡ given a → a .size ≤ 6412) → Resized (sizeBy x)
+ranged : (x : Answer After) → Rowed x → ((a : After) → x ≡ given a → a .size ≤ longestSheet) → Resized (sizeBy x)
 unfolding sizeBy
 ranged (given a) r h = h a refl
 ranged (refused k p) r h = r

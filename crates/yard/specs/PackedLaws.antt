@@ -3,6 +3,7 @@
 use Prim.Native.Nat.{ℕ, _+_, _*_, _≤_, _<_}
 use mathlib.Core.Path.{_≡_, refl, ap, ap₂}
 use native.Mathlib.Omega.{arith}
+use Rattle.sheet.specs.Versions.{longestSheet}
 use Rattle.sheet.specs.Refusals.{Answer, given, refused}
 use Rattle.checker.specs.Check.{Totals}
 use Rattle.yard.specs.Packed.{numberUnit, packed, fine}
@@ -18,14 +19,14 @@ abbrev pub Answered : Answer Totals → Type 0
 Answered (given t) = (t .n < 16777216) × (t .failed < 65536)
 Answered (refused k p) = Told {A = Totals} (refused k p)
 
--- and those of an edit's: the place is at most the last field of record 400, and no sheet is longer than one of 400 records
+-- and those of an edit's: the place is at most the last field of record 400, and no sheet is longer than the longest
 pub record EditRow (number place : ℕ) : Type 0 where
   pub some : 1 ≤ number
   pub last : number ≤ 11
   pub inside : place ≤ 12813
 
 abbrev pub Resized : Answer ℕ → Type 0
-Resized (given n) = n ≤ 6412
+Resized (given n) = n ≤ longestSheet
 Resized (refused k p) = EditRow k p
 
 pub packed-same : (a b : Answer Totals) → Answered a → Answered b → packed a ≡ packed b → a ≡ b

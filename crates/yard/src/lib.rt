@@ -83,7 +83,7 @@ pub extern "C" fn yard_read_verdict(bytes: &[u8], fields: &mut [u32; 4]) -> u64
 }
 
 #[no_mangle]
-pub extern "C" fn yard_read_header(bytes: &[u8], fields: &mut [u32; 8]) -> u64
+pub extern "C" fn yard_read_header(bytes: &[u8], fields: &mut [u32; 10]) -> u64
     ensures { λ r. ⌜ Reads (numbered headerNumbers (readHeader (now (bytes .entry)))) (now (fields .entry)) r (now (fields .exit)) ⌝ }
 {
     let read = header::read_header(bytes);
@@ -111,10 +111,10 @@ pub extern "C" fn yard_read_record(bytes: &[u8], fields: &mut [u32; 13]) -> u64
 }
 
 #[no_mangle]
-pub extern "C" fn yard_write_header(fields: &[u32; 8], out: &mut [u8]) -> u64
+pub extern "C" fn yard_write_header(fields: &[u32; 10], out: &mut [u8]) -> u64
     ensures { λ r. ⌜ Wrote (writeHeaderNumbers (now (fields .entry)) (now (out .entry))) r (now (out .exit)) ⌝ }
 {
-    if out.len() < 12 {
+    if out.len() < numbers::header_size(*fields) {
         return packed_refusal(Refusal::OutputShort);
     }
     let taken = numbers::header_from(*fields);
