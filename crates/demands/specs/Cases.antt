@@ -11,7 +11,7 @@ use Rattle.gauge.specs.Ceil.{ceilOf}
 use Rattle.gauge.specs.Least.{firstFrom, leastIn}
 use Rattle.loads.specs.Loads.{sea, bottomPressure, innerPressure, deepPressure, lineLoad}
 use Rattle.loads.specs.Sources.{bottomNamed, innerNamed}
-use Rattle.sheet.specs.Header.{headerIn, readHeader}
+use Rattle.sheet.specs.Header.{readHeader}
 use Rattle.sheet.specs.Record.{recordIn, readRecord}
 use Rattle.plating.specs.Rules.{K2}
 use Rattle.framing.specs.Rules.{rule4, rule5, rule6, memberLine}
@@ -33,7 +33,7 @@ use Rattle.demands.specs.Example.{example, light, stressed, flooded, bar
 
 -- each row of the table holds for a sheet
 pub each-row : Row (take 11 example) 9 1 0
-    × Row (set example 0 39) 9 2 0
+    × Row (set example 0 55) 9 2 0
     × Row (set example 4 208) 9 3 4
     × Row (example ++ (0 ∷ [])) 9 4 0
     × Row example 7 5 0
@@ -42,7 +42,7 @@ pub each-row : Row (take 11 example) 9 1 0
     × Row (set example 29 28) 9 8 1
 each-row = (
   refused-exactly (take 11 example) 9 1 0 .0 (row-by-row .0),
-  refused-exactly (set example 0 39) 9 2 0 .0 (row-by-row .1),
+  refused-exactly (set example 0 55) 9 2 0 .0 (row-by-row .1),
   refused-exactly (set example 4 208) 9 3 4 .0 (row-by-row .2),
   refused-exactly (example ++ (0 ∷ [])) 9 4 0 .0 (row-by-row .3),
   refused-exactly example 7 5 0 .0 (row-by-row .4),
@@ -61,7 +61,7 @@ bare-accepted P d out = d .first bare out .none-judged refl bare-sound refl
 -- what the checker answers and leaves on a sheet with a number and on one with none
 checker-numbers : (checker .answer example lent ≡ Done 2 2) × Leaves checker example lent 0 (record { id = 7; rule = 3; required = 617; source = 0 })
     × (checker .answer stressed lent ≡ Done 1 1) × Leaves checker stressed lent 0 (record { id = 12; rule = 5; required = 0; source = 0 })
-unfolding readEntry entryIn entryFault sheetIn headerFor recordsIn partsFrom soundAfter _then_ demand readHeader headerIn readRecord recordIn verdicts entryOf bytesOf failures firstFrom leastIn ceilOf sea bottomPressure innerPressure deepPressure lineLoad K2 rule4 rule5 rule6 memberLine bottomNamed innerNamed
+unfolding readEntry entryIn entryFault sheetIn headerFor recordsIn partsFrom soundAfter _then_ demand readHeader readRecord recordIn verdicts entryOf bytesOf failures firstFrom leastIn ceilOf sea bottomPressure innerPressure deepPressure lineLoad K2 rule4 rule5 rule6 memberLine bottomNamed innerNamed
 checker-numbers = (refl, refl, refl, refl)
 
 -- demand 3 on both
@@ -76,7 +76,7 @@ no-number-example x g e =
 -- what it answers and leaves on a plate under ballast: at T 620 it fails rule 2, at 676 it passes, both with source 2
 flooded-numbers : (checker .answer (flooded 155) lent ≡ Done 1 1) × Leaves checker (flooded 155) lent 0 (record { id = 5; rule = 2; required = 676; source = 2 })
     × (checker .answer (flooded 169) lent ≡ Done 1 0) × Leaves checker (flooded 169) lent 0 (record { id = 5; rule = 0; required = 0; source = 2 })
-unfolding readEntry entryIn entryFault sheetIn headerFor recordsIn partsFrom soundAfter _then_ demand readHeader headerIn readRecord recordIn verdicts entryOf bytesOf failures firstFrom leastIn ceilOf sea bottomPressure innerPressure deepPressure lineLoad K2 rule4 rule5 rule6 memberLine bottomNamed innerNamed
+unfolding readEntry entryIn entryFault sheetIn headerFor recordsIn partsFrom soundAfter _then_ demand readHeader readRecord recordIn verdicts entryOf bytesOf failures firstFrom leastIn ceilOf sea bottomPressure innerPressure deepPressure lineLoad K2 rule4 rule5 rule6 memberLine bottomNamed innerNamed
 flooded-numbers = (refl, refl, refl, refl)
 
 -- what is said of the source, of a failure and of a pass
@@ -116,5 +116,5 @@ pub empty-on-example : (passing .answer example lent ≡ Done 2 0)
     × (firstOnly .answer example lent ≡ Done 2 1)
     × (firstOnly .after example lent ≡ entryBytes (record { id = 7; rule = 3; required = 617; source = 0 }) ++ (entryBytes (record { id = 12; rule = 0; required = 0; source = 0 }) ++ (170 ∷ [])))
     × (counting (λ h. 1) .answer example lent ≡ Done 2 1)
-unfolding sheetIn headerFor recordsIn partsFrom soundAfter _then_ demand readHeader headerIn readRecord recordIn verdicts entryOf bytesOf failures firstFrom leastIn ceilOf sea bottomPressure innerPressure deepPressure lineLoad K2 rule4 rule5 rule6 memberLine bottomNamed innerNamed
+unfolding sheetIn headerFor recordsIn partsFrom soundAfter _then_ demand readHeader readRecord recordIn verdicts entryOf bytesOf failures firstFrom leastIn ceilOf sea bottomPressure innerPressure deepPressure lineLoad K2 rule4 rule5 rule6 memberLine bottomNamed innerNamed
 empty-on-example = (refl, refl, refl, refl, refl, refl, refl)

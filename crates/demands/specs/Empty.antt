@@ -10,6 +10,7 @@ use Rattle.sheet.specs.Refusals.{Answer, given, refused}
 use Rattle.checker.specs.declared.Entry.{Entry}
 use Rattle.checker.specs.declared.Checked.the-variants.{Done, Refused as notDone}
 use Rattle.checker.specs.Entry.{readEntry}
+use Rattle.demands.specs.Table.{headSize}
 use Rattle.demands.specs.Program.{Program, fourAt, Leaves}
 use Rattle.demands.specs.Demands.{Demands}
 
@@ -57,7 +58,7 @@ Miscounts P = (s out : List ℕ) × (n failed : ℕ) × (P .answer s out ≡ Don
 
 -- or which hangs on the header's bytes alone, or on nothing
 abbrev pub MakesUpCount : (List ℕ → ℕ) → Program → Type 0
-MakesUpCount count P = (s out : List ℕ) (n failed : ℕ) → P .answer s out ≡ Done n failed → failed ≡ count (take 12 s)
+MakesUpCount count P = (s out : List ℕ) (n failed : ℕ) → P .answer s out ≡ Done n failed → failed ≡ count (take (headSize s) s)
 
 -- and since verdicts name a source: it names none on a pass
 abbrev pub DropsSource : Program → Type 0

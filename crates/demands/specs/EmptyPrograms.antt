@@ -11,6 +11,7 @@ use Rattle.checker.specs.declared.Entry.{Entry}
 use Rattle.checker.specs.declared.Checked.{Checked}
 use Rattle.checker.specs.declared.Checked.the-variants.{Done, Refused as notDone}
 use Rattle.checker.specs.Check.{Sheet, sheetIn, verdicts, bytesOf, failures}
+use Rattle.demands.specs.Table.{headSize}
 use Rattle.demands.specs.Program.{Program}
 
 -- its answer to a sheet that was read, with this count of failures
@@ -79,7 +80,7 @@ firstOnly = changing passAfterFirst
 
 -- 5: it makes up the failure count from the header's bytes
 abbrev pub counting : (List ℕ → ℕ) → Program
-counting count = reading (λ s t. count (take 12 s)) verdicts
+counting count = reading (λ s t. count (take (headSize s) s)) verdicts
 
 -- it names no source on a pass
 abbrev pub dropping : Program

@@ -4,6 +4,7 @@ pub mod Program
 pub mod Raise
 pub mod Demands
 pub mod Sources
+pub mod DocumentOne
 pub mod Empty
 pub mod EmptyPrograms
 -- how it is proved
@@ -18,4 +19,6 @@ pub mod ShutOut
 pub mod Only
 -- sheets of bytes, computed
 pub mod Example
+pub mod Version2
 pub mod Cases
+pub mod Unmoved

@@ -24,13 +24,13 @@ use Rattle.checker.specs.declared.Entry.{Entry}
 use Rattle.checker.specs.declared.Checked.{Checked}
 use Rattle.checker.specs.declared.Checked.the-variants.{Done, Refused as notDone}
 use Rattle.checker.specs.Entry.{entryBytes, readEntry}
-use Rattle.checker.specs.Check.{_then_, recordPart, recordOf, Sheet, sheetIn, entryWith, entryOf, verdicts, bytesOf, failures, Totals, toldChecked, answerOf, outputOf}
+use Rattle.checker.specs.Check.{_then_, recordsPart, recordPart, recordOf, Sheet, sheetIn, entryWith, entryOf, verdicts, bytesOf, failures, Totals, toldChecked, answerOf, outputOf}
 use Rattle.checker.specs.CheckLaws.{then-given, Taken, none, next, sheet-whole, record-given, verdict-at, verdict-read, verdicts-count, rest-as-lent, answer-done, output-done, bytes-length, refused-as-lent}
-use Rattle.demands.specs.Table.{countOf, HeaderSound, Row, Accepted}
+use Rattle.demands.specs.Table.{headSize, countOf, HeaderSound, Row, Accepted}
 use Rattle.demands.specs.Program.{Program, Meets, fourAt, Leaves}
 use Rattle.demands.specs.Raise.{theHeader, theRecord, replaced, withScantling, InGauge, OwnRule, Reaches, metIn, meetsRule, raisedBy, raisedTimes}
 use Rattle.demands.specs.Demands.{Covered, accepted, turned-away, First, entryOn, failedFrom, Second, Later, passed, above, Third, Settled, passes, none-meets, ThreeRaisings, Demands}
-use Rattle.demands.specs.FieldsRead.{record-sound, record-id-field}
+use Rattle.demands.specs.FieldsRead.{recordsOf, records-read, record-sound, record-id-field}
 use Rattle.demands.specs.Rows as rows
 use Rattle.demands.specs.Scantling.{putRecord, own-sound, rule-above, named-own, number-in-gauge, met-exactly, later-exactly}
 use Rattle.demands.specs.Exchange as exchange
@@ -51,14 +51,21 @@ module _ (s out : List ℕ) (t : Sheet) (given-t : sheetIn s (length out) ≡ gi
   header-is : theHeader s ≡ t .header
   header-is = rows.given-accepted s (length out) t given-t .1
 
+  -- the bytes of its records
+  abbrev kept : List ℕ
+  kept = recordsPart (t .header) s
+
+  all-records : recordsOf s ≡ kept
+  all-records = records-read s (t .header) (sheet-whole s (length out) t given-t .header .read)
+
   -- the verdict that the promise writes for a record is the one on its fields
-  entry-is : (i : ℕ) (r : Record) → recordOf s i ≡ given r → entryOf (t .header) r ≡ entryOn s i
+  entry-is : (i : ℕ) (r : Record) → recordOf kept i ≡ given r → entryOf (t .header) r ≡ entryOn s i
   unfolding entryOf
   entry-is i r e =
-      ap₂ entryOf (sym header-is) (sym (record-sound s i r e .1))
+      ap₂ entryOf (sym header-is) (sym (record-sound s kept all-records i r e .1))
       ∙ ap (λ (id : ℕ). entryWith id (finding (theHeader s) (theRecord s i))) (record-id-field s i)
 
-  failures-from : (i before : ℕ) (rs : List Record) → Taken s i before rs → failures (map (entryOf (t .header)) rs) ≡ failedFrom s i (length rs)
+  failures-from : (i before : ℕ) (rs : List Record) → Taken kept i before rs → failures (map (entryOf (t .header)) rs) ≡ failedFrom s i (length rs)
   unfolding failures
   failures-from i before [] none = refl
   failures-from i before (r ∷ rs) (next e l u) =
@@ -172,7 +179,7 @@ module _ (P : Program) (meets : Meets P) where
         let m : n ≡ 0 = q .number ∙ z in
         (e ∙ ap₂ Done m (q .counted ∙ ap (failedFrom s 0) m), subst (λ (k : ℕ). drop (4 * k) (P .after s out) ≡ drop (4 * k) out) m (q .others-as-lent))
 
-    no-records : length s ≡ 12 → HeaderSound s → countOf s ≡ 0 → Accepted s (length out)
+    no-records : length s ≡ headSize s → HeaderSound s → countOf s ≡ 0 → Accepted s (length out)
     no-records l f z =
         record {
           fits = record { header = f; whole = omega arith; enough = omega arith };
@@ -229,7 +236,7 @@ module _ (P : Program) (meets : Meets P) where
       unfolding withScantling
       put-own k x own gauge =
           let new = putRecord k x r in
-          let z : recordFault new 0 ≡ 0 = own-sound (r .kind) (r .id) (r .body) k x own gauge (record-read-fine i (recordPart s' i) r (holds .own)) in
+          let z : recordFault new 0 ≡ 0 = own-sound (r .kind) (r .id) (r .body) k x own gauge (record-read-fine i (recordPart (recordsPart (t .header) s') i) r (holds .own)) in
           subst (λ (q : Record). exchange.Holds s out t given-t i inside (replaced i (recordBytes (putRecord k x q)) s') new) (sym (exchange.its-record s out t given-t i inside s' r holds))
           (exchange.in-place s out t given-t i inside s' r holds new z refl)
 
@@ -283,7 +290,7 @@ module _ (P : Program) (meets : Meets P) where
             let some : 1 ≤ verdict (t .header) r .rule = omega arith in
             none-meets some (λ x g. not-true _ (λ w. omega (arith, put-met-exactly s' r holds some x g .0 w .0)))
 
-    module _ (r : Record) (read : recordOf s i ≡ given r) where
+    module _ (r : Record) (read : recordOf (recordsPart (t .header) s) i ≡ given r) where
       pub at-first : exchange.Holds s out t given-t i inside s r
       at-first = exchange.holds-at-first s out t given-t i inside r read
 
@@ -329,7 +336,7 @@ module _ (P : Program) (meets : Meets P) where
     pub inside : i < taken .0 .header .count
     inside = omega (arith, taken .2)
 
-    pub its : (r : Record) × (recordOf s i ≡ given r)
+    pub its : (r : Record) × (recordOf (recordsPart (taken .0 .header) s) i ≡ given r)
     its = record-given s out (taken .0) (taken .1) i inside
 
     pub third-demand : (f : Entry) → Leaves P s out i f → 1 ≤ f .rule → Third P s out n i f

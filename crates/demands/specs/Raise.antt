@@ -10,7 +10,7 @@ use Rattle.sheet.specs.declared.Body.{Body}
 use Rattle.sheet.specs.declared.Body.the-variants.{Plate as isPlate, Member as isMember}
 use Rattle.sheet.specs.declared.Record.{Record}
 use Rattle.sheet.specs.Refusals.{Answer, given, refused}
-use Rattle.sheet.specs.Header.{headerAt}
+use Rattle.sheet.specs.Header.{headerOf}
 use Rattle.sheet.specs.Record.{recordBytes}
 use Rattle.sheet.specs.RecordLaws.{recordAt}
 use Rattle.verdict.specs.Verdict.{Rule}
@@ -18,24 +18,24 @@ use Rattle.hull.specs.Hull.{rulesOf}
 use Rattle.hull.specs.Raising.{raised}
 use Rattle.checker.specs.declared.Entry.{Entry}
 use Rattle.checker.specs.Entry.{readEntry}
-use Rattle.demands.specs.Table.{headerFields, numberOf}
+use Rattle.demands.specs.Table.{headSize, numberOf}
 use Rattle.demands.specs.Program.{Program, fourAt}
 
 -- the header that the sheet's fields are
 abbrev pub theHeader : List ℕ → Header
-theHeader s = headerAt (headerFields s)
+theHeader s = headerOf s
 
 -- record i of the sheet, as its fields are
 abbrev pub theRecord : List ℕ → ℕ → Record
 theRecord s i = recordAt (numberOf s i)
 
 -- where record i begins
-abbrev pub recordStart : ℕ → ℕ
-recordStart i = 12 + 16 * i
+abbrev pub recordStart : List ℕ → ℕ → ℕ
+recordStart s i = headSize s + 16 * i
 
 -- the sheet with these bytes in place of record i's
 unfoldable pub replaced : (i : ℕ) → List ℕ → List ℕ → List ℕ
-replaced i b s = take (recordStart i) s ++ (b ++ drop (recordStart i + 16) s)
+replaced i b s = take (recordStart s i) s ++ (b ++ drop (recordStart s i + 16) s)
 
 -- the sheet with x in place of the scantling of record i that rule k speaks of: T for rules 1 to 4, W for rule 5, A for rule 6
 unfoldable pub withScantling : (i k x : ℕ) → List ℕ → List ℕ

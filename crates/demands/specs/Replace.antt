@@ -2,22 +2,22 @@
 -- as before.
 -- Assumes nothing.
 use Prim.Native.Nat.{ℕ, _+_, _-_, _*_, _≤_, _<_}
-use mathlib.Core.Path.{_≡_, sym, ap, ap₂, _∙_}
-use mathlib.Core.Bool.{cond}
+use mathlib.Core.Path.{_≡_, sym, ap, _∙_}
 use mathlib.Core.List.{List, _++_}
 use native.Mathlib.Omega.{arith}
 use native.Mathlib.Decide.{decLt}
 use lib.ListN.{length, take, drop, length-append, length-drop, take-append-drop}
-use lib.Seq.{length-take-le, take-append-le, drop-append-le, drop-drop, take-at, drop-at}
-use lib.Dec.{ltb}
-use Rattle.layout.specs.Layout.{pack, bytes}
+use lib.Seq.{length-take-le, take-take, take-append-le, drop-append-le, drop-drop, take-at, drop-at}
+use Rattle.sheet.specs.declared.Header.{Header}
 use Rattle.sheet.specs.declared.Record.{Record}
-use Rattle.sheet.specs.Refusals.{given, refused}
-use Rattle.sheet.specs.Header.{headerIn, readHeader}
+use Rattle.sheet.specs.Refusals.{given}
+use Rattle.sheet.specs.Header.{headerSize, readHeader}
+use Rattle.sheet.specs.HeaderFront.{header-prefix}
 use Rattle.sheet.specs.Record.{readRecord, recordFault, recordBytes}
 use Rattle.sheet.specs.OwnBytes.{record-bytes-length, record-bytes-read}
-use Rattle.checker.specs.Check.{recordOf}
-use Rattle.demands.specs.Raise.{recordStart, replaced}
+use Rattle.checker.specs.Check.{recordPart, recordOf}
+use Rattle.demands.specs.Table.{headSize}
+use Rattle.demands.specs.Raise.{replaced}
 
 -- ---- lists
 
@@ -25,13 +25,9 @@ use Rattle.demands.specs.Raise.{recordStart, replaced}
 abbrev three : List ℕ → List ℕ → List ℕ → List ℕ
 three p b q = p ++ (b ++ q)
 
--- sixteen elements from a on
-abbrev sixteen : ℕ → List ℕ → List ℕ
-sixteen a s = take (a + 16 - a) (drop a s)
-
--- by how many they are
-just : (a : ℕ) (s : List ℕ) → sixteen a s ≡ take 16 (drop a s)
-just a s = let e : a + 16 - a ≡ 16 = omega arith in ap (λ (k : ℕ). take k (drop a s)) e
+-- the sixteen bytes of record j, among those after the first k
+just : (k j : ℕ) (s : List ℕ) → recordPart (drop k s) j ≡ take 16 (drop (k + 16 * j) s)
+just k j s = let e : 16 * j + 16 - 16 * j ≡ 16 = omega arith in ap (λ (n : ℕ). take n (drop (16 * j) (drop k s))) e ∙ ap (take 16) (drop-drop (16 * j) k s)
 
 module _ (p b q : List ℕ) (m : ℕ) (lp : length p ≡ m) (lb : length b ≡ 16) where
   -- the middle part
@@ -52,61 +48,72 @@ module _ (p b q : List ℕ) (m : ℕ) (lp : length p ≡ m) (lb : length b ≡ 1
       ∙ sym (drop-drop k 16 (b ++ q))
       ∙ ap (drop k) (drop-at b q 16 lb))
 
--- ---- a sheet with one record replaced
+-- ---- a sheet with one record replaced, whose header has k bytes
 
-module _ (s : List ℕ) (i : ℕ) (r : Record) (z : recordFault r 0 ≡ 0) (l : recordStart i + 16 ≤ length s) where
+module _ (s : List ℕ) (k : ℕ) (sized : headSize s ≡ k) (i : ℕ) (r : Record) (z : recordFault r 0 ≡ 0) (l : k + 16 * i + 16 ≤ length s) where
   abbrev new : List ℕ
   new = replaced i (recordBytes r) s
 
-  start-length : length (take (recordStart i) s) ≡ recordStart i
-  start-length = length-take-le (recordStart i) s (omega arith)
+  abbrev from : ℕ
+  from = k + 16 * i
 
-  old-length : length (take 16 (drop (recordStart i) s)) ≡ 16
-  old-length = length-take-le 16 (drop (recordStart i) s) (omega (arith, length-drop (recordStart i) s))
+  abbrev bytes-of : List ℕ
+  bytes-of = three (take from s) (recordBytes r) (drop (from + 16) s)
+
+  new-is : new ≡ bytes-of
+  unfolding replaced
+  new-is = ap (λ (n : ℕ). take (n + 16 * i) s ++ (recordBytes r ++ drop (n + 16 * i + 16) s)) sized
+
+  start-length : length (take from s) ≡ from
+  start-length = length-take-le from s (omega arith)
+
+  old-length : length (take 16 (drop from s)) ≡ 16
+  old-length = length-take-le 16 (drop from s) (omega (arith, length-drop from s))
 
   -- the sheet as it was, in the same three parts
-  parts : three (take (recordStart i) s) (take 16 (drop (recordStart i) s)) (drop (recordStart i + 16) s) ≡ s
+  parts : three (take from s) (take 16 (drop from s)) (drop (from + 16) s) ≡ s
   parts =
-      ap (λ (t : List ℕ). take (recordStart i) s ++ (take 16 (drop (recordStart i) s) ++ t)) (sym (drop-drop 16 (recordStart i) s))
-      ∙ ap (λ (t : List ℕ). take (recordStart i) s ++ t) (take-append-drop 16 (drop (recordStart i) s))
-      ∙ take-append-drop (recordStart i) s
+      ap (λ (t : List ℕ). take from s ++ (take 16 (drop from s) ++ t)) (sym (drop-drop 16 from s))
+      ∙ ap (λ (t : List ℕ). take from s ++ t) (take-append-drop 16 (drop from s))
+      ∙ take-append-drop from s
 
   pub replaced-length : length new ≡ length s
-  unfolding replaced
   replaced-length =
-      omega (arith, length-append (take (recordStart i) s) (recordBytes r ++ drop (recordStart i + 16) s), length-append (recordBytes r) (drop (recordStart i + 16) s), length-drop (recordStart i + 16) s, start-length, record-bytes-length r)
+      ap length new-is
+      ∙ omega (arith, length-append (take from s) (recordBytes r ++ drop (from + 16) s), length-append (recordBytes r) (drop (from + 16) s), length-drop (from + 16) s, start-length, record-bytes-length r)
 
   -- the header is read as before
-  pub replaced-header : readHeader new ≡ readHeader s
-  unfolding readHeader replaced
-  replaced-header =
-      let same : take 12 new ≡ take 12 s = take-append-le 12 (take (recordStart i) s) _ (omega (arith, start-length)) ∙ sym (take-append-le 12 (take (recordStart i) s) (drop (recordStart i) s) (omega (arith, start-length))) ∙ ap (take 12) (take-append-drop (recordStart i) s) in
-      ap₂ (λ (n : ℕ) (b : List ℕ). cond (ltb n 12) (refused 1 0) (headerIn (pack (bytes 12) b))) replaced-length same
+  pub replaced-header : (h : Header) → headerSize h ≡ k → readHeader s ≡ given h → readHeader new ≡ given h
+  replaced-header h size e =
+      let a : headerSize h ≤ length (take from s) = omega (arith, start-length) in
+      let same : take (headerSize h) new ≡ take (headerSize h) s =
+      ap (take (headerSize h)) new-is
+      ∙ take-append-le (headerSize h) (take from s) (recordBytes r ++ drop (from + 16) s) a
+      ∙ take-take (headerSize h) from s (omega arith) in
+      header-prefix s new h e same
 
   -- record i is the new one
-  pub replaced-record : recordOf new i ≡ given r
-  unfolding replaced
+  pub replaced-record : recordOf (drop k new) i ≡ given r
   replaced-record =
       ap (readRecord i)
-      (just (recordStart i) new ∙ in-middle (take (recordStart i) s) (recordBytes r) (drop (recordStart i + 16) s) (recordStart i) start-length (record-bytes-length r))
+      (just k i new ∙ ap (λ (t : List ℕ). take 16 (drop from t)) new-is ∙ in-middle (take from s) (recordBytes r) (drop (from + 16) s) from start-length (record-bytes-length r))
       ∙ record-bytes-read i r z
 
   -- and every other record is read as before
-  pub replaced-others : (j : ℕ) → (j ≡ i → ⊥) → recordOf new j ≡ recordOf s j
-  unfolding replaced
-  replaced-others j n = ap (readRecord j) (just (recordStart j) new ∙ go (decLt j i) ∙ sym (just (recordStart j) s))
+  pub replaced-others : (j : ℕ) → (j ≡ i → ⊥) → recordOf (drop k new) j ≡ recordOf (drop k s) j
+  replaced-others j n = ap (readRecord j) (just k j new ∙ ap (λ (t : List ℕ). take 16 (drop (k + 16 * j) t)) new-is ∙ go (decLt j i) ∙ sym (just k j s))
     where
-      go : Dec (j < i) → take 16 (drop (recordStart j) (three (take (recordStart i) s) (recordBytes r) (drop (recordStart i + 16) s))) ≡ take 16 (drop (recordStart j) s)
+      go : Dec (j < i) → take 16 (drop (k + 16 * j) bytes-of) ≡ take 16 (drop (k + 16 * j) s)
       go (yes h) =
-          before (take (recordStart i) s) (recordBytes r) (drop (recordStart i + 16) s) (recordStart i) start-length (record-bytes-length r) (recordStart j) (omega arith)
-          ∙ sym (before (take (recordStart i) s) (take 16 (drop (recordStart i) s)) (drop (recordStart i + 16) s) (recordStart i) start-length old-length (recordStart j) (omega arith))
-          ∙ ap (λ (t : List ℕ). take 16 (drop (recordStart j) t)) parts
+          before (take from s) (recordBytes r) (drop (from + 16) s) from start-length (record-bytes-length r) (k + 16 * j) (omega arith)
+          ∙ sym (before (take from s) (take 16 (drop from s)) (drop (from + 16) s) from start-length old-length (k + 16 * j) (omega arith))
+          ∙ ap (λ (t : List ℕ). take 16 (drop (k + 16 * j) t)) parts
       go (no h) =
-          let k = 16 * (j - i - 1) in
-          let at : recordStart i + 16 + k ≡ recordStart j = omega (arith, n) in
-          let old = three (take (recordStart i) s) (take 16 (drop (recordStart i) s)) (drop (recordStart i + 16) s) in
-          ap (λ (x : ℕ). take 16 (drop x (three (take (recordStart i) s) (recordBytes r) (drop (recordStart i + 16) s)))) (sym at)
-          ∙ after (take (recordStart i) s) (recordBytes r) (drop (recordStart i + 16) s) (recordStart i) start-length (record-bytes-length r) k
-          ∙ sym (after (take (recordStart i) s) (take 16 (drop (recordStart i) s)) (drop (recordStart i + 16) s) (recordStart i) start-length old-length k)
+          let m = 16 * (j - i - 1) in
+          let at : from + 16 + m ≡ k + 16 * j = omega (arith, n) in
+          let old = three (take from s) (take 16 (drop from s)) (drop (from + 16) s) in
+          ap (λ (x : ℕ). take 16 (drop x bytes-of)) (sym at)
+          ∙ after (take from s) (recordBytes r) (drop (from + 16) s) from start-length (record-bytes-length r) m
+          ∙ sym (after (take from s) (take 16 (drop from s)) (drop (from + 16) s) from start-length old-length m)
           ∙ ap (λ (x : ℕ). take 16 (drop x old)) at
-          ∙ ap (λ (t : List ℕ). take 16 (drop (recordStart j) t)) parts
+          ∙ ap (λ (t : List ℕ). take 16 (drop (k + 16 * j) t)) parts

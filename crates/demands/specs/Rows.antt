@@ -6,7 +6,7 @@ use mathlib.Core.Path.{_≡_, refl, sym, ap, ap₂, subst, _∙_}
 use mathlib.Core.Bool.{Bool, true, false, cond}
 use mathlib.Core.List.{List, [], _∷_}
 use native.Mathlib.Omega.{arith}
-use native.Mathlib.Decide.{ℕ-discrete}
+use native.Mathlib.Decide.{decLt, ℕ-discrete}
 use native.Mathlib.Nat.{zero-add}
 use native.Mathlib.Numerals.{add-one}
 use lib.ListN.{length}
@@ -18,15 +18,16 @@ use Rattle.sheet.specs.declared.Record.{Record}
 use Rattle.sheet.specs.Refusals.{Answer, given, refused}
 use Rattle.sheet.specs.RefusalLaws.{given-refused, refused-number, refused-place}
 use Rattle.sheet.specs.Exactly.{Exactly, LaterFault}
-use Rattle.sheet.specs.Header.{headerAt, readHeader}
+use Rattle.sheet.specs.VersionLaws.{Under, under-first, under-own, own-number, number-own}
+use Rattle.sheet.specs.Header.{headerSize, versionField, versionIn, headerOf, readHeader}
 use Rattle.sheet.specs.HeaderExactly.{header-read-1, header-read-2, header-read-3, header-read-others}
 use Rattle.sheet.specs.Record.{readRecord}
 use Rattle.sheet.specs.RecordLaws.{recordAt}
 use Rattle.sheet.specs.RecordExactly.{kindAt, linesAt, fieldsAt, record-read-1, record-read-6, record-read-7, record-read-others}
-use Rattle.checker.specs.Check.{_then_, demand, headerFor, recordPart, recordOf, partsFrom, soundAfter, recordsIn, Sheet, sheetIn, verdicts, failures, Totals, answerOf}
+use Rattle.checker.specs.Check.{_then_, demand, sheetSize, headerFor, recordsPart, recordPart, recordOf, partsFrom, soundAfter, recordsIn, Sheet, sheetIn, verdicts, failures, Totals, answerOf}
 use Rattle.checker.specs.CheckLaws.{HeaderFits, header-fits, sound-read, Taken, none, next, sheet-whole}
-use Rattle.demands.specs.Table.{headerFields, countOf, numberOf, fieldsOf, linesOf, idOf, HeaderSound, RecordSound, InOrder, Fits, Reached, Row, sheet-short, version, header-field, sheet-length, output-short, kind, field, order, Accepted}
-use Rattle.demands.specs.FieldsRead.{header-sound, header-given, number-read, part-length, record-sound, record-is, record-id-field, sound-id}
+use Rattle.demands.specs.Table.{headSize, countOf, numberOf, fieldsOf, linesOf, idOf, HeaderSound, RecordSound, InOrder, Fits, Reached, Row, sheet-short, version, header-short, header-field, sheet-length, output-short, kind, field, order, Accepted}
+use Rattle.demands.specs.FieldsRead.{recordsOf, size-read, records-read, header-sound, header-given, number-read, part-length, record-sound, record-is, record-id-field, sound-id}
 
 -- ---- one answer after another
 
@@ -63,6 +64,10 @@ demand-true true k u e = refl
 demand-true false k u e = given-refused (sym e)
 
 module _ (s : List ℕ) where
+  -- the bytes of its records
+  abbrev kept : List ℕ
+  kept = recordsOf s
+
   -- ---- the ids in their order
 
   -- the id before that of record i, 0 where there is none
@@ -101,14 +106,23 @@ module _ (s : List ℕ) where
 
   module _ (room : ℕ) where
     -- the header is read, the sheet has its length and the output is long enough
-    fits-read : (h : Header) → HeaderFits s room h → Fits s room × (headerAt (headerFields s) ≡ h)
+    fits-read : (h : Header) → HeaderFits s room h → Fits s room × (headerOf s ≡ h)
     fits-read h f =
         let r = header-sound s h (f .read) in
         let c : countOf s ≡ h .count = ap (λ (g : Header). g .count) (r .1) in
-        (record { header = r .0; whole = omega (arith, f .whole); enough = omega (arith, f .fits) }, r .1)
+        (record { header = r .0; whole = omega (arith, f .whole, size-read s h (f .read)); enough = omega (arith, f .fits) }, r .1)
 
-    within-sheet : (i : ℕ) → Fits s room → i < countOf s → 12 + 16 * i + 16 ≤ length s
+    within-sheet : (i : ℕ) → Fits s room → i < countOf s → headSize s + 16 * i + 16 ≤ length s
     within-sheet i f l = omega (arith, f .whole)
+
+    -- row 1, for the sheet and for its header
+    short-row : Under (length s) (versionField s) (versionIn s) → Row s room 1 0
+    short-row (under-first l) = sheet-short l
+    short-row (under-own e l) = go (decLt (length s) 12)
+      where
+        go : Dec (length s < 12) → Row s room 1 0
+        go (yes m) = sheet-short m
+        go (no m) = header-short (omega arith) (own-number (versionField s) e) l
 
     -- rows 1 to 3
     header-row : (k p : ℕ) → readHeader s ≡ refused k p → Row s room k p
@@ -121,33 +135,33 @@ module _ (s : List ℕ) where
         back l q f g r = subst (λ (n : ℕ). Row s room n p) (sym f) (subst (λ (n : ℕ). Row s room l n) (sym g) r)
 
         go : Dec (k ≡ 1) → Dec (k ≡ 2) → Dec (k ≡ 3) → Row s room k p
-        go (yes f) b c = let r = header-read-1 s p .0 (at 1 f) in back 1 0 f (r .1) (sheet-short (r .0))
+        go (yes f) b c = let r = header-read-1 s p .0 (at 1 f) in back 1 0 f (r .1) (short-row (r .0))
         go (no a) (yes f) c = let r = header-read-2 s p .0 (at 2 f) in back 2 0 f (r .2) (version (r .0) (r .1))
         go (no a) (no b) (yes f) = let r = header-read-3 s p .0 (at 3 f) in back 3 (r .1 .index + 2) f (r .1 .at ∙ omega arith) (header-field (r .1 .index) (r .0) (r .1 .fault))
         go (no a) (no b) (no c) = absurd (header-read-others s k p a b c e)
 
     -- rows 4 and 5
-    length-row : (k p : ℕ) (h : Header) → readHeader s ≡ given h → demand (eqb (length s) (12 + 16 * h .count)) 4 ≡ refused k p → Row s room k p
+    length-row : (k p : ℕ) (h : Header) → readHeader s ≡ given h → demand (eqb (length s) (sheetSize h)) 4 ≡ refused k p → Row s room k p
     length-row k p h read e =
-        let d = demanded (eqb (length s) (12 + 16 * h .count)) 4 k p e in
+        let d = demanded (eqb (length s) (sheetSize h)) 4 k p e in
         let r = header-sound s h read in
         let c : countOf s ≡ h .count = ap (λ (g : Header). g .count) (r .1) in
         subst (λ (n : ℕ). Row s room n p) (d .1)
-        (subst (λ (n : ℕ). Row s room 4 n) (sym (d .2)) (sheet-length (r .0) (λ w. eqb-false (length s) (12 + 16 * h .count) (d .0) (w ∙ ap (λ (n : ℕ). 12 + 16 * n) c))))
+        (subst (λ (n : ℕ). Row s room 4 n) (sym (d .2)) (sheet-length (r .0) (λ w. eqb-false (length s) (sheetSize h) (d .0) (omega (arith, w, size-read s h read)))))
 
-    room-row : (k p : ℕ) (h : Header) → readHeader s ≡ given h → length s ≡ 12 + 16 * h .count → demand (leb (4 * h .count) room) 5 ≡ refused k p → Row s room k p
+    room-row : (k p : ℕ) (h : Header) → readHeader s ≡ given h → length s ≡ sheetSize h → demand (leb (4 * h .count) room) 5 ≡ refused k p → Row s room k p
     room-row k p h read whole e =
         let d = demanded (leb (4 * h .count) room) 5 k p e in
         let r = header-sound s h read in
         let c : countOf s ≡ h .count = ap (λ (g : Header). g .count) (r .1) in
         subst (λ (n : ℕ). Row s room n p) (d .1)
-        (subst (λ (n : ℕ). Row s room 5 n) (sym (d .2)) (output-short (r .0) (omega arith) (omega (arith, leb-false (4 * h .count) room (d .0)))))
+        (subst (λ (n : ℕ). Row s room 5 n) (sym (d .2)) (output-short (r .0) (omega (arith, size-read s h read)) (omega (arith, leb-false (4 * h .count) room (d .0)))))
 
     -- rows 6 and 7
-    record-row : (k p i : ℕ) → Reached s room i → recordOf s i ≡ refused k p → Row s room k p
+    record-row : (k p i : ℕ) → Reached s room i → recordOf kept i ≡ refused k p → Row s room k p
     record-row k p i t e = go (ℕ-discrete k 1) (ℕ-discrete k 6) (ℕ-discrete k 7)
       where
-        at : (l : ℕ) → k ≡ l → recordOf s i ≡ refused l p
+        at : (l : ℕ) → k ≡ l → recordOf kept i ≡ refused l p
         at l f = e ∙ ap (λ (n : ℕ). refused n p) f
 
         back : (l q : ℕ) → k ≡ l → p ≡ q → Row s room l q → Row s room k p
@@ -157,25 +171,25 @@ module _ (s : List ℕ) where
         later-row r f = back 7 (32 * i + (r .index + 2)) f (r .at ∙ omega arith) (field i (r .index) t (r .fault))
 
         go : Dec (k ≡ 1) → Dec (k ≡ 6) → Dec (k ≡ 7) → Row s room k p
-        go (yes f) x y = absurd (omega (arith, record-read-1 i (recordPart s i) p .0 (at 1 f) .0, part-length s i (within-sheet i (t .fits) (t .inside))))
+        go (yes f) x y = absurd (omega (arith, record-read-1 i (recordPart kept i) p .0 (at 1 f) .0, part-length s kept refl i (within-sheet i (t .fits) (t .inside))))
         go (no a) (yes f) y =
-            let r = record-read-6 i (recordPart s i) p .0 (at 6 f) in
-            back 6 i f (r .2) (kind i t (subst (λ (n : ℕ). within (from 1 8) (kindAt n) ≡ false) (number-read s i) (r .1)))
+            let r = record-read-6 i (recordPart kept i) p .0 (at 6 f) in
+            back 6 i f (r .2) (kind i t (subst (λ (n : ℕ). within (from 1 8) (kindAt n) ≡ false) (number-read s kept refl i) (r .1)))
         go (no a) (no c) (yes f) =
-            later-row (subst (λ (n : ℕ). LaterFault (λ f. 32 * i + f) (linesAt n) (fieldsAt n) p) (number-read s i) (record-read-7 i (recordPart s i) p .0 (at 7 f) .1)) f
-        go (no a) (no c) (no d) = absurd (record-read-others i (recordPart s i) k p a c d e)
+            later-row (subst (λ (n : ℕ). LaterFault (λ f. 32 * i + f) (linesAt n) (fieldsAt n) p) (number-read s kept refl i) (record-read-7 i (recordPart kept i) p .0 (at 7 f) .1)) f
+        go (no a) (no c) (no d) = absurd (record-read-others i (recordPart kept i) k p a c d e)
 
     -- row 8
-    order-row : (k p i : ℕ) (r : Record) → Reached s room i → recordOf s i ≡ given r → cond (ltb (idBefore i) (r .id)) (given r) (refused 8 i) ≡ refused k p → Row s room k p
+    order-row : (k p i : ℕ) (r : Record) → Reached s room i → recordOf kept i ≡ given r → cond (ltb (idBefore i) (r .id)) (given r) (refused 8 i) ≡ refused k p → Row s room k p
     order-row k p i r t read e = go (ltb (idBefore i) (r .id)) refl e
       where
         id : idOf s i ≡ r .id
-        id = sym (record-id-field s i) ∙ ap (λ (q : Record). q .id) (record-sound s i r read .1)
+        id = sym (record-id-field s i) ∙ ap (λ (q : Record). q .id) (record-sound s kept refl i r read .1)
 
         at : (j : ℕ) → i ≡ j → r .id ≤ idBefore j → Row s room 8 j
-        at zero f l = absurd (omega (arith, sound-id s i (record-sound s i r read .0), id))
+        at zero f l = absurd (omega (arith, sound-id s i (record-sound s kept refl i r read .0), id))
         at (suc j) f l =
-            order j (subst (λ (n : ℕ). Reached s room n) f t) (subst (λ (n : ℕ). RecordSound s n) f (record-sound s i r read .0))
+            order j (subst (λ (n : ℕ). Reached s room n) f t) (subst (λ (n : ℕ). RecordSound s n) f (record-sound s kept refl i r read .0))
             (omega (arith, ap (λ (n : ℕ). idOf s n) f, id))
 
         go : (b : Bool) → ltb (idBefore i) (r .id) ≡ b → cond b (given r) (refused 8 i) ≡ refused k p → Row s room k p
@@ -183,37 +197,37 @@ module _ (s : List ℕ) where
         go false f g = subst (λ (n : ℕ). Row s room n p) (refused-number g) (subst (λ (n : ℕ). Row s room 8 n) (refused-place g) (at i refl (ltb-false (idBefore i) (r .id) f)))
 
     -- the records in turn
-    records-row : (k p count i : ℕ) → Fits s room → i + count ≡ countOf s → InOrder s i → recordsIn i (idBefore i) (partsFrom s i count) ≡ refused k p → Row s room k p
+    records-row : (k p count i : ℕ) → Fits s room → i + count ≡ countOf s → InOrder s i → recordsIn i (idBefore i) (partsFrom kept i count) ≡ refused k p → Row s room k p
     unfolding recordsIn partsFrom soundAfter
     records-row k p zero i f n o e = given-refused e
     records-row k p (suc count) i f n o e =
-        go (by (soundAfter i (idBefore i) (recordPart s i)) _ k p e) (λ a l u. records-row k p count (i + 1) f (omega arith) (one-more i o a l) u)
+        go (by (soundAfter i (idBefore i) (recordPart kept i)) _ k p e) (λ a l u. records-row k p count (i + 1) f (omega arith) (one-more i o a l) u)
       where
         reached : Reached s room i
         reached = record { fits = f; inside = omega arith; before = o }
 
         rest : Record → Answer (List Record)
-        rest r = recordsIn (i + 1) (r .id) (partsFrom s (i + 1) count)
+        rest r = recordsIn (i + 1) (r .id) (partsFrom kept (i + 1) count)
 
-        go : By (soundAfter i (idBefore i) (recordPart s i)) (λ r. rest r then λ rs. given (r ∷ rs)) k p
-            → (RecordSound s i → idBefore i < idOf s i → recordsIn (i + 1) (idBefore (i + 1)) (partsFrom s (i + 1) count) ≡ refused k p → Row s room k p) → Row s room k p
-        go (first g) on = here (by (readRecord i (recordPart s i)) _ k p g)
+        go : By (soundAfter i (idBefore i) (recordPart kept i)) (λ r. rest r then λ rs. given (r ∷ rs)) k p
+            → (RecordSound s i → idBefore i < idOf s i → recordsIn (i + 1) (idBefore (i + 1)) (partsFrom kept (i + 1) count) ≡ refused k p → Row s room k p) → Row s room k p
+        go (first g) on = here (by (readRecord i (recordPart kept i)) _ k p g)
           where
-            here : By (readRecord i (recordPart s i)) (λ r. cond (ltb (idBefore i) (r .id)) (given r) (refused 8 i)) k p → Row s room k p
+            here : By (readRecord i (recordPart kept i)) (λ r. cond (ltb (idBefore i) (r .id)) (given r) (refused 8 i)) k p → Row s room k p
             here (first u) = record-row k p i reached u
             here (later r read u) = order-row k p i r reached read u
         go (later r g u) on = there (by (rest r) _ k p u)
           where
-            a : (recordOf s i ≡ given r) × (idBefore i < r .id)
-            a = sound-read i (idBefore i) (recordPart s i) r g
+            a : (recordOf kept i ≡ given r) × (idBefore i < r .id)
+            a = sound-read i (idBefore i) (recordPart kept i) r g
 
             id : r .id ≡ idOf s i
-            id = ap (λ (q : Record). q .id) (sym (record-sound s i r (a .0) .1)) ∙ record-id-field s i
+            id = ap (λ (q : Record). q .id) (sym (record-sound s kept refl i r (a .0) .1)) ∙ record-id-field s i
 
             there : By (rest r) (λ rs. given (r ∷ rs)) k p → Row s room k p
             there (first w) =
-                on (record-sound s i r (a .0) .0) (omega (arith, a .1, id))
-                (ap (λ (n : ℕ). recordsIn (i + 1) n (partsFrom s (i + 1) count)) (before-next i ∙ sym id) ∙ w)
+                on (record-sound s kept refl i r (a .0) .0) (omega (arith, a .1, id))
+                (ap (λ (n : ℕ). recordsIn (i + 1) n (partsFrom kept (i + 1) count)) (before-next i ∙ sym id) ∙ w)
             there (later rs w x) = given-refused x
 
     -- the header with the lengths
@@ -222,7 +236,7 @@ module _ (s : List ℕ) where
     front-row k p e = go (by (readHeader s) _ k p e)
       where
         size : Header → Answer (Unit {0})
-        size h = demand (eqb (length s) (12 + 16 * h .count)) 4
+        size h = demand (eqb (length s) (sheetSize h)) 4
 
         lent : Header → Answer (Unit {0})
         lent h = demand (leb (4 * h .count) room) 5
@@ -236,7 +250,7 @@ module _ (s : List ℕ) where
             sized (later u w x) = roomy (by (lent h) _ k p x)
               where
                 roomy : By (lent h) (λ v. given h) k p → Row s room k p
-                roomy (first y) = room-row k p h read (eqb-true (length s) (12 + 16 * h .count) (demand-true (eqb (length s) (12 + 16 * h .count)) 4 u w)) y
+                roomy (first y) = room-row k p h read (eqb-true (length s) (sheetSize h) (demand-true (eqb (length s) (sheetSize h)) 4 u w)) y
                 roomy (later v y z) = given-refused z
 
     refused-row : (k p : ℕ) → answerOf s room ≡ refused k p → Row s room k p
@@ -244,7 +258,7 @@ module _ (s : List ℕ) where
     refused-row k p e = go (by (sheetIn s room) _ k p e)
       where
         records : Header → Answer (List Record)
-        records h = recordsIn 0 0 (partsFrom s 0 (h .count))
+        records h = recordsIn 0 0 (partsFrom (recordsPart h s) 0 (h .count))
 
         go : By {B = Totals} (sheetIn s room) (λ t. given (record { n = t .header .count; failed = failures (verdicts t) })) k p → Row s room k p
         go (later t g u) = given-refused u
@@ -254,13 +268,14 @@ module _ (s : List ℕ) where
             whole (first w) = front-row k p w
             whole (later h w x) = inside (by (records h) _ k p x)
               where
-                fit : Fits s room × (headerAt (headerFields s) ≡ h)
+                fit : Fits s room × (headerOf s ≡ h)
                 fit = fits-read h (header-fits s room h w)
 
                 inside : By {B = Sheet} (records h) (λ rs. given (record { header = h; records = rs })) k p → Row s room k p
                 inside (first y) =
                     records-row k p (h .count) 0 (fit .0) (zero-add (h .count) ∙ ap (λ (g : Header). g .count) (sym (fit .1)))
-                    (record { sound = λ j l. absurd (omega arith); rising = λ j l. absurd (omega arith) }) y
+                    (record { sound = λ j l. absurd (omega arith); rising = λ j l. absurd (omega arith) })
+                    (ap (λ (b : List ℕ). recordsIn 0 0 (partsFrom b 0 (h .count))) (records-read s h (header-fits s room h w .read)) ∙ y)
                 inside (later rs y z) = given-refused z
 
     -- ---- from a row to its refusal
@@ -273,68 +288,84 @@ module _ (s : List ℕ) where
     unfolding headerFor
     header-refused k p e = front-refused k p (stays (readHeader s) _ k p e)
 
-    front-given : Fits s room → headerFor s room ≡ given (headerAt (headerFields s))
+    -- the header that the fields are takes as many bytes as its version
+    size-own : HeaderSound s → headSize s ≡ headerSize (headerOf s)
+    size-own f = size-read s (headerOf s) (header-given s f)
+
+    -- the records of the sheet, as the table takes them
+    own-records : HeaderSound s → recordsPart (headerOf s) s ≡ kept
+    own-records f = sym (records-read s (headerOf s) (header-given s f))
+
+    front-given : Fits s room → headerFor s room ≡ given (headerOf s)
     unfolding headerFor demand _then_
-    front-given f = rw (header-given s (f .header), eq-eqb (length s) (12 + 16 * countOf s) (f .whole), le-leb (4 * countOf s) room (f .enough))
+    front-given f =
+        let whole : length s ≡ sheetSize (headerOf s) = omega (arith, f .whole, size-own (f .header)) in
+        rw (header-given s (f .header), eq-eqb (length s) (sheetSize (headerOf s)) whole, le-leb (4 * countOf s) room (f .enough))
 
     -- the records before record i are taken
     taken-to : (P : Answer (List Record) → Type 0) → ((r : Record) (x : Answer (List Record)) → P x → P (x then λ rs. given (r ∷ rs)))
-        → (i : ℕ) → Fits s room → i ≤ countOf s → InOrder s i → (count : ℕ) → P (recordsIn i (idBefore i) (partsFrom s i count)) → P (recordsIn 0 0 (partsFrom s 0 (i + count)))
+        → (i : ℕ) → Fits s room → i ≤ countOf s → InOrder s i → (count : ℕ) → P (recordsIn i (idBefore i) (partsFrom kept i count)) → P (recordsIn 0 0 (partsFrom kept 0 (i + count)))
     unfolding recordsIn partsFrom soundAfter
-    taken-to P on zero f l o count e = subst (λ (n : ℕ). P (recordsIn 0 0 (partsFrom s 0 n))) (sym (zero-add count)) e
+    taken-to P on zero f l o count e = subst (λ (n : ℕ). P (recordsIn 0 0 (partsFrom kept 0 n))) (sym (zero-add count)) e
     taken-to P on (suc i) f l o count e =
         let r = recordAt (numberOf s i) in
         let m : i + suc count ≡ suc i + count = omega arith in
-        let read : recordOf s i ≡ given r = record-is s i (within-sheet i f (omega arith)) (o .sound i (omega arith)) in
+        let read : recordOf kept i ≡ given r = record-is s kept refl i (within-sheet i f (omega arith)) (o .sound i (omega arith)) in
         let up : idBefore i < r .id = omega (arith, above (suc i) i o (omega arith), record-id-field s i) in
-        let next : soundAfter i (idBefore i) (recordPart s i) ≡ given r = goes-on (readRecord i (recordPart s i)) _ r read ∙ rw (lt-ltb (idBefore i) (r .id) up) in
-        let here : P (recordsIn (i + 1) (r .id) (partsFrom s (i + 1) count)) = subst (λ (n : ℕ). P (recordsIn n (r .id) (partsFrom s n count))) (sym (add-one i)) (subst (λ (n : ℕ). P (recordsIn (suc i) n (partsFrom s (suc i) count))) (sym (record-id-field s i)) e) in
-        subst (λ (n : ℕ). P (recordsIn 0 0 (partsFrom s 0 n))) m
-        (taken-to P on i f (omega arith) (fewer (suc i) i (omega arith) o) (suc count) (subst P (sym (goes-on (soundAfter i (idBefore i) (recordPart s i)) _ r next)) (on r _ here)))
+        let next : soundAfter i (idBefore i) (recordPart kept i) ≡ given r = goes-on (readRecord i (recordPart kept i)) _ r read ∙ rw (lt-ltb (idBefore i) (r .id) up) in
+        let here : P (recordsIn (i + 1) (r .id) (partsFrom kept (i + 1) count)) = subst (λ (n : ℕ). P (recordsIn n (r .id) (partsFrom kept n count))) (sym (add-one i)) (subst (λ (n : ℕ). P (recordsIn (suc i) n (partsFrom kept (suc i) count))) (sym (record-id-field s i)) e) in
+        subst (λ (n : ℕ). P (recordsIn 0 0 (partsFrom kept 0 n))) m
+        (taken-to P on i f (omega arith) (fewer (suc i) i (omega arith) o) (suc count) (subst P (sym (goes-on (soundAfter i (idBefore i) (recordPart kept i)) _ r next)) (on r _ here)))
 
-    record-refused : (k p i : ℕ) → Reached s room i → soundAfter i (idBefore i) (recordPart s i) ≡ refused k p → answerOf s room ≡ refused k p
+    record-refused : (k p i : ℕ) → Reached s room i → soundAfter i (idBefore i) (recordPart kept i) ≡ refused k p → answerOf s room ≡ refused k p
     unfolding answerOf sheetIn recordsIn partsFrom
     record-refused k p i t e =
-        let h = headerAt (headerFields s) in
+        let h = headerOf s in
         let rest = countOf s - i - 1 in
         let n : i + suc rest ≡ countOf s = omega (arith, t .inside) in
-        let here : recordsIn i (idBefore i) (partsFrom s i (suc rest)) ≡ refused k p = stays (soundAfter i (idBefore i) (recordPart s i)) _ k p e in
-        let all : recordsIn 0 0 (partsFrom s 0 (countOf s)) ≡ refused k p =
-        subst (λ (m : ℕ). recordsIn 0 0 (partsFrom s 0 m) ≡ refused k p) n
+        let here : recordsIn i (idBefore i) (partsFrom kept i (suc rest)) ≡ refused k p = stays (soundAfter i (idBefore i) (recordPart kept i)) _ k p e in
+        let all : recordsIn 0 0 (partsFrom kept 0 (countOf s)) ≡ refused k p =
+        subst (λ (m : ℕ). recordsIn 0 0 (partsFrom kept 0 m) ≡ refused k p) n
         (taken-to (λ x. x ≡ refused k p) (λ r x u. stays x _ k p u) i (t .fits) (omega (arith, t .inside)) (t .before) (suc rest) here) in
-        stays (sheetIn s room) _ k p (goes-on (headerFor s room) _ h (front-given (t .fits)) ∙ stays (recordsIn 0 0 (partsFrom s 0 (countOf s))) _ k p all)
+        let own : recordsIn 0 0 (partsFrom (recordsPart h s) 0 (countOf s)) ≡ refused k p = ap (λ (b : List ℕ). recordsIn 0 0 (partsFrom b 0 (countOf s))) (own-records (t .fits .header)) ∙ all in
+        stays (sheetIn s room) _ k p (goes-on (headerFor s room) _ h (front-given (t .fits)) ∙ stays (recordsIn 0 0 (partsFrom (recordsPart h s) 0 (countOf s))) _ k p own)
 
-    length-refused : HeaderSound s → (length s ≡ 12 + 16 * countOf s → ⊥) → headerFor s room ≡ refused 4 0
+    length-refused : HeaderSound s → (length s ≡ headSize s + 16 * countOf s → ⊥) → headerFor s room ≡ refused 4 0
     unfolding headerFor demand _then_
-    length-refused f n = rw (header-given s f, ne-eqb (length s) (12 + 16 * countOf s) n)
+    length-refused f n =
+        let other : length s ≡ sheetSize (headerOf s) → ⊥ = λ e. n (omega (arith, e, size-own f)) in
+        rw (header-given s f, ne-eqb (length s) (sheetSize (headerOf s)) other)
 
-    room-refused : HeaderSound s → length s ≡ 12 + 16 * countOf s → room < 4 * countOf s → headerFor s room ≡ refused 5 0
+    room-refused : HeaderSound s → length s ≡ headSize s + 16 * countOf s → room < 4 * countOf s → headerFor s room ≡ refused 5 0
     unfolding headerFor demand _then_
-    room-refused f whole n = rw (header-given s f, eq-eqb (length s) (12 + 16 * countOf s) whole, lt-leb (4 * countOf s) room n)
+    room-refused f whole n =
+        let same : length s ≡ sheetSize (headerOf s) = omega (arith, whole, size-own f) in
+        rw (header-given s f, eq-eqb (length s) (sheetSize (headerOf s)) same, lt-leb (4 * countOf s) room n)
 
     row-refused : (k p : ℕ) → Row s room k p → answerOf s room ≡ refused k p
     unfolding soundAfter
-    row-refused k p (sheet-short l) = header-refused 1 0 (header-read-1 s 0 .1 (l, refl))
+    row-refused k p (sheet-short l) = header-refused 1 0 (header-read-1 s 0 .1 (under-first l, refl))
+    row-refused k p (header-short l v m) = header-refused 1 0 (header-read-1 s 0 .1 (under-own (number-own (versionField s) v) m, refl))
     row-refused k p (version l n) = header-refused 2 0 (header-read-2 s 0 .1 (l, n, refl))
     row-refused k p (header-field f l c) = header-refused 3 (f + 2) (header-read-3 s (f + 2) .1 (l, record { index = f; fault = c; at = omega arith }))
     row-refused k p (sheet-length f n) = front-refused 4 0 (length-refused f n)
     row-refused k p (output-short f whole n) = front-refused 5 0 (room-refused f whole n)
     row-refused k p (kind i t c) =
         record-refused 6 i i t
-        (stays (readRecord i (recordPart s i)) _ 6 i
-        (record-read-6 i (recordPart s i) i .1
-        (part-length s i (within-sheet i (t .fits) (t .inside)), subst (λ (n : ℕ). within (from 1 8) (kindAt n) ≡ false) (sym (number-read s i)) c, refl)))
+        (stays (readRecord i (recordPart kept i)) _ 6 i
+        (record-read-6 i (recordPart kept i) i .1
+        (part-length s kept refl i (within-sheet i (t .fits) (t .inside)), subst (λ (n : ℕ). within (from 1 8) (kindAt n) ≡ false) (sym (number-read s kept refl i)) c, refl)))
     row-refused k p (field i f t c) =
         let q = 32 * i + (f + 2) in
         let l : LaterFault (λ g. 32 * i + g) (linesOf s i) (fieldsOf s i) q = record { index = f; fault = c; at = omega arith } in
         record-refused 7 q i t
-        (stays (readRecord i (recordPart s i)) _ 7 q
-        (record-read-7 i (recordPart s i) q .1
-        (part-length s i (within-sheet i (t .fits) (t .inside)), subst (λ (n : ℕ). LaterFault (λ g. 32 * i + g) (linesAt n) (fieldsAt n) q) (sym (number-read s i)) l)))
+        (stays (readRecord i (recordPart kept i)) _ 7 q
+        (record-read-7 i (recordPart kept i) q .1
+        (part-length s kept refl i (within-sheet i (t .fits) (t .inside)), subst (λ (n : ℕ). LaterFault (λ g. 32 * i + g) (linesAt n) (fieldsAt n) q) (sym (number-read s kept refl i)) l)))
     row-refused k p (order i t a l) =
         let r = recordAt (numberOf s (suc i)) in
         record-refused 8 (suc i) (suc i) t
-        (goes-on (readRecord (suc i) (recordPart s (suc i))) _ r (record-is s (suc i) (within-sheet (suc i) (t .fits) (t .inside)) a)
+        (goes-on (readRecord (suc i) (recordPart kept (suc i))) _ r (record-is s kept refl (suc i) (within-sheet (suc i) (t .fits) (t .inside)) a)
         ∙ rw (le-ltb (idOf s i) (r .id) (omega (arith, record-id-field s (suc i)))))
 
     -- refusal k with place p is given exactly when row k holds with place p and no earlier row does
@@ -348,34 +379,36 @@ module _ (s : List ℕ) where
     -- ---- where no row holds
 
     -- the records of a sheet that is accepted are taken
-    records-taken : Accepted s room → (rs : List Record) × (recordsIn 0 0 (partsFrom s 0 (countOf s)) ≡ given rs)
+    records-taken : Accepted s room → (rs : List Record) × (recordsIn 0 0 (partsFrom kept 0 (countOf s)) ≡ given rs)
     unfolding recordsIn partsFrom
     records-taken a =
         let n : countOf s + 0 ≡ countOf s = omega arith in
-        subst (λ (m : ℕ). (rs : List Record) × (recordsIn 0 0 (partsFrom s 0 m) ≡ given rs)) n
+        subst (λ (m : ℕ). (rs : List Record) × (recordsIn 0 0 (partsFrom kept 0 m) ≡ given rs)) n
         (taken-to (λ x. (rs : List Record) × (x ≡ given rs)) (λ r x u. (r ∷ u .0, goes-on x _ (u .0) (u .1))) (countOf s) (a .fits) (omega arith) (a .records) 0 ([], refl))
 
-    pub accepted-given : Accepted s room → (t : Sheet) × (sheetIn s room ≡ given t) × (t .header ≡ headerAt (headerFields s))
+    pub accepted-given : Accepted s room → (t : Sheet) × (sheetIn s room ≡ given t) × (t .header ≡ headerOf s)
     unfolding sheetIn
     accepted-given a =
-        let h = headerAt (headerFields s) in
-        let rs = records-taken a in
-        (record { header = h; records = rs .0 }, goes-on (headerFor s room) _ h (front-given (a .fits)) ∙ goes-on (recordsIn 0 0 (partsFrom s 0 (countOf s))) _ (rs .0) (rs .1), refl)
+        let h = headerOf s in
+        let got = records-taken a in
+        let own : recordsIn 0 0 (partsFrom (recordsPart h s) 0 (countOf s)) ≡ given (got .0) = ap (λ (b : List ℕ). recordsIn 0 0 (partsFrom b 0 (countOf s))) (own-records (a .fits .header)) ∙ got .1 in
+        (record { header = h; records = got .0 }, goes-on (headerFor s room) _ h (front-given (a .fits)) ∙ goes-on (recordsIn 0 0 (partsFrom (recordsPart h s) 0 (countOf s))) _ (got .0) own, refl)
 
   -- the records of a sheet that is not turned away are within their values, and their ids rise
-  taken-order : (i : ℕ) (rs : List Record) → InOrder s i → Taken s i (idBefore i) rs → InOrder s (i + length rs)
+  taken-order : (i : ℕ) (rs : List Record) → InOrder s i → Taken kept i (idBefore i) rs → InOrder s (i + length rs)
   taken-order i [] o none = subst (λ (n : ℕ). InOrder s n) (omega arith) o
   taken-order i (r ∷ rs) o (next e l t) =
-      let a = record-sound s i r e in
+      let a = record-sound s kept refl i r e in
       let id : r .id ≡ idOf s i = ap (λ (q : Record). q .id) (sym (a .1)) ∙ record-id-field s i in
       let m : i + 1 + length rs ≡ i + length (r ∷ rs) = omega arith in
       subst (λ (n : ℕ). InOrder s n) m
-      (taken-order (i + 1) rs (one-more i o (a .0) (omega (arith, id))) (subst (λ (n : ℕ). Taken s (i + 1) n rs) (id ∙ sym (before-next i)) t))
+      (taken-order (i + 1) rs (one-more i o (a .0) (omega (arith, id))) (subst (λ (n : ℕ). Taken kept (i + 1) n rs) (id ∙ sym (before-next i)) t))
 
-  pub given-accepted : (room : ℕ) (t : Sheet) → sheetIn s room ≡ given t → Accepted s room × (headerAt (headerFields s) ≡ t .header)
+  pub given-accepted : (room : ℕ) (t : Sheet) → sheetIn s room ≡ given t → Accepted s room × (headerOf s ≡ t .header)
   given-accepted room t e =
       let w = sheet-whole s room t e in
       let f = fits-read room (t .header) (w .header) in
       let n : 0 + length (t .records) ≡ countOf s = zero-add (length (t .records)) ∙ w .number ∙ ap (λ (h : Header). h .count) (sym (f .1)) in
-      let o = taken-order 0 (t .records) (record { sound = λ j l. absurd (omega arith); rising = λ j l. absurd (omega arith) }) (w .records) in
+      let records = subst (λ (b : List ℕ). Taken b 0 0 (t .records)) (sym (records-read s (t .header) (w .header .read))) (w .records) in
+      let o = taken-order 0 (t .records) (record { sound = λ j l. absurd (omega arith); rising = λ j l. absurd (omega arith) }) records in
       (record { fits = f .0; records = subst (λ (m : ℕ). InOrder s m) n o }, f .1)

@@ -20,7 +20,7 @@ use Rattle.sheet.specs.declared.Header.{Header}
 use Rattle.sheet.specs.declared.Record.{Record}
 use Rattle.sheet.specs.Refusals.{Answer, given, refused}
 use Rattle.sheet.specs.RefusalLaws.{refusalOf, given-refused, given-same}
-use Rattle.sheet.specs.Header.{headerIn, readHeader}
+use Rattle.sheet.specs.Header.{readHeader}
 use Rattle.sheet.specs.Record.{recordIn, readRecord}
 use Rattle.sheet.specs.RecordBack.{record-read-fine}
 use Rattle.plating.specs.Rules.{K2}
@@ -31,9 +31,9 @@ use Rattle.checker.specs.declared.Checked.the-variants.{Done, Refused as notDon
 use Rattle.checker.specs.Entry.{verdictLines, entryValues, entryFault, entryBytes, entryIn, readEntry}
 use Rattle.checker.specs.EntryLaws.{allowed-entry, bytes-read}
 use Rattle.checker.specs.Sound.{entry-sound}
-use Rattle.checker.specs.Check.{_then_, demand, headerFor, partsFrom, soundAfter, recordsIn, recordPart, Sheet, sheetIn, entryOf, verdicts, bytesOf, failures, Totals, toldChecked, answerOf, outputBy, outputOf}
+use Rattle.checker.specs.Check.{_then_, demand, headerFor, partsFrom, soundAfter, recordsIn, recordsPart, recordPart, Sheet, sheetIn, entryOf, verdicts, bytesOf, failures, Totals, toldChecked, answerOf, outputBy, outputOf}
 use Rattle.checker.specs.CheckLaws.{Taken, none, next, sheet-whole, verdicts-count, answer-done}
-use Rattle.demands.specs.Table.{Row, sheet-short, version, header-field, sheet-length, output-short, kind, field, order, Accepted}
+use Rattle.demands.specs.Table.{headSize, Row, sheet-short, version, header-short, header-field, sheet-length, output-short, kind, field, order, Accepted}
 use Rattle.demands.specs.Program.{Program, Meets, fourAt}
 use Rattle.demands.specs.Demands.{entryOn, failedFrom, Second, Demands}
 use Rattle.demands.specs.Empty.{ShutOut, OfVerdicts, LeavesAsLent, RefusesAll, PassesAll, NamesOne, PassesRest, ruleIn, failedIn, Miscounts, MakesUpCount, DropsSource}
@@ -48,6 +48,7 @@ use Rattle.demands.specs.Example.{example, mended, lent, example-answer,
 row-told : (s : List ℕ) (room k p : ℕ) → Row s room k p → toldChecked (notDone (refusalOf k p)) ≡ refused k p
 row-told s room k p (sheet-short l) = refl
 row-told s room k p (version l n) = refl
+row-told s room k p (header-short l v m) = refl
 row-told s room k p (header-field f l c) = refl
 row-told s room k p (sheet-length h n) = refl
 row-told s room k p (output-short h w n) = refl
@@ -126,7 +127,7 @@ module _ (change : ℕ → Entry → Entry) (Says : ℕ → Entry → Type 0) (s
       go (given t) f d r =
           let count : t .header .count ≡ n = ap (λ (w : Totals). w .n) (given-same (ap (λ (c : Checked). toldChecked c) d)) in
           let w = sheet-whole s (length out) t f in
-          let q = changed-at 0 (verdicts t) (drop (4 * t .header .count) out) (taken-sound (t .header) s 0 0 (t .records) (w .records)) i (omega (arith, verdicts-count s out t f)) in
+          let q = changed-at 0 (verdicts t) (drop (4 * t .header .count) out) (taken-sound (t .header) (recordsPart (t .header) s) 0 0 (t .records) (w .records)) i (omega (arith, verdicts-count s out t f)) in
           let read : readEntry (fourAt i (afterBy (λ t. changedFrom change 0 (verdicts t)) (given t) out)) ≡ given (q .0) = ap readEntry (q .3 ∙ sym (append-nil (entryBytes (q .0)))) ∙ bytes-read (q .0) [] (q .1) in
           let same : q .0 ≡ e = given-same (sym read ∙ r) in
           let m : 0 + i ≡ i = omega arith in
@@ -178,13 +179,13 @@ dropping-is = changing-says sourceDropped (λ i e. e .rule ≡ 0 → e .source �
 pub counting-is : (count : List ℕ → ℕ) → MakesUpCount count (counting count)
 counting-is count s out n failed e = go (sheetIn s (length out)) e
   where
-    go : (a : Answer Sheet) → answerBy (λ t. count (take 12 s)) a ≡ Done n failed → failed ≡ count (take 12 s)
+    go : (a : Answer Sheet) → answerBy (λ t. count (take (headSize s) s)) a ≡ Done n failed → failed ≡ count (take (headSize s) s)
     go (given t) f = sym (ap (λ (w : Totals). w .failed) (given-same (ap (λ (c : Checked). toldChecked c) f)))
     go (refused k p) f = given-refused (sym (ap (λ (c : Checked). toldChecked c) f))
 
 -- one that always says 1 failure says so of the example, where it leaves two
 pub counting-miscounts : Miscounts (counting (λ h. 1))
-unfolding readEntry entryIn entryFault sheetIn headerFor recordsIn partsFrom soundAfter _then_ demand readHeader headerIn readRecord recordIn verdicts entryOf bytesOf firstFrom leastIn ceilOf sea bottomPressure innerPressure deepPressure lineLoad K2 rule4 rule5 rule6 memberLine bottomNamed innerNamed
+unfolding readEntry entryIn entryFault sheetIn headerFor recordsIn partsFrom soundAfter _then_ demand readHeader readRecord recordIn verdicts entryOf bytesOf firstFrom leastIn ceilOf sea bottomPressure innerPressure deepPressure lineLoad K2 rule4 rule5 rule6 memberLine bottomNamed innerNamed
 counting-miscounts = (example, lent, 2, 1, refl, λ e. omega (arith, e))
 
 -- ---- and is shut out

@@ -1,7 +1,7 @@
 -- The table: when a sheet is turned away, over the fields of its bytes and the lines of their values, which are in crates/sheet/specs/Lines.antt.
 use Prim.Native.Nat.{ℕ, suc, _+_, _*_, _≤_, _<_}
 use mathlib.Core.Path.{_≡_}
-use mathlib.Core.Bool.{false, cond}
+use mathlib.Core.Bool.{true, false, cond}
 use mathlib.Core.List.{List}
 use lib.ListN.{length, getD, take, drop}
 use lib.Dec.{ltb, eqb}
@@ -9,11 +9,13 @@ use Rattle.quantity.specs.Range.{within, from}
 use Rattle.layout.specs.Layout.{pack, unpack, bytes}
 use Rattle.layout.specs.Line.{Line, Allowed}
 use Rattle.layout.specs.LineLaws.{FirstFault}
-use Rattle.sheet.specs.Lines.{headerLines, headerWidths, plateLines, plateWidths, memberLines, memberWidths}
+use Rattle.sheet.specs.Versions.{numbers}
+use Rattle.sheet.specs.Header.{headerFields, versionField, versionIn}
+use Rattle.sheet.specs.Lines.{headerLines, plateLines, plateWidths, memberLines, memberWidths}
 
--- the header's nine fields, in the first twelve bytes
-abbrev pub headerFields : List ℕ → List ℕ
-headerFields s = unpack headerWidths (pack (bytes 12) (take 12 s))
+-- how many bytes the header takes, by its version; the fields are those of crates/sheet/specs/Header.antt: nine in the first twelve bytes, then the version's own
+abbrev pub headSize : List ℕ → ℕ
+headSize s = versionIn s .size
 
 -- n, the eighth of them
 abbrev pub countOf : List ℕ → ℕ
@@ -21,7 +23,7 @@ countOf s = getD (headerFields s) 7 0
 
 -- the number of 128 bits in the sixteen bytes of record i
 abbrev pub numberOf : List ℕ → ℕ → ℕ
-numberOf s i = pack (bytes 16) (take 16 (drop (12 + 16 * i) s))
+numberOf s i = pack (bytes 16) (take 16 (drop (headSize s + 16 * i) s))
 
 -- its kind, the first field of a plate and of a member
 abbrev pub kindOf : List ℕ → ℕ → ℕ
@@ -41,8 +43,8 @@ idOf s i = getD (fieldsOf s i) 1 0
 
 -- there is a header, and each of its fields is within its values
 pub record HeaderSound (s : List ℕ) : Type 0 where
-  pub long : 12 ≤ length s
-  pub fields : Allowed headerLines (headerFields s)
+  pub long : headSize s ≤ length s
+  pub fields : Allowed (headerLines (versionIn s)) (headerFields s)
 
 -- each field of record i is within its values
 abbrev pub RecordSound : List ℕ → ℕ → Type 0
@@ -56,7 +58,7 @@ pub record InOrder (s : List ℕ) (i : ℕ) : Type 0 where
 -- rows 1 to 5 do not hold
 pub record Fits (s : List ℕ) (room : ℕ) : Type 0 where
   pub header : HeaderSound s
-  pub whole : length s ≡ 12 + 16 * countOf s
+  pub whole : length s ≡ headSize s + 16 * countOf s
   pub enough : 4 * countOf s ≤ room
 
 -- nor do rows 6 to 8 for any record before record i, which is one of the n
@@ -69,14 +71,16 @@ pub record Reached (s : List ℕ) (room i : ℕ) : Type 0 where
 pub data Row (s : List ℕ) (room : ℕ) : (k p : ℕ) → Type 0 where
   -- 1: sheet under 12 bytes
   sheet-short : length s < 12 → Row s room 1 0
-  -- 2: version, the first field, not 1
-  version : 12 ≤ length s → (getD (headerFields s) 0 0 ≡ 1 → ⊥) → Row s room 2 0
+  -- 2: version, the first field, none of those that there are
+  version : 12 ≤ length s → within numbers (versionField s) ≡ false → Row s room 2 0
+  -- 1 again: sheet under the bytes that the header of its version takes
+  header-short : 12 ≤ length s → within numbers (versionField s) ≡ true → length s < headSize s → Row s room 1 0
   -- 3: a later header field outside its values, the first such; place: field, version being 1
-  header-field : (f : ℕ) → 12 ≤ length s → FirstFault (suc f) headerLines (headerFields s) → Row s room 3 (f + 2)
-  -- 4: sheet length not 12 + 16n
-  sheet-length : HeaderSound s → (length s ≡ 12 + 16 * countOf s → ⊥) → Row s room 4 0
+  header-field : (f : ℕ) → headSize s ≤ length s → FirstFault (suc f) (headerLines (versionIn s)) (headerFields s) → Row s room 3 (f + 2)
+  -- 4: sheet length not its header's bytes + 16n
+  sheet-length : HeaderSound s → (length s ≡ headSize s + 16 * countOf s → ⊥) → Row s room 4 0
   -- 5: output under 4n bytes
-  output-short : HeaderSound s → length s ≡ 12 + 16 * countOf s → room < 4 * countOf s → Row s room 5 0
+  output-short : HeaderSound s → length s ≡ headSize s + 16 * countOf s → room < 4 * countOf s → Row s room 5 0
   -- 6: kind not 1..8; place: record, from 0
   kind : (i : ℕ) → Reached s room i → within (from 1 8) (kindOf s i) ≡ false → Row s room 6 i
   -- 7: another field outside its values, the first such; place: 32 × record + field, kind being 1

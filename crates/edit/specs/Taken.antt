@@ -98,6 +98,13 @@ pub record Taken (b : List ℕ) (len : ℕ) (t : Sheet) : Type 0 where
   pub bytes : Reads (partsFrom (recordsPart (t .header) b) 0 (t .header .count)) (t .records)
   pub order : rises idOf 0 (t .records) ≡ true
 
+-- its records are cut out of its own bytes
+pub own-parts : (b : List ℕ) (len : ℕ) (h : Header) → len ≡ sheetSize h → partsFrom (recordsPart h (take len b)) 0 (h .count) ≡ partsFrom (recordsPart h b) 0 (h .count)
+own-parts b len h size =
+    ap (λ (m : ℕ). partsFrom (recordsPart h (take m b)) 0 (h .count)) size
+    ∙ ap (λ (l : List ℕ). partsFrom l 0 (h .count)) (drop-take (headerSize h) (16 * h .count) b)
+    ∙ parts-within (recordsPart h b) (16 * h .count) 0 (h .count) (omega arith)
+
 pub taken-at : (b : List ℕ) (len : ℕ) (t : Sheet) → sheetAt b len ≡ given t → Taken b len t
 unfolding sheetAt soundSheet sheetIn
 taken-at b len t e =
@@ -115,10 +122,7 @@ taken-at b len t e =
         let fine = header-read-fine (take len b) h (hf .read) in
         let size : len ≡ sheetSize h = sym (length-take-le len b fits) ∙ hf .whole in
         let r = taken-reads 0 0 (partsFrom (recordsPart h (take len b)) 0 (h .count)) rs g in
-        let same : partsFrom (recordsPart h (take len b)) 0 (h .count) ≡ partsFrom (recordsPart h b) 0 (h .count) =
-        ap (λ (m : ℕ). partsFrom (recordsPart h (take m b)) 0 (h .count)) size
-        ∙ ap (λ (l : List ℕ). partsFrom l 0 (h .count)) (drop-take (headerSize h) (16 * h .count) b)
-        ∙ parts-within (recordsPart h b) (16 * h .count) 0 (h .count) (omega arith) in
+        let same = own-parts b len h size in
         record {
           fits = fits;
           whole = size;

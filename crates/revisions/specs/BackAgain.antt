@@ -1,19 +1,18 @@
 -- A record put in under a new id and taken out again leaves the sheet as it was.
 -- Assumes nothing.
-use Prim.Native.Nat.{ℕ, _+_, _-_, _≤_}
-use mathlib.Core.Path.{_≡_, sym, ap, ap₂, subst, _∙_}
+use Prim.Native.Nat.{ℕ, _+_, _-_, _*_, _≤_}
+use mathlib.Core.Path.{_≡_, refl, sym, ap, ap₂, subst, _∙_}
 use mathlib.Core.Bool.{false}
-use mathlib.Core.List.{List, [], _∷_, _++_, append-assoc, append-nil}
+use mathlib.Core.List.{List, _∷_, _++_, append-assoc}
 use native.Mathlib.Omega.{arith}
-use lib.ListN.{length, take, drop, replicate, drop-of-length-le, length-append, length-drop}
-use lib.Seq.{take-add, take-all, length-take-le}
-use borrow.Author.Tests.{le-ltb, eq-eqb}
+use lib.ListN.{length, take, drop, replicate, length-append, length-drop}
+use lib.Seq.{take-add, take-take, length-take-le}
 use Rattle.layout.specs.Layout.{bytes, Fit}
 use Rattle.sheet.specs.declared.Header.{Header}
 use Rattle.sheet.specs.declared.Record.{Record}
 use Rattle.sheet.specs.Refusals.{given}
-use Rattle.sheet.specs.Header.{headerFault, headerBytes, readHeader, writeHeader}
-use Rattle.sheet.specs.HeaderBack.{header-written-onto}
+use Rattle.sheet.specs.Header.{headerSize, headerBytes}
+use Rattle.sheet.specs.HeaderBack.{header-bytes-same}
 use Rattle.checker.specs.Check.{_then_, demand, part, Sheet}
 use Rattle.keyed.specs.Keyed.{placeOf, hasOf, putOf}
 use Rattle.keyed.specs.Places.{place-le, put-at, put-has, put-place}
@@ -24,21 +23,11 @@ use Rattle.edit.specs.Done.{Put, replaces, inserts, put-done}
 use Rattle.revisions.specs.Outcomes.{holding, put-sheet}
 use Rattle.revisions.specs.Touched.{inserted-before, inserted-moved, inserted-rest}
 
--- a header that was read of twelve bytes is written as those
-header-same : (x : List ℕ) (h : Header) → length x ≡ 12 → Fit (bytes 12) x → readHeader x ≡ given h → headerFault h ≡ 0 → headerBytes h ≡ x
-unfolding writeHeader
-header-same x h l fit e z =
-    let long : 12 ≤ length x = omega arith in
-    let none : drop 12 x ≡ [] = drop-of-length-le x {i = 12} (omega arith) in
-    let wrote : writeHeader h x .bytes ≡ headerBytes h = rw (le-ltb (length x) 12 long, eq-eqb (headerFault h) 0 z, none) (append-nil (headerBytes h)) in
-    let whole : take 12 x ≡ x = take-all 12 x (omega arith) in
-    sym wrote ∙ header-written-onto x h e (subst (Fit (bytes 12)) (sym whole) fit)
-
 -- a part behind what stands before it
 take-part : (b : List ℕ) (a e : ℕ) → a ≤ e → take a b ++ part b a e ≡ take e b
 take-part b a e l = let m : a + (e - a) ≡ e = omega arith in sym (ap (λ (k : ℕ). take k b) (sym m) ∙ take-add a (e - a) b)
 
-module _ (b : List ℕ) (len : ℕ) (t : Sheet) (found : sheetAt b len ≡ given t) (r : Record) (new : hasOf idOf (r .id) (t .records) ≡ false) (fit : Fit (bytes 12) (take 12 b)) where
+module _ (b : List ℕ) (len : ℕ) (t : Sheet) (found : sheetAt b len ≡ given t) (r : Record) (new : hasOf idOf (r .id) (t .records) ≡ false) (fit : Fit (bytes (headerSize (t .header))) (take (headerSize (t .header)) b)) where
   k : Taken b len t
   k = taken-at b len t found
 
@@ -48,26 +37,34 @@ module _ (b : List ℕ) (len : ℕ) (t : Sheet) (found : sheetAt b len ≡ given
   abbrev i : ℕ
   i = placeOf idOf (r .id) (t .records)
 
-  inside : start i ≤ len
+  abbrev a : ℕ
+  a = headerSize (t .header)
+
+  inside : start h i ≤ len
   inside = omega (arith, place-le idOf (r .id) (t .records), k .number, k .whole)
 
   -- the bytes: the sheet, sixteen zeros where the record had made room, and every byte past them as it was
   abbrev left : After
   left = record { size = len; bytes = take len b ++ (replicate 16 0 ++ drop (len + 16) b) }
 
-  restored : (g : Header) → len + 16 ≤ length b → removing h i (len + 16) (inserting g i len r b) ≡ take len b ++ (replicate 16 0 ++ drop (len + 16) b)
+  restored : (g : Header) → headerSize g ≡ headerSize h → len + 16 ≤ length b → removing h i (len + 16) (inserting g i len r b) ≡ take len b ++ (replicate 16 0 ++ drop (len + 16) b)
   unfolding removing
-  restored g m =
-      let own : headerBytes h ≡ take 12 b = header-same (take 12 b) h (head b len t k i) fit (head-read b len t k i) (k .sound) in
-      let x = part b 12 (start i) in
-      let y = part b (start i) len in
+  restored g same m =
+      let whole : take a (take a b) ≡ take a b = take-take a a b (omega arith) in
+      let own : headerBytes h ≡ take a b = header-bytes-same (take a b) h (head-read b len t k i) (subst (Fit (bytes a)) (sym whole) fit) ∙ whole in
+      let before : part (inserting g i len r b) a (start h i) ≡ part b a (start h i) =
+      subst (λ (n : ℕ). part (inserting g i len r b) n (n + 16 * i) ≡ part b n (n + 16 * i)) same (inserted-before b g i len r (omega (arith, same, inside)) m) in
+      let moved : part (inserting g i len r b) (start h i + 16) (len + 16) ≡ part b (start h i) len =
+      subst (λ (n : ℕ). part (inserting g i len r b) (n + 16 * i + 16) (len + 16) ≡ part b (n + 16 * i) len) same (inserted-moved b g i len r (omega (arith, same, inside)) m) in
+      let x = part b a (start h i) in
+      let y = part b (start h i) len in
       let rest = replicate 16 0 ++ drop (len + 16) b in
-      ap₂ (λ (u v : List ℕ). u ++ (v ++ (part (inserting g i len r b) (start i + 16) (len + 16) ++ (replicate 16 0 ++ drop (len + 16) (inserting g i len r b))))) own (inserted-before b g i len r inside m)
-      ∙ ap₂ (λ (u v : List ℕ). take 12 b ++ (x ++ (u ++ (replicate 16 0 ++ v)))) (inserted-moved b g i len r inside m) (inserted-rest b g i len r inside m)
-      ∙ sym (append-assoc (take 12 b) x (y ++ rest))
-      ∙ ap (λ (u : List ℕ). u ++ (y ++ rest)) (take-part b 12 (start i) (omega arith))
-      ∙ sym (append-assoc (take (start i) b) y rest)
-      ∙ ap (λ (u : List ℕ). u ++ rest) (take-part b (start i) len inside)
+      ap₂ (λ (u v : List ℕ). u ++ (v ++ (part (inserting g i len r b) (start h i + 16) (len + 16) ++ (replicate 16 0 ++ drop (len + 16) (inserting g i len r b))))) own before
+      ∙ ap₂ (λ (u v : List ℕ). take a b ++ (x ++ (u ++ (replicate 16 0 ++ v)))) moved (inserted-rest b g i len r (omega (arith, same, inside)) m)
+      ∙ sym (append-assoc (take a b) x (y ++ rest))
+      ∙ ap (λ (u : List ℕ). u ++ (y ++ rest)) (take-part b a (start h i) (omega arith))
+      ∙ sym (append-assoc (take (start h i) b) y rest)
+      ∙ ap (λ (u : List ℕ). u ++ rest) (take-part b (start h i) len inside)
 
   -- there are n + 1 records once it is in
   many : length (putOf idOf r (t .records)) ≡ h .count + 1
@@ -97,4 +94,4 @@ module _ (b : List ℕ) (len : ℕ) (t : Sheet) (found : sheetAt b len ≡ given
           let less : len + 16 - 16 ≡ len = omega arith in
           q
           ∙ ap (λ (c : After). given (record { size = c .size - 16; bytes = removing h i (c .size) (c .bytes) })) f
-          ∙ ap₂ (λ (x : ℕ) (y : List ℕ). given (record { size = x; bytes = y })) less (restored g m)
+          ∙ ap₂ (λ (x : ℕ) (y : List ℕ). given (record { size = x; bytes = y })) less (restored g refl m)

@@ -1,24 +1,26 @@
 -- The sheet that an edit which is done leaves.
 -- Assumes nothing.
 use Prim.Native.Nat.{ℕ, suc, _+_, _-_, _≤_, _<_}
-use mathlib.Core.Path.{_≡_, sym, ap, ap₂, _∙_}
+use mathlib.Core.Path.{_≡_, refl, sym, ap, ap₂, _∙_}
 use mathlib.Core.Bool.{true}
-use mathlib.Core.List.{List, [], _∷_, _++_}
+use mathlib.Core.List.{List, [], _∷_, _++_, append-nil}
 use native.Mathlib.Omega.{arith}
 use lib.ListN.{length, take, drop, replicate, length-append, length-drop}
 use lib.Seq.{length-take-le}
 use Rattle.sheet.specs.declared.Header.{Header}
 use Rattle.sheet.specs.declared.Record.{Record}
 use Rattle.sheet.specs.Refusals.{given}
-use Rattle.sheet.specs.Header.{headerBytes}
+use Rattle.sheet.specs.Header.{headerSize, headerFault, headerBytes, readHeader}
 use Rattle.sheet.specs.Record.{recordFault, recordBytes}
 use Rattle.sheet.specs.RecordExactly.{record-id}
-use Rattle.sheet.specs.OwnBytes.{header-bytes-length, record-bytes-length, header-bytes-read, record-bytes-read}
-use Rattle.checker.specs.Check.{Sheet}
+use Rattle.sheet.specs.HeaderExactly.{header-bytes-length}
+use Rattle.sheet.specs.HeaderFront.{header-bytes-read}
+use Rattle.sheet.specs.OwnBytes.{record-bytes-length, record-bytes-read}
+use Rattle.checker.specs.Check.{sheetSize, Sheet}
 use Rattle.keyed.specs.Keyed.{rises, placeOf, putOf, outOf}
 use Rattle.keyed.specs.MapLaws.{put-rises, out-rises}
 use Rattle.keyed.specs.Places.{place-le, has-lt, put-at, out-at}
-use Rattle.edit.specs.Edit.{sheetAt, start, idOf, counting, After, putIn, removeIn}
+use Rattle.edit.specs.Edit.{sheetAt, idOf, counting, After, putIn, removeIn}
 use Rattle.edit.specs.Done.{Put, replaces, inserts, put-done, remove-done}
 use Rattle.edit.specs.HeaderCount.{counting-sound}
 use Rattle.edit.specs.Taken.{nothing, reads, Taken, taken-at}
@@ -27,6 +29,10 @@ use Rattle.revisions.specs.Rebuilt.{head, head-read, rebuilt, inserted-b
 -- a sheet that holds these records, which its header counts
 abbrev pub holding : Header → List Record → Sheet
 holding h rs = record { header = counting (length rs) h; records = rs }
+
+-- a header's bytes alone are read as it
+own-bytes : (h : Header) → headerFault h ≡ 0 → readHeader (headerBytes h) ≡ given h
+own-bytes h e = ap readHeader (sym (append-nil (headerBytes h))) ∙ header-bytes-read h [] e
 
 -- ---- the sheet that it leaves
 
@@ -45,7 +51,7 @@ module _ (b : List ℕ) (len : ℕ) (t : Sheet) (found : sheetAt b len ≡ given
   holds-its-own = ap (λ (m : ℕ). record { header = counting m h; records = rs }) (sym (k .number))
 
   -- the header and the records of a sheet of so many bytes, in other words
-  in-words : (s : List ℕ) (a : After) (g : Header) (qs us : List Record) → a .bytes ≡ s → a .size ≡ start (g .count) → sheetAt s (start (g .count)) ≡ given (record { header = g; records = qs }) → qs ≡ us
+  in-words : (s : List ℕ) (a : After) (g : Header) (qs us : List Record) → a .bytes ≡ s → a .size ≡ sheetSize g → sheetAt s (sheetSize g) ≡ given (record { header = g; records = qs }) → qs ≡ us
       → g ≡ counting (length us) h → sheetAt (a .bytes) (a .size) ≡ given (holding h us)
   in-words s a g qs us eb es f er eg = ap₂ sheetAt eb es ∙ f ∙ ap₂ (λ (x : Header) (y : List Record). given (record { header = x; records = y })) eg er
 
@@ -69,7 +75,7 @@ module _ (b : List ℕ) (len : ℕ) (t : Sheet) (found : sheetAt b len ≡ given
         in-words _ a h _ (putOf idOf r rs)
         (ap (λ (x : After). x .bytes) e ∙ replaced-bytes b len t k i inside m r)
         (ap (λ (x : After). x .size) e ∙ k .whole)
-        (rebuilt b len t k i inside (i + 1) (omega arith) (take 12 b) h (recordBytes r ∷ []) (r ∷ []) (drop len b) (head b len t k i) (head-read b len t k i) (record-bytes-length r, tt)
+        (rebuilt b len t k i inside (i + 1) (omega arith) (take (headerSize h) b) h (recordBytes r ∷ []) (r ∷ []) (drop len b) (head b len t k i) (head-read b len t k i) (record-bytes-length r, tt)
         (reads (record-bytes-read 0 r z) nothing) (omega arith) (ap (rises idOf 0) (sym put) ∙ rising))
         (sym put)
         (ap (λ (x : ℕ). counting x h) (sym many))
@@ -80,9 +86,9 @@ module _ (b : List ℕ) (len : ℕ) (t : Sheet) (found : sheetAt b len ≡ given
         let many : length (putOf idOf r rs) ≡ h .count + 1 =
         ap length put ∙ omega (arith, length-append (take i rs) (r ∷ drop i rs), length-take-le i rs (omega (arith, k .number, inside)), length-drop i rs, k .number, inside) in
         in-words _ a g _ (putOf idOf r rs)
-        (ap (λ (x : After). x .bytes) e ∙ inserted-bytes b len t k i inside g r)
+        (ap (λ (x : After). x .bytes) e ∙ inserted-bytes b len t k i inside g r refl)
         (ap (λ (x : After). x .size) e ∙ omega (arith, k .whole))
-        (rebuilt b len t k i inside i inside (headerBytes g) g (recordBytes r ∷ []) (r ∷ []) (drop (len + 16) b) (header-bytes-length g) (header-bytes-read g sound) (record-bytes-length r, tt)
+        (rebuilt b len t k i inside i inside (headerBytes g) g (recordBytes r ∷ []) (r ∷ []) (drop (len + 16) b) (header-bytes-length g) (own-bytes g sound) (record-bytes-length r, tt)
         (reads (record-bytes-read 0 r z) nothing) (omega (arith, inside)) (ap (rises idOf 0) (sym put) ∙ rising))
         (sym put)
         (ap (λ (x : ℕ). counting x h) (sym many))
@@ -105,9 +111,9 @@ module _ (b : List ℕ) (len : ℕ) (t : Sheet) (found : sheetAt b len ≡ given
       let many : length (outOf idOf id rs) ≡ h .count - 1 =
       ap length out ∙ omega (arith, length-append (take j rs) (drop (j + 1) rs), length-take-le j rs (omega (arith, k .number)), length-drop (j + 1) rs, k .number) in
       in-words _ a g _ (outOf idOf id rs)
-      (ap (λ (x : After). x .bytes) (d .after) ∙ removed-bytes b len t k j within m g)
+      (ap (λ (x : After). x .bytes) (d .after) ∙ removed-bytes b len t k j within m g refl)
       (ap (λ (x : After). x .size) (d .after) ∙ omega (arith, k .whole))
-      (rebuilt b len t k j within (j + 1) (omega arith) (headerBytes g) g [] [] (replicate 16 0 ++ drop len b) (header-bytes-length g) (header-bytes-read g sound) tt nothing (omega arith)
+      (rebuilt b len t k j within (j + 1) (omega arith) (headerBytes g) g [] [] (replicate 16 0 ++ drop len b) (header-bytes-length g) (own-bytes g sound) tt nothing (omega arith)
       (ap (rises idOf 0) (sym out) ∙ out-rises idOf 0 id rs (k .order)))
       (sym out)
       (ap (λ (x : ℕ). counting x h) (sym many))

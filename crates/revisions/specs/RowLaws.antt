@@ -1,34 +1,34 @@
 -- When an edit is turned away: each refusal is given exactly when its case holds and none before it does.
 -- Assumes nothing.
 use Prim.Native.Nat.{ℕ, _+_, _*_, _≤_, _<_}
-use mathlib.Core.Path.{_≡_, refl, sym, ap, ap₂, _∙_}
+use mathlib.Core.Path.{_≡_, refl, sym, ap, ap₂, subst, _∙_}
 use mathlib.Core.Bool.{Bool, true, false, cond, _&&_}
 use mathlib.Core.List.{List, [], _∷_}
 use native.Mathlib.Omega.{arith}
 use native.Mathlib.Decide.{decLt, ℕ-discrete}
-use lib.ListN.{length, take}
+use lib.ListN.{length, take, length-drop}
 use lib.Seq.{length-take-le}
 use lib.Dec.{leb, ltb, eqb}
 use borrow.Author.Tests.{le-leb, lt-leb, le-ltb, leb-false, ltb-false}
 use Rattle.layout.specs.Line.{Allowed}
 use Rattle.sheet.specs.declared.Header.{Header}
 use Rattle.sheet.specs.declared.Record.{Record}
-use Rattle.sheet.specs.Lines.{counts}
+use Rattle.sheet.specs.VersionLaws.{Under}
 use Rattle.sheet.specs.Refusals.{Answer, given, refused, recordRefused}
 use Rattle.sheet.specs.RefusalLaws.{given-refused, refused-number, refused-place}
-use Rattle.sheet.specs.Header.{readHeader}
+use Rattle.sheet.specs.Header.{headerSize, versionField, versionIn, readHeader}
 use Rattle.sheet.specs.HeaderLaws.{header-ranges}
 use Rattle.sheet.specs.HeaderBack.{header-read-fine}
 use Rattle.sheet.specs.HeaderExactly.{header-read-1, header-read-others}
 use Rattle.sheet.specs.Record.{recordFault, readRecord}
 use Rattle.sheet.specs.Exactly.{Exactly}
 use Rattle.sheet.specs.RecordExactly.{linesOf, valuesOf, record-read-1, record-read-others, record-fault-6, record-fault-7, record-fault-given, record-fault-others}
-use Rattle.checker.specs.Check.{_then_, demand, headerFor, partsFrom, soundAfter, recordsIn, Sheet, sheetIn}
+use Rattle.checker.specs.Check.{_then_, demand, sheetSize, headerFor, recordsPart, partsFrom, soundAfter, recordsIn, Sheet, sheetIn}
 use Rattle.checker.specs.CheckLaws.{header-fits}
 use Rattle.checker.specs.Unjudged.{room, soundSheet}
 use Rattle.keyed.specs.Keyed.{hasOf}
 use Rattle.keyed.specs.Places.{has-present, present-has}
-use Rattle.edit.specs.Edit.{sheetAt, idOf, After, hasRoom, placing, putIn, removeIn}
+use Rattle.edit.specs.Edit.{sheetAt, highest, idOf, After, hasRoom, placing, putIn, removeIn}
 use Rattle.edit.specs.Parts.{Wide, parts-wide}
 use Rattle.edit.specs.Taken.{taken-at}
 use Rattle.revisions.specs.Rows.{SheetRow, over, own, Full, buffer, count, PutRow, sheet, kind, field, no-room, RemoveRow, absent, Short, over-buffer, under-header}
@@ -61,22 +61,22 @@ never : (x : Bool) → x ≡ true → x ≡ false → ⊥
 never true e f = absurd (let z : _≡_ {A = ℕ} 0 1 = cc in omega arith)
 never false e f = absurd (let z : _≡_ {A = ℕ} 0 1 = cc in omega arith)
 
-room-full : (n len size : ℕ) → Exactly (hasRoom n len size ≡ false) (Full n len size)
-room-full n len size = (forth (decLt size (len + 16)), back)
+room-full : (h : Header) (len size : ℕ) → Exactly (hasRoom h len size ≡ false) (Full h len size)
+room-full h len size = (forth (decLt size (len + 16)), back)
   where
-    forth : Dec (size < len + 16) → hasRoom n len size ≡ false → Full n len size
+    forth : Dec (size < len + 16) → hasRoom h len size ≡ false → Full h len size
     forth (yes l) e = buffer l
     forth (no l) e =
         let m : len + 16 ≤ size = omega arith in
-        let f : ltb n (counts .high) ≡ false = rw (le-leb (len + 16) size m) at e in
-        count (ltb-false n (counts .high) f)
+        let f : ltb (h .count) (highest h) ≡ false = rw (le-leb (len + 16) size m) at e in
+        count (ltb-false (h .count) (highest h) f)
 
-    back : Full n len size → hasRoom n len size ≡ false
+    back : Full h len size → hasRoom h len size ≡ false
     back (buffer l) = rw (lt-leb (len + 16) size l)
     back (count m) = go (leb (len + 16) size)
       where
-        go : (x : Bool) → (x && ltb n (counts .high)) ≡ false
-        go true = le-ltb n (counts .high) m
+        go : (x : Bool) → (x && ltb (h .count) (highest h)) ≡ false
+        go true = le-ltb (h .count) (highest h) m
         go false = refl
 
 module _ (b : List ℕ) (len : ℕ) (r : Record) (k p : ℕ) where
@@ -93,8 +93,11 @@ module _ (b : List ℕ) (len : ℕ) (r : Record) (k p : ℕ) where
   put-given t e = rw e
 
   module _ (t : Sheet) (found : sheetAt b len ≡ given t) where
+    abbrev h : Header
+    h = t .header
+
     abbrev n : ℕ
-    n = t .header .count
+    n = h .count
 
     at-record : tested n ≡ refused k p → PutRow b len r k p
     at-record e = go (ℕ-discrete k 6) (ℕ-discrete k 7)
@@ -106,15 +109,15 @@ module _ (b : List ℕ) (len : ℕ) (r : Record) (k p : ℕ) where
 
     at-place : Allowed (linesOf r) (valuesOf r) → placing t b len r ≡ refused k p → PutRow b len r k p
     unfolding placing _then_ demand
-    at-place a e = go (hasOf idOf (r .id) (t .records)) refl (hasRoom n len (length b)) refl _ _ e
+    at-place a e = go (hasOf idOf (r .id) (t .records)) refl (hasRoom h len (length b)) refl _ _ e
       where
-        go : (has : Bool) → hasOf idOf (r .id) (t .records) ≡ has → (fits : Bool) → hasRoom n len (length b) ≡ fits
+        go : (has : Bool) → hasOf idOf (r .id) (t .records) ≡ has → (fits : Bool) → hasRoom h len (length b) ≡ fits
             → (x y : After) → cond has (given x) (cond fits (given (tt {0})) (refused 11 0) then λ u. given y) ≡ refused k p → PutRow b len r k p
         go true f fits g x y h = given-refused h
         go false f true g x y h = given-refused h
         go false f false g x y h =
             no-room t found a (λ q. never (hasOf idOf (r .id) (t .records)) (present-has idOf (r .id) 0 (t .records) (taken-at b len t found .order) q) f)
-            (room-full n len (length b) .0 g)
+            (room-full h len (length b) .0 g)
             (sym (refused-number h))
             (sym (refused-place h))
 
@@ -140,7 +143,7 @@ module _ (b : List ℕ) (len : ℕ) (r : Record) (k p : ℕ) where
       let new : hasOf idOf (r .id) (t .records) ≡ false = absent-has (hasOf idOf (r .id) (t .records)) refl in
       put-given t f
       ∙ ap (λ (x : Answer (Unit {0})). x then λ u. placing t b len r) sound
-      ∙ rw (new, room-full (t .header .count) len (length b) .1 l) (ap₂ refused (sym c) (sym d))
+      ∙ rw (new, room-full (t .header) len (length b) .1 l) (ap₂ refused (sym c) (sym d))
     where
       absent-has : (x : Bool) → hasOf idOf (r .id) (t .records) ≡ x → hasOf idOf (r .id) (t .records) ≡ false
       absent-has true e = absurd (n (has-present idOf (r .id) (t .records) e))
@@ -184,47 +187,61 @@ sheet-not : (m : ℕ) (s : List ℕ) → (m ≡ 8 → ⊥) → ((i : ℕ) (b : L
 unfolding soundSheet sheetIn
 sheet-not m s n f g =
     then-not m (headerFor s room) _ g
-    (λ h e. then-not m (recordsIn 0 0 (partsFrom s 0 (h .count))) _
-    (records-not m n f 0 0 (partsFrom s 0 (h .count)) (parts-wide s 0 (h .count) (omega (arith, header-fits s room h e .whole)))) (λ rs u p v. given-refused v))
+    (λ h e. then-not m (recordsIn 0 0 (partsFrom (recordsPart h s) 0 (h .count))) _
+    (records-not m n f 0 0 (partsFrom (recordsPart h s) 0 (h .count))
+    (parts-wide (recordsPart h s) 0 (h .count) (omega (arith, header-fits s room h e .whole, length-drop (headerSize h) s))))
+    (λ rs u p v. given-refused v))
 
 header-not : (m : ℕ) (s : List ℕ) → (m ≡ 4 → ⊥) → Not m (readHeader s) → ((h : Header) → readHeader s ≡ given h → leb (4 * h .count) room ≡ false → m ≡ 5 → ⊥) → Not m (headerFor s room)
 unfolding headerFor
 header-not m s n f g =
     then-not m (readHeader s) _ f
-    (λ h e. then-not m (demand (eqb (length s) (12 + 16 * h .count)) 4) _ (demand-not m _ 4 (λ x z. n (sym z)))
+    (λ h e. then-not m (demand (eqb (length s) (sheetSize h)) 4) _ (demand-not m _ 4 (λ x z. n (sym z)))
     (λ u w. then-not m (demand (leb (4 * h .count) room) 5) _ (demand-not m _ 5 (λ x z. g h e x (sym z))) (λ v y p q. given-refused q)))
 
--- a sheet of twelve bytes or more is not refused with 1
-long-not : (s : List ℕ) → 12 ≤ length s → Not 1 (soundSheet s)
-long-not s l =
-    sheet-not 1 s (λ z. omega arith) (λ i b m p e. omega (arith, record-read-1 i b p .0 e .0)) (header-not 1 s (λ z. omega arith) (λ p e. omega (arith, header-read-1 s p .0 e .0)) (λ h e x z. omega arith))
+-- a sheet whose header is read is not refused with 1
+headed-not : (s : List ℕ) (g : Header) → readHeader s ≡ given g → Not 1 (soundSheet s)
+headed-not s g read =
+    sheet-not 1 s (λ z. omega arith) (λ i b m p e. omega (arith, record-read-1 i b p .0 e .0))
+    (header-not 1 s (λ z. omega arith) (λ p e. given-refused (sym read ∙ e)) (λ h e x z. omega arith))
 
 -- and 5 is never given: the table's own is taken without it
 pub never-5 : (s : List ℕ) → Not 5 (soundSheet s)
 never-5 s =
     sheet-not 5 s (λ z. omega arith) (λ i b m p. record-read-others i b 5 p (λ z. omega arith) (λ z. omega arith) (λ z. omega arith))
     (header-not 5 s (λ z. omega arith) (λ p. header-read-others s 5 p (λ z. omega arith) (λ z. omega arith) (λ z. omega arith))
-    (λ h e x z. omega (arith, leb-false (4 * h .count) room x, header-ranges h (header-read-fine s h e) .count-high)))
+    (λ h e x z. omega (arith, leb-false (4 * h .count) room x, header-ranges h (header-read-fine s h e) .count-few)))
 
 -- ---- 1
 
-under : (s : List ℕ) → length s < 12 → soundSheet s ≡ refused 1 0
+-- what turns the header away turns the sheet away
+under : (s : List ℕ) (k p : ℕ) → readHeader s ≡ refused k p → soundSheet s ≡ refused k p
 unfolding soundSheet sheetIn headerFor _then_
-under s l = rw (header-read-1 s 0 .1 (l, refl))
+under s k p e = rw e
 
 one-row : (b : List ℕ) (len p : ℕ) → Exactly (SheetRow b len 1 p) (Short b len × (p ≡ 0))
 one-row b len p = (from-row, λ h. to-row (h .0) (h .1))
   where
-    short : len ≤ length b → len < 12 → soundSheet (take len b) ≡ refused 1 0
-    short l m = under (take len b) (omega (arith, length-take-le len b l))
+    s : List ℕ
+    s = take len b
 
-    by-length : Dec (len < 12) → len ≤ length b → soundSheet (take len b) ≡ refused 1 p → Short b len × (p ≡ 0)
-    by-length (yes m) l e = (under-header m, sym (refused-place (sym (short l m) ∙ e)))
-    by-length (no m) l e = absurd (long-not (take len b) (omega (arith, length-take-le len b l)) p e)
+    -- the stated length is that of what is read
+    short : len ≤ length b → Under (length s) (versionField s) (versionIn s) → Under len (versionField s) (versionIn s)
+    short l = subst (λ (n : ℕ). Under n (versionField s) (versionIn s)) (length-take-le len b l)
+
+    again : len ≤ length b → Under len (versionField s) (versionIn s) → Under (length s) (versionField s) (versionIn s)
+    again l = subst (λ (n : ℕ). Under n (versionField s) (versionIn s)) (sym (length-take-le len b l))
+
+    by-header : len ≤ length b → soundSheet s ≡ refused 1 p → (x : Answer Header) → readHeader s ≡ x → Short b len × (p ≡ 0)
+    by-header l e (given g) f = absurd (headed-not s g f p e)
+    by-header l e (refused k q) f =
+        let same = sym (under s k q f) ∙ e in
+        let h = header-read-1 s p .0 (f ∙ ap₂ refused (refused-number same) (refused-place same)) in
+        (under-header (short l (h .0)), h .1)
 
     from-row : SheetRow b len 1 p → Short b len × (p ≡ 0)
     from-row (over l c d) = (over-buffer l, d)
-    from-row (own l e) = by-length (decLt len 12) l e
+    from-row (own l e) = by-header l e (readHeader s) refl
 
     to-row : Short b len → p ≡ 0 → SheetRow b len 1 p
     to-row (over-buffer l) d = over l refl d
@@ -232,7 +249,7 @@ one-row b len p = (from-row, λ h. to-row (h .0) (h .1))
       where
         go : Dec (length b < len) → SheetRow b len 1 p
         go (yes l) = over l refl d
-        go (no l) = let n : len ≤ length b = omega arith in own n (short n m ∙ ap (refused 1) (sym d))
+        go (no l) = let n : len ≤ length b = omega arith in own n (under s 1 p (header-read-1 s p .1 (again n m, d)))
 
 -- 1 exactly when the stated length is over the buffer or under the header, for a put and for a removal
 pub put-1 : (b : List ℕ) (len : ℕ) (r : Record) (p : ℕ) → Exactly (putIn b len r ≡ refused 1 p) (Short b len × (p ≡ 0))

@@ -18,14 +18,13 @@ use Rattle.sheet.specs.Record.{readRecord}
 use Rattle.sheet.specs.RecordBack.{record-read-any}
 use Rattle.framing.specs.Rules.{memberLine}
 use Rattle.checker.specs.Entry.{entryBytes}
-use Rattle.checker.specs.Check.{_then_, demand, headerFor, recordPart, recordOf, partsFrom, Sheet, sheetIn, entryOf, outputOf}
+use Rattle.checker.specs.Check.{_then_, demand, headerFor, recordsPart, recordPart, recordOf, partsFrom, Sheet, sheetIn, entryOf, outputOf}
 use Rattle.checker.specs.CheckLaws.{then-given, sheet-whole, verdict-at}
 use Rattle.checker.specs.Unjudged.{room, soundSheet}
 use Rattle.keyed.specs.Keyed.{Edit, put, out, listAfter}
 use Rattle.keyed.specs.Places.{At, put-keeps, out-keeps}
 use Rattle.edit.specs.Edit.{sheetAt, idOf, counting, After}
-use Rattle.edit.specs.Parts.{parts-within}
-use Rattle.edit.specs.Taken.{Reads, nothing, reads, taken-at}
+use Rattle.edit.specs.Taken.{Reads, nothing, reads, own-parts, taken-at}
 use Rattle.revisions.specs.Outcomes.{holding}
 use Rattle.revisions.specs.Sequences.{editIn, one-edit}
 
@@ -99,10 +98,10 @@ module _ (a : After) (t : Sheet) (found : sheetAt (a .bytes) (a .size) ≡ given
   unfolding soundSheet
   in-output o l = with-room (sheetOf a) room (length o) t checked l
 
-  by-bytes : Reads (partsFrom (sheetOf a) 0 (t .header .count)) (t .records)
+  by-bytes : Reads (partsFrom (recordsPart (t .header) (sheetOf a)) 0 (t .header .count)) (t .records)
   by-bytes =
       let k = taken-at (a .bytes) (a .size) t found in
-      subst (λ (ps : List (List ℕ)). Reads ps (t .records)) (sym (parts-within (a .bytes) (a .size) 0 (t .header .count) (omega (arith, k .whole)))) (k .bytes)
+      subst (λ (ps : List (List ℕ)). Reads ps (t .records)) (sym (own-parts (a .bytes) (a .size) (t .header) (k .whole))) (k .bytes)
 
 -- A record of the sheet whose id the edit is not about is a record of the sheet after it, and its verdict there has the bytes that it had: whatever the two
 -- outputs are that have room for the verdicts.
@@ -114,18 +113,18 @@ module _ (a : After) (t : Sheet) (found : sheetAt (a .bytes) (a .size) ≡ given
   after : sheetAt (x .bytes) (x .size) ≡ given u
   after = one-edit a t found e x done
 
-  pub other-verdicts : (i : ℕ) → i < t .header .count → (q : Record) → recordOf (sheetOf a) i ≡ given q → (q .id ≡ edited e → ⊥)
-      → (j : ℕ) × (j < u .header .count) × (recordOf (sheetOf x) j ≡ given q) × (fourAt j (outputOf (sheetOf x) o') ≡ fourAt i (outputOf (sheetOf a) o))
+  pub other-verdicts : (i : ℕ) → i < t .header .count → (q : Record) → recordOf (recordsPart (t .header) (sheetOf a)) i ≡ given q → (q .id ≡ edited e → ⊥)
+      → (j : ℕ) × (j < u .header .count) × (recordOf (recordsPart (t .header) (sheetOf x)) j ≡ given q) × (fourAt j (outputOf (sheetOf x) o') ≡ fourAt i (outputOf (sheetOf a) o))
   other-verdicts i l q f n =
-      let r = read-of (sheetOf a) 0 (t .header .count) (t .records) (by-bytes a t found) i l in
+      let r = read-of (recordsPart (t .header) (sheetOf a)) 0 (t .header .count) (t .records) (by-bytes a t found) i l in
       let zero-i : 0 + i ≡ i = zero-add i in
-      let read : readRecord 0 (recordPart (sheetOf a) i) ≡ given (r .0) = ap (λ (j : ℕ). readRecord 0 (recordPart (sheetOf a) j)) (sym zero-i) ∙ r .2 in
-      let same : r .0 ≡ q = given-same (sym (record-read-any 0 (recordPart (sheetOf a) i) (r .0) read i) ∙ f) in
+      let read : readRecord 0 (recordPart (recordsPart (t .header) (sheetOf a)) i) ≡ given (r .0) = ap (λ (j : ℕ). readRecord 0 (recordPart (recordsPart (t .header) (sheetOf a)) j)) (sym zero-i) ∙ r .2 in
+      let same : r .0 ≡ q = given-same (sym (record-read-any 0 (recordPart (recordsPart (t .header) (sheetOf a)) i) (r .0) read i) ∙ f) in
       let kept = keeps e (t .records) i q n (subst (λ (y : Record). At idOf (t .records) i y) same (r .1)) in
       let j = kept .0 in
-      let s = at-read (sheetOf x) 0 (u .header .count) (u .records) (by-bytes x u after) j q (kept .1) in
+      let s = at-read (recordsPart (t .header) (sheetOf x)) 0 (u .header .count) (u .records) (by-bytes x u after) j q (kept .1) in
       let zero-j : 0 + j ≡ j = zero-add j in
-      let there' : recordOf (sheetOf x) j ≡ given q = record-read-any 0 (recordPart (sheetOf x) j) q (ap (λ (m : ℕ). readRecord 0 (recordPart (sheetOf x) m)) (sym zero-j) ∙ s .1) j in (
+      let there' : recordOf (recordsPart (t .header) (sheetOf x)) j ≡ given q = record-read-any 0 (recordPart (recordsPart (t .header) (sheetOf x)) j) q (ap (λ (m : ℕ). readRecord 0 (recordPart (recordsPart (t .header) (sheetOf x)) m)) (sym zero-j) ∙ s .1) j in (
         j,
         s .0,
         there',

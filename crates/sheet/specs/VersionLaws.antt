@@ -72,6 +72,21 @@ other-number k = (forth (ℕ-discrete k 1) (ℕ-discrete k 2), back)
         go true = clash 2 refl
         go false = clash 1 refl
 
+-- and by one that has it where it is one of theirs
+pub own-number : (k : ℕ) → k ≡ numbered k .number → within numbers k ≡ true
+own-number k e = not-false (within numbers k) (λ f. other-number k .1 f e)
+  where
+    not-false : (b : Bool) → (b ≡ false → ⊥) → b ≡ true
+    not-false true n = refl
+    not-false false n = absurd (n refl)
+
+pub number-own : (k : ℕ) → within numbers k ≡ true → k ≡ numbered k .number
+number-own k e = go (ℕ-discrete k (numbered k .number))
+  where
+    go : Dec (k ≡ numbered k .number) → k ≡ numbered k .number
+    go (yes f) = f
+    go (no n) = absurd (let f = other-number k .0 n in let z : _≡_ {A = ℕ} 0 1 = cc in omega arith)
+
 -- ---- how many bytes are needed
 
 -- so many bytes are under those of the first fields, or, k being the version's number, under the version's
