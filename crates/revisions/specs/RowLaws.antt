@@ -117,7 +117,7 @@ module _ (b : List ℕ) (len : ℕ) (r : Record) (k p : ℕ) where
         go false f true g x y h = given-refused h
         go false f false g x y h =
             no-room t found a (λ q. never (hasOf idOf (r .id) (t .records)) (present-has idOf (r .id) 0 (t .records) (taken-at b len t found .order) q) f)
-            (room-full h len (length b) .0 g)
+            (room-full (t .header) len (length b) .0 g)
             (sym (refused-number h))
             (sym (refused-place h))
 
