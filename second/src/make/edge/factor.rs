@@ -45,10 +45,11 @@ impl Inequality {
     }
 }
 
+/// The inner bottom is aimed at twice in rule 3, which goes by another modulus there.
 pub const AIMS: &[(Inequality, &[i128])] = &[
     (T1, &[1, 2, 3, 4]),
     (T2, &[1, 2, 3, 4]),
-    (T3, &[1, 2, 3, 4]),
+    (T3, &[1, 2, 3, 4, 4, 3]),
     (T3SecondForm, &[1, 2]),
     (Web, &[5, 6, 7, 8]),
     (LongWeb, &[5]),
@@ -169,7 +170,7 @@ fn press(chance: &mut Chance, header: &mut Form, plate: &mut Form, P: i128) -> b
 }
 
 /// Brings R to the number, as a rule with R rounded up.
-fn stress(chance: &mut Chance, header: &mut Form, R: i128) -> bool {
+fn stress(chance: &mut Chance, header: &mut Form, kind: i128, R: i128) -> bool {
     if !(1..=210_000).contains(&R) {
         return false;
     }
@@ -177,7 +178,7 @@ fn stress(chance: &mut Chance, header: &mut Form, R: i128) -> bool {
     let (M, ZB) = *chance.of(&[(R, 1_000_000), rounded]);
     header.set("M", M);
     header.set("ZB", ZB);
-    hull_stress(&Header::of(header)) == R
+    hull_stress(&Header::of(header), kind) == R
 }
 
 /// Rule 3 as it stands for all four kinds.
@@ -201,7 +202,7 @@ fn under_stress(chance: &mut Chance, kind: i128, side: Side) -> Drawn {
         return None;
     }
     let mut header = quiet_header();
-    stress(chance, &mut header, R).then_some((header, plate))
+    stress(chance, &mut header, kind, R).then_some((header, plate))
 }
 
 fn some_panel(chance: &mut Chance, plate: &mut Form) -> i128 {
@@ -232,7 +233,7 @@ fn under_stress_second_form(chance: &mut Chance, kind: i128, side: Side) -> Draw
         return None;
     }
     let mut header = quiet_header();
-    stress(chance, &mut header, R).then_some((header, plate))
+    stress(chance, &mut header, kind, R).then_some((header, plate))
 }
 
 /// Rule 4, kind 5 under L = 12000 and the other kinds at every L.
