@@ -45,19 +45,12 @@ pub const VERSIONS: &[Version] = &[
 /// So many bytes must be there before the version is looked at.
 pub const SHORTEST_HEADER: usize = VERSIONS[0].bytes;
 
-/// One list of fields behind the other.
+/// One list of fields behind the other; not compiled unless they are COUNT in all.
 const fn joined<const COUNT: usize>(first: &[Field], behind: &[Field]) -> [Field; COUNT] {
-    assert!(COUNT == first.len() + behind.len());
     let mut fields = [first[0]; COUNT];
-    let mut index = 0;
-    while index < COUNT {
-        fields[index] = if index < first.len() {
-            first[index]
-        } else {
-            behind[index - first.len()]
-        };
-        index += 1;
-    }
+    let (front, back) = fields.split_at_mut(first.len());
+    front.copy_from_slice(first);
+    back.copy_from_slice(behind);
     fields
 }
 
