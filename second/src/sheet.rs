@@ -213,7 +213,7 @@ impl Record {
     }
 }
 
-/// The version of the header at the start of `sheet`, all of which is there:
+/// The version of the header at the start of `sheet`, if the whole of it is there:
 /// refusals 1 and 2, and 1 again where the version has a longer header.
 fn version_of(sheet: &[u8]) -> Result<&'static Version, Refusal> {
     let too_short = Err(Refusal::new(1, 0));
