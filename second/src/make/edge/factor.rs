@@ -17,12 +17,13 @@ use crate::make::record::panel;
 use crate::make::vessel::aimed_at;
 use crate::sheet::{Header, Record};
 
-/// The rules' inequalities; rules 3 and 4 have two.
+/// The rules' inequalities; rules 3 and 4 have two, and rule 3 turns at the cap of K2.
 #[derive(Clone, Copy)]
 pub enum Inequality {
     T1,
     T2,
     T3,
+    T3AtCap,
     T3SecondForm,
     Web,
     LongWeb,
@@ -30,14 +31,14 @@ pub enum Inequality {
     Shear,
 }
 
-use Inequality::{LongWeb, Modulus, Shear, T3SecondForm, Web, T1, T2, T3};
+use Inequality::{LongWeb, Modulus, Shear, T3AtCap, T3SecondForm, Web, T1, T2, T3};
 
 impl Inequality {
     pub fn number(self) -> i128 {
         match self {
             T1 => 1,
             T2 => 2,
-            T3 | T3SecondForm => 3,
+            T3 | T3AtCap | T3SecondForm => 3,
             Web | LongWeb => 4,
             Modulus => 5,
             Shear => 6,
@@ -50,6 +51,7 @@ pub const AIMS: &[(Inequality, &[i128])] = &[
     (T1, &[1, 2, 3, 4]),
     (T2, &[1, 2, 3, 4]),
     (T3, &[1, 2, 3, 4, 4, 3]),
+    (T3AtCap, &[3]),
     (T3SecondForm, &[1, 2]),
     (Web, &[5, 6, 7, 8]),
     (LongWeb, &[5]),
@@ -66,6 +68,7 @@ pub fn draw(chance: &mut Chance, inequality: Inequality, kind: i128, side: Side)
         T1 => least_thickness(chance, kind, side),
         T2 => under_pressure(chance, kind, side),
         T3 => under_stress(chance, kind, side),
+        T3AtCap => under_stress_at_cap(chance, kind, side),
         T3SecondForm => under_stress_second_form(chance, kind, side),
         Web => web(chance, kind, side),
         LongWeb => web_of_long_vessel(chance, side),
@@ -213,6 +216,27 @@ fn some_panel(chance: &mut Chance, plate: &mut Form) -> i128 {
         Record::Plate(data) => panel_factor(&data),
         Record::Member(_) => panic!("a plate"),
     }
+}
+
+/// Rule 3 with K2 at its cap, where one more or one less in that would turn it. Only the
+/// inner bottom shows it: with so great an R as it takes, no T will do for the bottom.
+fn under_stress_at_cap(chance: &mut Chance, kind: i128, side: Side) -> Drawn {
+    let (K, S) = (chance.between(500, 1000), chance.between(100, 2000));
+    let T = chance.between(400, T_HIGHEST);
+    let b1 = chance.between(10, 199);
+    let mut plate = quiet_plate(kind, K, S, T);
+    plate.fill(&[("b1", b1), ("b2", 5 * b1 + 1)]);
+    let wanted = 25 * T * T * 26_000 * 26_000 / (1156 * S * S);
+    let M = chance.between(500_000, 1_000_000);
+    let mut header = quiet_header();
+    header.fill(&[("M", M), ("ZB", (1_000_000 * M / wanted).max(1))]);
+    let R = hull_stress(&Header::of(&header), kind);
+    let met_with = |K2: i128| 25 * T * T * K2 * K2 >= 1156 * S * S * R;
+    let at_edge = match side {
+        Misses => !met_with(26_000) && met_with(26_001),
+        Meets => met_with(26_000) && !met_with(25_999),
+    };
+    at_edge.then_some((header, plate))
 }
 
 /// Rule 3's second form, on the bottom: what stress is left stands on the left.
