@@ -13,7 +13,7 @@ int clock_gettime(int clock, struct timespec *now);
 
 Check yard_check;
 
-enum { MOST = 400, RUNS = 15, SIZE = 12 + 16 * MOST };
+enum { MOST = 400, RUNS = 15, SIZE = 20 + 16 * MOST };
 
 // who is timed, in the table's order
 static Check *const checks[] = {yard_check, peer_check, strong_check};
@@ -27,13 +27,13 @@ static void put(uint8_t *to, unsigned *at, uint64_t value, unsigned width) {
         if (value >> i & 1) to[*at / 8] |= 128 >> *at % 8;
 }
 
-static uint64_t header(uint8_t *s, unsigned n) {
-    static const uint64_t fields[][2] = {{1, 4}, {8000, 14}, {250, 10}, {60, 8}, {0, 1}, {20000, 20}, {200000, 27}};
-    unsigned at = 0;
+// Writes the header, and gives how many bytes it takes.
+static unsigned header(uint8_t *s, unsigned version, unsigned n) {
+    const uint64_t fields[][2] = {{version, 4}, {8000, 14}, {250, 10}, {60, 8}, {0, 1}, {20000, 20}, {200000, 27}, {n, 9}, {0, 3}, {210000, 27}, {300, 10}};
+    unsigned at = 0, count = version == 1 ? 9 : 11;
     for (unsigned i = 0; i < SIZE; i++) s[i] = 0;
-    for (unsigned i = 0; i < 7; i++) put(s, &at, fields[i][0], (unsigned)fields[i][1]);
-    put(s, &at, n, 9);
-    return 12 + 16 * (uint64_t)n;
+    for (unsigned i = 0; i < count; i++) put(s, &at, fields[i][0], (unsigned)fields[i][1]);
+    return version == 1 ? 12 : 20;
 }
 
 // The tank top is 0 where there is no ballast.
@@ -54,10 +54,10 @@ static void member(uint8_t *p, unsigned id, unsigned kind, unsigned thickness, u
 enum Mix { ALL_PASS, LAST_RULE, ALL_SORTS };
 
 // A sheet of n records, every kind in turn.
-static uint64_t sheet(uint8_t *s, unsigned n, enum Mix mix) {
-    uint64_t size = header(s, n);
+static uint64_t sheet(uint8_t *s, unsigned version, unsigned n, enum Mix mix) {
+    unsigned before = header(s, version, n);
     for (unsigned i = 0; i < n; i++) {
-        uint8_t *p = s + 12 + 16 * i;
+        uint8_t *p = s + before + 16 * i;
         unsigned kind = i % 8 + 1, id = 2 * i + 1;
         unsigned step = mix == ALL_PASS ? 3 : mix == LAST_RULE ? 2 : i / 8 % 4;
         // by step: the first rule fails, the second, the last, none
@@ -67,7 +67,7 @@ static uint64_t sheet(uint8_t *s, unsigned n, enum Mix mix) {
         if (kind <= 4) plate(p, id, kind, turn == 1 ? 300 : 0, plates[step], turn == 2 ? 400 : 0);
         else member(p, id, kind, step == 0 ? 100 : 600, moduli[step], areas[step]);
     }
-    return size;
+    return before + 16 * (uint64_t)n;
 }
 
 // ---- time
@@ -110,8 +110,8 @@ static int differ(uint64_t size, unsigned n) {
 }
 
 // One row of the table; 1 where they do not agree.
-static int row(const char *name, unsigned n, enum Mix mix) {
-    uint64_t size = sheet(given, n, mix);
+static int row(const char *name, unsigned version, unsigned n, enum Mix mix) {
+    uint64_t size = sheet(given, version, n, mix);
     double times[WHO][RUNS], middle[WHO];
     unsigned calls = 40000 / (n + 4);
     int bad = differ(size, n);
@@ -127,17 +127,18 @@ static int row(const char *name, unsigned n, enum Mix mix) {
 static int table(void) {
     int bad = 0;
     printf("%-26s %4s %7s %12s %12s %12s %8s %8s\n", "sheet", "n", "failed", "checker", "peer", "strong peer", "/ peer", "/ strong");
-    bad |= row("all pass", MOST, ALL_PASS);
-    bad |= row("all fail at the last rule", MOST, LAST_RULE);
-    bad |= row("all sorts", MOST, ALL_SORTS);
+    bad |= row("all pass", 1, MOST, ALL_PASS);
+    bad |= row("all fail at the last rule", 1, MOST, LAST_RULE);
+    bad |= row("all sorts", 1, MOST, ALL_SORTS);
+    bad |= row("all sorts, version 2", 2, MOST, ALL_SORTS);
     static const unsigned sizes[] = {1, 10, 100, 400};
-    for (unsigned i = 0; i < 4; i++) bad |= row(i ? "" : "how the cost grows", sizes[i], ALL_SORTS);
+    for (unsigned i = 0; i < 4; i++) bad |= row(i ? "" : "how the cost grows", 1, sizes[i], ALL_SORTS);
     return bad;
 }
 
 int main(int count, char **words) {
     if (count != 4) return table();
-    uint64_t size = sheet(given, MOST, (enum Mix)(words[2][0] - '0'));
+    uint64_t size = sheet(given, 1, MOST, (enum Mix)(words[2][0] - '0'));
     timed(checks[words[1][0] - '0'], size, out[0], (unsigned)(words[3][0] - '0'));
     return 0;
 }

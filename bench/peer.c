@@ -5,7 +5,7 @@
 typedef unsigned __int128 u128;
 
 typedef struct {
-    uint32_t length, draught, wave, two_runs, moment, modulus, count;
+    uint32_t bytes, length, draught, wave, two_runs, moment, modulus, inner_modulus, count;
 } Header;
 
 typedef struct {
@@ -29,10 +29,21 @@ static int outside(uint32_t x, uint32_t low, uint32_t high) { return x < low || 
 
 static uint64_t refused(uint64_t number, uint64_t place) { return number << 40 | place; }
 
-static uint64_t read_header(const uint8_t *s, Header *h) {
-    uint64_t hi = word(s);
+// What version 2 has past the fields of version 1; a depth counts nowhere yet.
+static uint64_t read_inner_bottom(uint64_t own, Header *h) {
+    h->inner_modulus = own >> 37;
+    if (outside(h->inner_modulus, 1, 100000000)) return refused(3, 10);
+    if (outside(own >> 27 & 1023, 100, 1000)) return refused(3, 11);
+    return own & 134217727 ? refused(3, 12) : 0;
+}
+
+static uint64_t read_header(const uint8_t *s, uint64_t len, Header *h) {
+    if (len < 12) return refused(1, 0);
+    uint64_t hi = word(s), version = hi >> 60;
     uint32_t lo = half(s + 8);
-    if (hi >> 60 != 1) return refused(2, 0);
+    if (version != 1 && version != 2) return refused(2, 0);
+    h->bytes = version == 1 ? 12 : 20;
+    if (len < h->bytes) return refused(1, 0);
     h->length = hi >> 46 & 16383;
     h->draught = hi >> 36 & 1023;
     h->wave = hi >> 28 & 255;
@@ -47,7 +58,8 @@ static uint64_t read_header(const uint8_t *s, Header *h) {
     if (outside(h->modulus, 1, 100000000)) return refused(3, 7);
     if (h->count > 400) return refused(3, 8);
     if (lo & 7) return refused(3, 9);
-    return 0;
+    h->inner_modulus = h->modulus;
+    return version == 1 ? 0 : read_inner_bottom(word(s + 12), h);
 }
 
 static int plate_fault(const Record *r, uint32_t zero) {
@@ -181,7 +193,7 @@ static Verdict judge_plate(const Header *h, const Record *r, uint64_t P) {
     a = lengthwise ? 625000000000ull : 39062500000ull;
     p = (u128)(lengthwise ? 9 : 1) * S * S * K * P;
     if (a * T * T < p) return (Verdict){2, least(1, 0, a, p, 4000)};
-    u128 R = up((u128)1000000 * h->moment, h->modulus), K2 = 0;
+    u128 R = up((u128)1000000 * h->moment, kind <= 2 ? h->modulus : h->inner_modulus), K2 = 0;
     if (!lengthwise) {
         K2 = 1000ull * ((uint64_t)r->b1 * r->b1 + (uint64_t)r->b2 * r->b2) / ((uint64_t)r->b1 * r->b1);
         if (K2 > 26000) K2 = 26000;
@@ -223,14 +235,14 @@ static Verdict judge_member(const Header *h, const Record *r, uint64_t P) {
 
 uint64_t peer_check(const uint8_t *sheet, uint64_t sheet_len, uint8_t *out, uint64_t out_len) {
     Header h;
-    if (sheet_len < 12) return refused(1, 0);
-    uint64_t fault = read_header(sheet, &h);
+    uint64_t fault = read_header(sheet, sheet_len, &h);
     if (fault) return fault;
-    if (sheet_len != 12 + 16ull * h.count) return refused(4, 0);
+    if (sheet_len != h.bytes + 16ull * h.count) return refused(4, 0);
     if (out_len < 4ull * h.count) return refused(5, 0);
+    const uint8_t *records = sheet + h.bytes;
     Record r = {0};
     for (uint32_t i = 0, before = 0; i < h.count; i++) {
-        int f = read_record(sheet + 12 + 16 * i, &r);
+        int f = read_record(records + 16 * i, &r);
         if (f == 1) return refused(6, i);
         if (f) return refused(7, 32 * i + f);
         if (r.id <= before) return refused(8, i);
@@ -238,7 +250,7 @@ uint64_t peer_check(const uint8_t *sheet, uint64_t sheet_len, uint8_t *out, uint
     }
     uint32_t failed = 0;
     for (uint32_t i = 0; i < h.count; i++) {
-        read_record(sheet + 12 + 16 * i, &r);
+        read_record(records + 16 * i, &r);
         Load load = r.kind <= 4 ? plate_load(&h, &r) : member_load(&h, &r);
         Verdict v = r.kind <= 4 ? judge_plate(&h, &r, load.pressure) : judge_member(&h, &r, load.pressure);
         uint32_t bits = __builtin_bswap32(r.id << 22 | v.rule << 19 | v.required << 2 | load.source);

@@ -17,7 +17,7 @@ static inline uint32_t half(const uint8_t *p) {
 static inline uint64_t refused(uint64_t n, uint64_t place) { return n << 40 | place; }
 static inline int out(uint32_t x, uint32_t lo, uint32_t hi) { return x - lo > hi - lo; }
 typedef struct {
-    uint64_t length, L2, L2_9, L2_8, draught, wave, below, above, relief, deep, R, moment;
+    uint64_t length, L2, L2_9, L2_8, draught, wave, below, above, relief, deep, R, inner_R, moment;
 } H;
 static inline uint64_t most(uint64_t a, uint64_t b) { return a > b ? a : b; }
 static inline uint64_t root_up(uint64_t n) { // least x with x*x >= n, n < 2^52
@@ -97,7 +97,7 @@ static inline uint32_t plate(const H *h, uint64_t hi, uint64_t lo, uint32_t kind
     if (lengthwise) {
         if (625000000000ull * T2 < 9 * p) return V(2u, clip(root_up(up(9 * p, 625000000000ull)), 4000));
     } else if (39062500000ull * T2 < p) return V(2u, clip(root_up(up(p, 39062500000ull)), 4000));
-    uint64_t R = h->R, K22 = 0, a;
+    uint64_t R = kind <= 2 ? h->R : h->inner_R, K22 = 0, a;
     if (!lengthwise) {
         uint32_t b11 = b1 * b1;
         uint32_t k2 = (uint32_t)(1000ull * (b11 + b2 * b2) / b11);
@@ -206,9 +206,15 @@ uint64_t strong_check(const uint8_t *sheet, uint64_t sheet_len, uint8_t *to, uin
     if (sheet_len < 12) return refused(1, 0);
     uint64_t hi = word(sheet);
     uint32_t lo = half(sheet + 8);
-    if (hi >> 60 != 1) return refused(2, 0);
+    uint64_t version = hi >> 60, own = 0;
+    if (version - 1 > 1) return refused(2, 0);
+    uint32_t header = version == 1 ? 12 : 20;
+    if (version == 2) {
+        if (sheet_len < 20) return refused(1, 0);
+        own = word(sheet + 12);
+    }
     uint64_t L = hi >> 46 & 16383, D = hi >> 36 & 1023, W = hi >> 28 & 255, two = hi >> 27 & 1, M = hi >> 7 & 1048575,
-             Z = (hi & 127) << 20 | lo >> 12, n = lo >> 3 & 511;
+             Z = (hi & 127) << 20 | lo >> 12, ZD = version == 1 ? Z : own >> 37, n = lo >> 3 & 511;
     if (out(L, 4000, 13500)) return refused(3, 2);
     if (out(D, 1, 1000)) return refused(3, 3);
     if (W != 0 && W != 60 && W != 120) return refused(3, 4);
@@ -216,7 +222,12 @@ uint64_t strong_check(const uint8_t *sheet, uint64_t sheet_len, uint8_t *to, uin
     if (out(Z, 1, 100000000)) return refused(3, 7);
     if (n > 400) return refused(3, 8);
     if (lo & 7) return refused(3, 9);
-    if (sheet_len != 12 + 16 * n) return refused(4, 0);
+    if (version == 2) {
+        if (out(ZD, 1, 100000000)) return refused(3, 10);
+        if (out(own >> 27 & 1023, 100, 1000)) return refused(3, 11);
+        if (own & 134217727) return refused(3, 12);
+    }
+    if (sheet_len != header + 16 * n) return refused(4, 0);
     if (out_len < 4 * n) return refused(5, 0);
     H h = {.length = L, .L2 = L * L, .L2_9 = 9 * L * L, .L2_8 = 8 * L * L, .draught = D, .wave = W, .moment = M};
     h.below = 98100 * D + 50031 * W;
@@ -224,10 +235,11 @@ uint64_t strong_check(const uint8_t *sheet, uint64_t sheet_len, uint8_t *to, uin
     int64_t relief = 14715ll * (int64_t)D - 50031ll * (int64_t)W;
     h.relief = relief < 0 ? 0 : (uint64_t)relief;
     h.deep = (two ? (564075 * D + 9) / 10 : 98100 * D) + 50031 * W;
-    h.R = (1000000 * M + Z - 1) / Z;
+    h.R = up(1000000 * M, Z);
+    h.inner_R = up(1000000 * M, ZD);
     uint32_t draft[400], failed = 0, before = 0;
     for (uint32_t i = 0; i < n; i++) {
-        const uint8_t *p = sheet + 12 + 16 * i;
+        const uint8_t *p = sheet + header + 16 * i;
         uint64_t a = word(p), b = word(p + 8);
         uint32_t kind = a >> 60, id = a >> 50 & 1023, v;
         int f = 0;

@@ -16,33 +16,40 @@ extern "C" {
 #endif
 
 /* How many numbers a header, a record and a verdict are. */
-#define YARD_HEADER_FIELDS 8
+#define YARD_HEADER_FIELDS 10
 #define YARD_RECORD_FIELDS 13
 #define YARD_VERDICT_FIELDS 4
 
-/* How many bytes they take. */
-#define YARD_HEADER_BYTES 12
+/* How many bytes they take; a header as many as its version has. */
+#define YARD_HEADER_1_BYTES 12
+#define YARD_HEADER_2_BYTES 20
 #define YARD_RECORD_BYTES 16
 #define YARD_VERDICT_BYTES 4
 
-/* Checks a whole sheet: n * 2^16 + failed. Each record's verdict goes into its own four bytes of out, whose first 4n bytes are written and no
-   others. */
+/* Checks a whole sheet, of version 1 (12 + 16n bytes) or version 2 (20 + 16n): n * 2^16 + failed. Each record's verdict goes into its own four bytes of
+   out, whose first 4n bytes are written and no others. */
 uint64_t yard_check(const uint8_t *sheet, uint64_t sheet_len, uint8_t *out, uint64_t out_len);
 
-/* Reads the header in the first twelve bytes: 0, and fields are version, L, D0, H, runs (0 one, 1 two), M, ZB, n. */
-uint64_t yard_read_header(const uint8_t *bytes, uint64_t bytes_len, uint32_t fields[8]);
+/* Reads the header in the first bytes, twelve of version 1 and twenty of version 2: 0, and fields are version, L, D0, H, runs (0 one, 1 two), M, ZB, n,
+   ZDB, depth; the last two are 0 in version 1, which has neither. Refused: 1 under twelve bytes, 2 for another version, 1 for version 2 under twenty bytes;
+   then 3 at the first field that is outside its values, ZDB being field 10, depth 11, the 27 zero bits 12, and the three after n field 9 in both versions.
+   Lend room for ten numbers: programs that lent eight must be built anew. */
+uint64_t yard_read_header(const uint8_t *bytes, uint64_t bytes_len, uint32_t fields[10]);
 
-/* Writes the header that the fields are into the first twelve bytes of out, and into no others: 0. A number that its field does not allow is
-   refused at that field, however great it is, and the first such field is the one named. */
-uint64_t yard_write_header(const uint32_t fields[8], uint8_t *out, uint64_t out_len);
+/* Writes the header that the ten fields are into the first bytes of out, twelve or twenty by its version, and into no others: 0. Refused: 5 under twelve
+   bytes, 2 for another version, 5 for version 2 under twenty bytes; then 3: a number that its field does not allow is refused at that field, however great
+   it is, and the first such field is the one named. In version 1 the two last numbers must be 0, and are refused as field 9, the zero bits, where they are
+   not. */
+uint64_t yard_write_header(const uint32_t fields[10], uint8_t *out, uint64_t out_len);
 
 /* Reads the record in the first sixteen bytes, as record 0: 0, and the fields are,
    of a plate (kinds 1 to 4): kind, id, K, z, S, T, b1, b2, ballast (0 or 1), zL, cargo pressure, and two that are 0;
    of a member (kinds 5 to 8): kind, id, z, S, l, T, bending and shear coefficient, eta, sigma 1, W, A, K. */
 uint64_t yard_read_record(const uint8_t *bytes, uint64_t bytes_len, uint32_t fields[13]);
 
-/* Writes the record that the fields are into the first sixteen bytes of out, and into no others: 0. Refused as a header is; the two last numbers of a
-   plate must be 0, and are refused as field 12, the zero bits, where they are not. */
+/* Writes the record that the fields are into the first sixteen bytes of out, and into no others: 0. Refused: 5 under sixteen bytes, then 6 and 7 as record
+   0, a number that its field does not allow at that field, however great it is; the two last numbers of a plate must be 0, and are refused as field 12, the
+   zero bits, where they are not. */
 uint64_t yard_write_record(const uint32_t fields[13], uint8_t *out, uint64_t out_len);
 
 /* Reads one verdict in the first four bytes: 0, and fields are id, rule (0 is a pass), required (0 on a pass, and where nothing will do) and source,
@@ -53,8 +60,9 @@ uint64_t yard_read_verdict(const uint8_t *bytes, uint64_t bytes_len, uint32_t fi
 /* Puts the record that the fields are into the sheet in the first len bytes of buf, a buffer of buf_len bytes: it replaces the record with its id, or
    goes in at its place in the id order, and those from there on move up by sixteen bytes. The answer is the sheet's new length: len, or len + 16. A
    replacement changes its own sixteen bytes and no others; an insertion the header's count, the bytes from its place on and, of those past the sheet,
-   the next sixteen. Refused: 1 also where len is above buf_len, then as a check refuses the sheet, but never by 5; then 6 and 7 on the fields, as record n
-   of the sheet; then 11, at place 0, where the id is new and there are under len + 16 bytes of buffer, or n is 400 already. */
+   the next sixteen. The header's version and its other fields stay. Refused: 1 also where len is above buf_len, then as a check refuses the sheet, but
+   never by 5; then 6 and 7 on the fields, as record n of the sheet; then 11, at place 0, where the id is new and there are under len + 16 bytes of
+   buffer, or n is 400 already. */
 uint64_t yard_put(uint8_t *buf, uint64_t buf_len, uint64_t len, const uint32_t fields[13]);
 
 /* Takes the record with this id out of the sheet in the first len bytes of buf, a buffer of buf_len bytes: those after it move down, the sixteen bytes

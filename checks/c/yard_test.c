@@ -97,8 +97,10 @@ static void write_as(const char *name, const uint32_t *numbers, int count, uint6
   show_bytes(name, count);
 }
 
-static const uint32_t vessel[8] = {1, 8000, 250, 60, 0, 20000, 200000, 2};
+static const uint32_t vessel[10] = {1, 8000, 250, 60, 0, 20000, 200000, 2, 0, 0};
+static const uint32_t vessel_2[10] = {2, 8000, 250, 60, 0, 20000, 200000, 2, 400000, 300};
 static const uint32_t plate[13] = {2, 7, 1000, 0, 500, 600, 0, 0, 0, 0, 0, 0, 0};
+static const uint32_t inner[13] = {4, 9, 1000, 0, 500, 600, 0, 0, 0, 0, 30000, 0, 0};
 static const uint32_t member[13] = {5, 12, 0, 500, 300, 420, 100, 100, 90, 50, 560, 168, 1000};
 static uint32_t damaged[13];
 
@@ -120,32 +122,107 @@ static void headers(void) {
   write_as("header written", vessel, 12, yard_write_header, 12);
   write_as("header into more room", vessel, 12, yard_write_header, 40);
   write_as("header into 11 bytes", vessel, 12, yard_write_header, 11);
-  write_as("header into no bytes", with(vessel, 8, 0, 7), 12, yard_write_header, 0);
-  write_as("version 2", with(vessel, 8, 0, 2), 12, yard_write_header, 12);
-  write_as("version 257", with(vessel, 8, 0, 257), 12, yard_write_header, 12);
-  write_as("L 70000", with(vessel, 8, 1, 70000), 12, yard_write_header, 12);
-  write_as("L 8000 + 65536", with(vessel, 8, 1, 8000 + 65536), 12, yard_write_header, 12);
-  write_as("D0 0", with(vessel, 8, 2, 0), 12, yard_write_header, 12);
-  write_as("H 61", with(vessel, 8, 3, 61), 12, yard_write_header, 12);
-  write_as("H 65596", with(vessel, 8, 3, 65596), 12, yard_write_header, 12);
-  write_as("two runs", with(vessel, 8, 4, 1), 12, yard_write_header, 12);
-  write_as("runs 2", with(vessel, 8, 4, 2), 12, yard_write_header, 12);
+  write_as("header into no bytes", with(vessel, 10, 0, 7), 12, yard_write_header, 0);
+  write_as("version 0", with(vessel, 10, 0, 0), 12, yard_write_header, 12);
+  write_as("version 257", with(vessel, 10, 0, 257), 12, yard_write_header, 12);
+  write_as("L 70000", with(vessel, 10, 1, 70000), 12, yard_write_header, 12);
+  write_as("L 8000 + 65536", with(vessel, 10, 1, 8000 + 65536), 12, yard_write_header, 12);
+  write_as("D0 0", with(vessel, 10, 2, 0), 12, yard_write_header, 12);
+  write_as("H 61", with(vessel, 10, 3, 61), 12, yard_write_header, 12);
+  write_as("H 65596", with(vessel, 10, 3, 65596), 12, yard_write_header, 12);
+  write_as("two runs", with(vessel, 10, 4, 1), 12, yard_write_header, 12);
+  write_as("runs 2", with(vessel, 10, 4, 2), 12, yard_write_header, 12);
   write_as("runs 2 in 11 bytes", damaged, 12, yard_write_header, 11);
   damaged[7] = 401;
   write_as("runs 2 and n 401", damaged, 12, yard_write_header, 12);
   damaged[2] = 1001;
   write_as("D0 1001, runs 2 and n 401", damaged, 12, yard_write_header, 12);
-  write_as("M 1000001", with(vessel, 8, 5, 1000001), 12, yard_write_header, 12);
-  write_as("ZB 4294967295", with(vessel, 8, 6, 4294967295u), 12, yard_write_header, 12);
-  write_as("n 65938", with(vessel, 8, 7, 65938), 12, yard_write_header, 12);
+  write_as("M 1000001", with(vessel, 10, 5, 1000001), 12, yard_write_header, 12);
+  write_as("ZB 4294967295", with(vessel, 10, 6, 4294967295u), 12, yard_write_header, 12);
+  write_as("n 65938", with(vessel, 10, 7, 65938), 12, yard_write_header, 12);
+  write_as("version 1 with ZDB 1", with(vessel, 10, 8, 1), 12, yard_write_header, 12);
+  write_as("version 1 with ZDB 1 into 11 bytes", damaged, 12, yard_write_header, 11);
+  damaged[7] = 401;
+  write_as("version 1 with n 401 and ZDB 1", damaged, 12, yard_write_header, 12);
+  write_as("version 1 with ZDB 4294967295", with(vessel, 10, 8, 4294967295u), 12, yard_write_header, 12);
+  damaged[9] = 1;
+  write_as("version 1 with ZDB 4294967295 and depth 1", damaged, 12, yard_write_header, 12);
+  write_as("version 1 with depth 300", with(vessel, 10, 9, 300), 12, yard_write_header, 20);
   example();
-  read_as("header read", 8, yard_read_header, 44);
-  read_as("header in 12 bytes", 8, yard_read_header, 12);
-  read_as("header in 11 bytes", 8, yard_read_header, 11);
+  read_as("header read", 10, yard_read_header, 44);
+  read_as("header in 12 bytes", 10, yard_read_header, 12);
+  read_as("header in 11 bytes", 10, yard_read_header, 11);
   sheet[11] |= 1;
-  read_as("header with a spare bit", 8, yard_read_header, 12);
+  read_as("header with a spare bit", 10, yard_read_header, 12);
   sheet[0] = 0;
-  read_as("header with no version", 8, yard_read_header, 12);
+  read_as("header with no version", 10, yard_read_header, 12);
+}
+
+/* A vessel with a bottom plate and an inner bottom plate. */
+static void bottoms(const uint32_t *numbers) {
+  uint64_t bytes = numbers[0] == 1 ? YARD_HEADER_1_BYTES : YARD_HEADER_2_BYTES;
+  clear_sheet();
+  if (yard_write_header(numbers, sheet, bytes) | yard_write_record(plate, sheet + bytes, 16) | yard_write_record(inner, sheet + bytes + 16, 16)) {
+    printf("the two bottoms were not written\n");
+    exit(1);
+  }
+}
+
+static void headers_written_in_2(void) {
+  write_as("version 2 written", vessel_2, 20, yard_write_header, 20);
+  write_as("version 2 into more room", vessel_2, 20, yard_write_header, 40);
+  write_as("version 2 into 19 bytes", vessel_2, 20, yard_write_header, 19);
+  write_as("version 2 into 15 bytes", vessel_2, 20, yard_write_header, 15);
+  write_as("version 2 into 12 bytes", vessel_2, 20, yard_write_header, 12);
+  write_as("version 2 into 11 bytes", vessel_2, 20, yard_write_header, 11);
+  write_as("version 3 into 11 bytes", with(vessel_2, 10, 0, 3), 20, yard_write_header, 11);
+  write_as("version 3 into 15 bytes", damaged, 20, yard_write_header, 15);
+  write_as("version 3 into 20 bytes", damaged, 20, yard_write_header, 20);
+  write_as("version 258", with(vessel_2, 10, 0, 258), 20, yard_write_header, 20);
+  write_as("version 2 with L 3999", with(vessel_2, 10, 1, 3999), 20, yard_write_header, 20);
+  write_as("ZDB 0 into 15 bytes", with(vessel_2, 10, 8, 0), 20, yard_write_header, 15);
+  write_as("ZDB 0", damaged, 20, yard_write_header, 20);
+  damaged[9] = 0;
+  write_as("ZDB 0 and depth 0", damaged, 20, yard_write_header, 20);
+  damaged[4] = 2;
+  write_as("runs 2, ZDB 0 and depth 0", damaged, 20, yard_write_header, 20);
+  write_as("ZDB 1", with(vessel_2, 10, 8, 1), 20, yard_write_header, 20);
+  write_as("ZDB 100000000", with(vessel_2, 10, 8, 100000000), 20, yard_write_header, 20);
+  write_as("ZDB 100000001", with(vessel_2, 10, 8, 100000001), 20, yard_write_header, 20);
+  write_as("ZDB 400000 + 2^27", with(vessel_2, 10, 8, 134617728), 20, yard_write_header, 20);
+  write_as("ZDB 4294967295", with(vessel_2, 10, 8, 4294967295u), 20, yard_write_header, 20);
+  write_as("depth 99", with(vessel_2, 10, 9, 99), 20, yard_write_header, 20);
+  write_as("depth 100", with(vessel_2, 10, 9, 100), 20, yard_write_header, 20);
+  write_as("depth 1000", with(vessel_2, 10, 9, 1000), 20, yard_write_header, 20);
+  write_as("depth 1001", with(vessel_2, 10, 9, 1001), 20, yard_write_header, 20);
+  write_as("depth 300 + 65536", with(vessel_2, 10, 9, 65836), 20, yard_write_header, 20);
+}
+
+static void headers_read_in_2(void) {
+  bottoms(vessel_2);
+  read_as("version 2 read", 10, yard_read_header, 52);
+  read_as("version 2 in 20 bytes", 10, yard_read_header, 20);
+  read_as("version 2 in 19 bytes", 10, yard_read_header, 19);
+  read_as("version 2 in 15 bytes", 10, yard_read_header, 15);
+  read_as("version 2 in 12 bytes", 10, yard_read_header, 12);
+  read_as("version 2 in 11 bytes", 10, yard_read_header, 11);
+  sheet[19] |= 1;
+  read_as("the last of 27 spare bits", 10, yard_read_header, 20);
+  sheet[19] = 0;
+  sheet[16] |= 4;
+  read_as("the first of 27 spare bits", 10, yard_read_header, 20);
+  sheet[15] &= 0xE0;
+  sheet[16] &= 7;
+  read_as("depth 0 and a spare bit", 10, yard_read_header, 20);
+  for (int i = 12; i < 16; i++) sheet[i] = 0;
+  read_as("ZDB 0, depth 0 and a spare bit", 10, yard_read_header, 20);
+  sheet[11] |= 4;
+  read_as("the first of three spare bits, and ZDB 0", 10, yard_read_header, 20);
+  read_as("the same in 19 bytes", 10, yard_read_header, 19);
+  sheet[0] = 0x37;
+  read_as("the same as version 3", 10, yard_read_header, 20);
+  read_as("the same as version 3 in 15 bytes", 10, yard_read_header, 15);
+  read_as("the same as version 3 in 11 bytes", 10, yard_read_header, 11);
 }
 
 static void records(void) {
@@ -193,6 +270,9 @@ static void records(void) {
   read_as("member read", 13, yard_read_record, 20);
   sheet[14] &= 0xFC;
   read_as("member with K 232", 13, yard_read_record, 16);
+  bottoms(vessel_2);
+  for (int i = 0; i < 16; i++) sheet[i] = sheet[i + 36];
+  read_as("inner bottom plate read", 13, yard_read_record, 16);
 }
 
 /* The example with its plate as thick as it must be, under a tank that presses more than the sea. */
@@ -225,6 +305,41 @@ static void sheets(void) {
   check("equal ids", 44, 8);
   ballast();
   check("a plate under ballast", 44, 8);
+}
+
+/* The inner bottom plate needs 617 by ZB, 458 by rule 1 where ZDB is 400,000, and 873 where it is 100,000. */
+static void sheets_in_2(void) {
+  bottoms(vessel);
+  check("two bottoms in version 1", 44, 8);
+  check("version 1 with 20 + 16n bytes", 52, 8);
+  bottoms(vessel_2);
+  check("two bottoms in version 2", 52, 8);
+  check("two bottoms into more room", 52, 100);
+  check("two bottoms into 7 bytes", 52, 7);
+  check("two bottoms with a byte too few", 51, 8);
+  check("two bottoms with a byte too many", 53, 8);
+  check("version 2 with 12 + 16n bytes", 44, 8);
+  check("version 2 with no record there", 20, 8);
+  check("version 2 with 19 bytes", 19, 0);
+  check("version 2 with 12 bytes", 12, 0);
+  sheet[0] = 0x37;
+  check("version 3 with 12 bytes", 12, 0);
+  check("version 3 with 52 bytes", 52, 8);
+  bottoms(with(vessel_2, 10, 8, 100000));
+  check("two bottoms with a smaller ZDB", 52, 8);
+  sheet[18] = 1;
+  check("a spare bit of version 2", 52, 8);
+  bottoms(vessel_2);
+  sheet[36] = 0xF0;
+  check("kind 15 in version 2", 52, 8);
+  bottoms(vessel_2);
+  sheet[51] = 1;
+  check("a spare bit of record 1 in version 2", 52, 8);
+  bottoms(vessel_2);
+  for (int i = 36; i < 52; i++) sheet[i] = sheet[i - 16];
+  check("equal ids in version 2", 52, 8);
+  bottoms(with(vessel_2, 10, 7, 0));
+  check("version 2 with no record", 20, 0);
 }
 
 static void verdicts(void) {
@@ -265,17 +380,23 @@ static const uint32_t *numbered(int number) {
   return numbers;
 }
 
+/* The header of the sheets that are edited. */
+static const uint32_t *hull;
+
+/* How long they are with so many records. */
+static uint64_t long_with(uint64_t records) { return (hull[0] == 1 ? YARD_HEADER_1_BYTES : YARD_HEADER_2_BYTES) + 16 * records; }
+
 /* A sheet with these records, up to a 0, at the front of bytes; its length. */
 static uint64_t lay(uint8_t *bytes, const int *numbers) {
   uint32_t count = 0;
   uint64_t answer = 0;
-  for (; numbers[count]; count++) answer |= yard_write_record(numbered(numbers[count]), bytes + 12 + 16 * count, 16);
-  answer |= yard_write_header(with(vessel, 8, 7, count), bytes, 12);
+  for (; numbers[count]; count++) answer |= yard_write_record(numbered(numbers[count]), bytes + long_with(count), 16);
+  answer |= yard_write_header(with(hull, 10, 7, count), bytes, long_with(0));
   if (answer != 0) {
     printf("a sheet to edit was not written\n");
     exit(1);
   }
-  return 12 + 16 * (uint64_t)count;
+  return long_with(count);
 }
 
 #define LIST(...) ((const int[]){__VA_ARGS__})
@@ -325,16 +446,16 @@ static void puts_in(void) {
   put("put over record 1, in no more room", numbered(1007), length);
   begin(LIST(3, 7, 9, 0));
   leaving(LIST(2, 3, 7, 9, 0));
-  put("put in front, in room for one", numbered(2), 76);
+  put("put in front, in room for one", numbered(2), long_with(4));
   leaving(LIST(2, 3, 4, 7, 9, 0));
   put("put in the middle", numbered(4), 100);
   leaving(LIST(2, 3, 4, 7, 9, 1000, 0));
   put("put at the end", numbered(1000), ROOM);
   leaving(LIST(2, 3, 4, 7, 9, 2000, 0));
-  put("put over the last", numbered(2000), 108);
+  put("put over the last", numbered(2000), long_with(6));
   begin(LIST(0));
   leaving(LIST(500, 0));
-  put("put into an empty sheet", numbered(500), 28);
+  put("put into an empty sheet", numbered(500), long_with(1));
 }
 
 static void takes_out(void) {
@@ -344,13 +465,13 @@ static void takes_out(void) {
   leaving(LIST(7, 12, 0));
   take("remove the middle one", 9, 100);
   leaving(LIST(7, 0));
-  take("remove the last", 12, 60);
+  take("remove the last", 12, long_with(3));
   leaving(LIST(7, 8, 0));
-  put("put where bytes came free", numbered(8), 44);
+  put("put where bytes came free", numbered(8), long_with(2));
   leaving(LIST(8, 0));
-  take("remove the first of two", 7, 44);
+  take("remove the first of two", 7, long_with(2));
   leaving(LIST(0));
-  take("remove the only one", 8, 28);
+  take("remove the only one", 8, long_with(1));
   take("remove from an empty sheet", 8, ROOM);
 }
 
@@ -369,24 +490,41 @@ static void damage(const char *name, int at, uint8_t byte) {
 
 static void refused_sheets(void) {
   begin(LIST(3, 7, 9, 0));
-  both_refuse("a buffer of a byte too few", 59);
+  both_refuse("a buffer of a byte too few", long_with(3) - 1);
   both_refuse("a buffer of no bytes", 0);
   length = 11;
   both_refuse("a sheet of 11 bytes", ROOM);
+  length = long_with(0) - 1;
+  both_refuse("a sheet of a byte less than its header", ROOM);
   length = 0;
   both_refuse("a sheet of no bytes", 0);
   length = 0xFFFFFFFFFFFFFFFFu;
   both_refuse("the longest sheet", ROOM);
-  length = 59;
+  length = long_with(3) - 1;
   both_refuse("a sheet with a byte too few", ROOM);
-  length = 76;
+  length = long_with(4);
   both_refuse("a sheet with a record too many", ROOM);
+  length = hull[0] == 1 ? 68 : 60;
+  both_refuse("a sheet as long as the other version's", ROOM);
   damage("version 0", 0, 0x07);
+  damage("version 3", 0, 0x37);
+  length = 15;
+  both_refuse("version 3 in 15 bytes", ROOM);
   damage("a spare bit of the header", 11, 0x19);
-  damage("kind 15 in record 1", 28, 0xF0);
-  damage("a spare bit of record 2", 59, 1);
+  damage("kind 15 in record 1", (int)long_with(1), 0xF0);
+  damage("a spare bit of record 2", (int)long_with(3) - 1, 1);
   begin(LIST(3, 7, 7, 0));
   both_refuse("equal ids", ROOM);
+}
+
+/* What only a header of version 2 is refused for. */
+static void refused_in_2(void) {
+  begin(LIST(3, 7, 9, 0));
+  length = 15;
+  both_refuse("a sheet of version 2 in 15 bytes", ROOM);
+  damage("ZDB over 100000000", 12, 0xFF);
+  damage("depth 1004", 15, 0x1F);
+  damage("the last spare bit of version 2", 19, 1);
 }
 
 static void refused_edits(void) {
@@ -412,18 +550,29 @@ static void full(void) {
   begin(numbers);
   numbers[399] = 999;
   leaving(numbers);
-  put("put record 399", numbered(999), 6412);
+  put("put record 399", numbered(999), long_with(400));
   put("put with n at 400", numbered(1000), ROOM);
   put("put in front with n at 400", numbered(1), ROOM);
   put("put kind 9 with n at 400", with(numbered(7), 13, 0, 9), ROOM);
   put("put K 0 of a member with n at 400", with(numbered(8), 13, 12, 0), ROOM);
   numbers[399] = 1999;
   leaving(numbers);
-  put("put over record 399", numbered(1999), 6412);
+  put("put over record 399", numbered(1999), long_with(400));
   for (int i = 0; i < 400; i++) numbers[i] = numbers[i + 1];
   leaving(numbers);
-  take("remove the first of 400", 2, 6412);
-  take("remove it again", 2, 6412);
+  take("remove the first of 400", 2, long_with(400));
+  take("remove it again", 2, long_with(400));
+}
+
+static void edits(const uint32_t *header) {
+  hull = header;
+  printf("edits in version %u\n", hull[0]);
+  puts_in();
+  takes_out();
+  refused_sheets();
+  if (hull[0] == 2) refused_in_2();
+  refused_edits();
+  full();
 }
 
 /* What ./barge prints of the sheet on standard input. */
@@ -478,14 +627,14 @@ int main(int count, char **words) {
     write(1, sheet, 44);
   } else {
     headers();
+    headers_written_in_2();
+    headers_read_in_2();
     records();
     sheets();
+    sheets_in_2();
     verdicts();
-    puts_in();
-    takes_out();
-    refused_sheets();
-    refused_edits();
-    full();
+    edits(vessel);
+    edits(vessel_2);
     helpers();
   }
   return 0;

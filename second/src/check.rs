@@ -1,7 +1,7 @@
 //! A whole sheet: turned away for the first reason of the table, or judged
 //! record by record.
 
-use crate::form::{Form, HEADER_BYTES, RECORD_BYTES, VERDICT, VERDICT_BYTES};
+use crate::form::{Form, RECORD_BYTES, VERDICT, VERDICT_BYTES};
 use crate::loads::pressure;
 use crate::refusal::Refusal;
 use crate::rules::demands;
@@ -65,15 +65,15 @@ pub fn judge(header: &Header, record: &Record) -> Verdict {
 /// Reads the whole sheet or refuses it; the steps stand in the order of the table.
 pub fn read_all(sheet: &[u8], output_bytes: usize) -> Result<(Header, Vec<Record>), Refusal> {
     let header = read_header(sheet)?;
-    let n = header.n as usize;
-    if sheet.len() != HEADER_BYTES + RECORD_BYTES * n {
+    let version = header.version();
+    if sheet.len() != version.sheet_bytes(header.n) {
         return Err(Refusal::new(4, 0));
     }
-    if output_bytes < VERDICT_BYTES * n {
+    if output_bytes < VERDICT_BYTES * header.n as usize {
         return Err(Refusal::new(5, 0));
     }
     let mut records: Vec<Record> = Vec::new();
-    let places = sheet[HEADER_BYTES..].chunks(RECORD_BYTES);
+    let places = sheet[version.bytes..].chunks(RECORD_BYTES);
     for (index, bytes) in places.enumerate() {
         let record = read_record(bytes, index)?;
         if let Some(before) = records.last() {

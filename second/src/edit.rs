@@ -4,7 +4,6 @@
 
 use crate::check::read_all;
 use crate::form::{RECORD_BYTES, RECORD_NUMBERS};
-use crate::limits::N_HIGHEST;
 use crate::refusal::Refusal;
 use crate::sheet::{record_of_numbers, Header, Record};
 use std::collections::BTreeMap;
@@ -47,7 +46,8 @@ pub fn edit(buffer: &mut [u8], length: usize, edit: &Edit) -> Result<usize, Refu
     match edit {
         Edit::Put(numbers) => {
             let record = record_of_numbers(numbers, n)?;
-            let no_room = length + RECORD_BYTES > buffer.len() || header.n == N_HIGHEST;
+            let full = header.n == header.version().n_highest;
+            let no_room = length + RECORD_BYTES > buffer.len() || full;
             if no_room && !map.contains_key(&record.id()) {
                 return Err(Refusal::new(11, 0));
             }

@@ -1,23 +1,15 @@
 //! The layouts of the document ("The sheet, bit by bit") and a form filled in
-//! after one of them. A form holds whatever its bits can hold; which values
-//! are allowed is another subject (`limits`).
+//! after one of them; those of headers stand with their versions (`version`). A
+//! form holds whatever its bits can hold; which values are allowed is another
+//! subject (`limits`).
 
 use crate::bits::{BitReader, BitWriter};
 
-/// Field names with their widths in bits, in layout order.
-pub type Layout = &'static [(&'static str, u32)];
+/// A field's name and its width in bits.
+pub type Field = (&'static str, u32);
 
-pub const HEADER: Layout = &[
-    ("version", 4),
-    ("L", 14),
-    ("D0", 10),
-    ("H", 8),
-    ("runs", 1),
-    ("M", 20),
-    ("ZB", 27),
-    ("n", 9),
-    ("zero", 3),
-];
+/// Fields in layout order.
+pub type Layout = &'static [Field];
 
 pub const PLATE: Layout = &[
     ("kind", 4),
@@ -52,7 +44,6 @@ pub const MEMBER: Layout = &[
 
 pub const VERDICT: Layout = &[("id", 10), ("rule", 3), ("required", 17), ("source", 2)];
 
-pub const HEADER_BYTES: usize = 12;
 pub const RECORD_BYTES: usize = 16;
 pub const VERDICT_BYTES: usize = 4;
 
@@ -92,10 +83,18 @@ impl Form {
     /// A blank form with the named fields filled in.
     pub fn filled(layout: Layout, fields: &[(&str, i128)]) -> Form {
         let mut form = Form::blank(layout);
-        for (name, value) in fields {
-            form.set(name, *value);
-        }
+        form.fill(fields);
         form
+    }
+
+    pub fn fill(&mut self, fields: &[(&str, i128)]) {
+        for (name, value) in fields {
+            self.set(name, *value);
+        }
+    }
+
+    pub fn has(&self, name: &str) -> bool {
+        self.layout.iter().any(|field| field.0 == name)
     }
 
     pub fn get(&self, name: &str) -> i128 {

@@ -2,12 +2,11 @@
 //! field of a form is the first one at fault.
 
 use crate::form::Form;
+use crate::version::Version;
 
-pub const VERSION: i128 = 1;
 pub const T_HIGHEST: i128 = 4000;
 pub const W_HIGHEST: i128 = 100_000;
 pub const A_HIGHEST: i128 = 16_000;
-pub const N_HIGHEST: i128 = 400;
 pub const ID_HIGHEST: i128 = 1000;
 
 #[derive(Clone, Debug, PartialEq, Eq)]
@@ -48,17 +47,20 @@ fn only(value: i128) -> Allowed {
     Between(value, value)
 }
 
-pub fn in_header(name: &str) -> Allowed {
+/// For a header of any version; no range rests on another field.
+pub fn in_header(header: &Form, name: &str) -> Allowed {
+    let version = Version::of(header);
     match name {
-        "version" => only(VERSION),
+        "version" => only(version.number),
         "L" => Between(4000, 13_500),
         "D0" => Between(1, 1000),
         "H" => Among(&[0, 60, 120]),
         "runs" => Between(0, 1),
         "M" => Between(0, 1_000_000),
-        "ZB" => Between(1, 100_000_000),
-        "n" => Between(0, N_HIGHEST),
-        "zero" => only(0),
+        "ZB" | "ZDB" => Between(1, 100_000_000),
+        "n" => Between(0, version.n_highest),
+        "depth" => Between(100, 1000),
+        "zero" | "last_zero" => only(0),
         _ => panic!("no header field {name}"),
     }
 }

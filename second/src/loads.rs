@@ -93,9 +93,11 @@ pub fn line_load(P: i128, S: i128) -> i128 {
     rounded_up(P * S, 1_000_000)
 }
 
-/// R, from the hull girder moment and the modulus at the bottom.
-pub fn hull_stress(header: &Header) -> i128 {
-    rounded_up(1_000_000 * header.M, header.ZB)
+/// R, from the hull girder moment and the modulus where a plate of this kind lies:
+/// the bottom's, or for kinds 3 and 4 the inner bottom's.
+pub fn hull_stress(header: &Header, kind: i128) -> i128 {
+    let modulus = if kind <= 2 { header.ZB } else { header.ZDB() };
+    rounded_up(1_000_000 * header.M, modulus)
 }
 
 /// K2, for transversely framed plates: only they carry b1 and b2.

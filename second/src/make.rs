@@ -7,6 +7,7 @@ mod draft;
 mod edge;
 mod edits;
 mod faults;
+mod headers;
 mod record;
 mod spoil;
 mod tie;
@@ -15,32 +16,34 @@ mod whole;
 
 use crate::edit::Edit;
 use crate::edit_stream::Lent;
-use crate::form::{HEADER_BYTES, RECORD_BYTES};
-use crate::limits::N_HIGHEST;
 use crate::stream::LONGEST_SHEET;
+use crate::version::VERSIONS;
 use chance::Chance;
 use edge::Edges;
 use faults::Faults;
-use whole::{noise, sound};
+use headers::Headers;
+use whole::{full, noise, sound, sound_in};
 
-/// A sheet with more behind its header than 400 records can fill.
+/// A sheet with more behind its header than all its records can fill.
 fn longer_than_any(chance: &mut Chance) -> Vec<u8> {
-    let mut draft = sound(chance, 1);
-    let too_many = N_HIGHEST + chance.between(1, 111);
-    draft.header.set("n", *chance.of(&[N_HIGHEST, too_many]));
+    let version = chance.of(VERSIONS);
+    let mut draft = sound_in(chance, version, 1);
+    let too_many = version.n_highest + chance.between(1, 111);
+    let n = *chance.of(&[version.n_highest, too_many]);
+    draft.header.set("n", n);
     let mut bytes = draft.bytes();
-    let fullest = HEADER_BYTES as i128 + RECORD_BYTES as i128 * N_HIGHEST;
+    let fullest = version.sheet_bytes(version.n_highest);
     let length = match chance.below(4) {
         0 => fullest + 1,
-        1 => HEADER_BYTES as i128 + RECORD_BYTES as i128 * too_many,
-        2 => LONGEST_SHEET as i128,
-        _ => chance.between(fullest + 1, LONGEST_SHEET as i128),
+        1 => version.sheet_bytes(too_many),
+        2 => LONGEST_SHEET,
+        _ => chance.between(fullest as i128 + 1, LONGEST_SHEET as i128) as usize,
     };
-    let record = bytes[HEADER_BYTES..].to_vec();
-    while bytes.len() < length as usize {
+    let record = bytes[version.bytes..].to_vec();
+    while bytes.len() < length {
         bytes.extend_from_slice(&record);
     }
-    bytes.truncate(length as usize);
+    bytes.truncate(length);
     bytes
 }
 
@@ -48,7 +51,8 @@ fn longer_than_any(chance: &mut Chance) -> Vec<u8> {
 pub fn sheets(seed: u64) -> impl Iterator<Item = Vec<u8>> {
     let mut chance = Chance::new(seed);
     let mut edges = Edges::new();
-    std::iter::repeat_with(move || one(&mut chance, &mut edges))
+    let mut headers = Headers::new();
+    std::iter::repeat_with(move || one(&mut chance, &mut edges, &mut headers))
 }
 
 /// Case after case of edits, without end.
@@ -58,13 +62,13 @@ pub fn edit_cases(seed: u64) -> impl Iterator<Item = (Lent, Vec<Edit>)> {
     std::iter::repeat_with(move || edits::case(&mut chance, &mut faults))
 }
 
-fn one(chance: &mut Chance, edges: &mut Edges) -> Vec<u8> {
+fn one(chance: &mut Chance, edges: &mut Edges, headers: &mut Headers) -> Vec<u8> {
     match chance.below(1000) {
-        0..5 => sound(chance, N_HIGHEST).bytes(),
+        0..5 => full(chance).bytes(),
         5..7 => longer_than_any(chance),
         7..10 => {
             // A fault far back, so that its place is a great number.
-            let mut draft = sound(chance, N_HIGHEST);
+            let mut draft = full(chance);
             spoil::last_record(chance, &mut draft);
             draft.bytes()
         }
@@ -96,6 +100,7 @@ fn one(chance: &mut Chance, edges: &mut Edges) -> Vec<u8> {
             bytes
         }
         550..600 => edges.sheet(chance).bytes(),
+        600..660 => headers.sheet(chance),
         _ => {
             let n = chance.between(1, 12);
             sound(chance, n).bytes()

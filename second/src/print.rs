@@ -1,13 +1,13 @@
 //! The lines the document's program prints for one sheet.
 
 use crate::check::{check, Outcome, Verdict};
-use crate::form::VERDICT_BYTES;
-use crate::limits::N_HIGHEST;
+use crate::form::{RECORD_BYTES, VERDICT_BYTES};
 use crate::refusal::Refusal;
 
-/// Checks a sheet with room for the longest answer, so refusal 5 cannot arise.
+/// Checks a sheet with room for a verdict for each sixteen bytes of it, so refusal 5
+/// cannot arise.
 pub fn verdicts(sheet: &[u8]) -> Result<(Vec<Verdict>, Outcome), Refusal> {
-    let mut output = [0; VERDICT_BYTES * N_HIGHEST as usize];
+    let mut output = vec![0; sheet.len() / RECORD_BYTES * VERDICT_BYTES];
     let outcome = check(sheet, &mut output)?;
     let written = output.chunks(VERDICT_BYTES).take(outcome.n);
     Ok((written.map(Verdict::unpack).collect(), outcome))

@@ -147,7 +147,7 @@ fn plate_demands(header: &Header, plate: &Plate) -> [Demand; 3] {
     let L = header.L;
     let Plate { kind, K, S, T, .. } = *plate;
     let P = plate_pressure(header, plate).P;
-    let R = hull_stress(header);
+    let R = hull_stress(header, kind);
     let rule_3 = if kind == 1 || kind == 3 {
         let K2 = panel_factor(plate);
         Demand::new(3, T, T_HIGHEST, move |T| {

@@ -1,9 +1,10 @@
 //! What a sheet says once its fields are known to be allowed: the header, and
 //! records that carry plate data or member data, never both.
 
-use crate::form::{record_layout, Form, HEADER, HEADER_BYTES, MEMBER, PLATE, RECORD_NUMBERS};
-use crate::limits::{first_fault, in_header, in_record, VERSION};
+use crate::form::{record_layout, Form, MEMBER, PLATE, RECORD_NUMBERS};
+use crate::limits::{first_fault, in_header, in_record};
 use crate::refusal::Refusal;
+use crate::version::{Version, SHORTEST_HEADER};
 
 #[derive(Clone, Copy, Debug, PartialEq, Eq)]
 pub struct Header {
@@ -14,6 +15,15 @@ pub struct Header {
     pub M: i128,
     pub ZB: i128,
     pub n: i128,
+    pub own: Own,
+}
+
+/// What a header has beyond the fields that all versions share: the fields of its
+/// own version, and no others.
+#[derive(Clone, Copy, Debug, PartialEq, Eq)]
+pub enum Own {
+    Version1,
+    Version2 { ZDB: i128, depth: i128 },
 }
 
 #[derive(Clone, Copy, Debug, PartialEq, Eq)]
@@ -64,13 +74,31 @@ impl Header {
             M: form.get("M"),
             ZB: form.get("ZB"),
             n: form.get("n"),
+            own: Own::of(form),
+        }
+    }
+
+    pub fn version(&self) -> &'static Version {
+        let number = match self.own {
+            Own::Version1 => 1,
+            Own::Version2 { .. } => 2,
+        };
+        Version::numbered(number).expect("a version of the table")
+    }
+
+    /// The modulus at the inner bottom: that at the bottom, in a version without it.
+    pub fn ZDB(&self) -> i128 {
+        match self.own {
+            Own::Version1 => self.ZB,
+            Own::Version2 { ZDB, .. } => ZDB,
         }
     }
 
     /// The form it was taken from.
     pub fn form(&self) -> Form {
+        let version = self.version();
         let fields = [
-            ("version", VERSION),
+            ("version", version.number),
             ("L", self.L),
             ("D0", self.D0),
             ("H", self.H),
@@ -79,7 +107,25 @@ impl Header {
             ("ZB", self.ZB),
             ("n", self.n),
         ];
-        Form::filled(HEADER, &fields)
+        let mut form = Form::filled(version.layout, &fields);
+        match self.own {
+            Own::Version1 => {}
+            Own::Version2 { ZDB, depth } => form.fill(&[("ZDB", ZDB), ("depth", depth)]),
+        }
+        form
+    }
+}
+
+impl Own {
+    fn of(form: &Form) -> Own {
+        match Version::of(form).number {
+            1 => Own::Version1,
+            2 => Own::Version2 {
+                ZDB: form.get("ZDB"),
+                depth: form.get("depth"),
+            },
+            number => panic!("no header of version {number}"),
+        }
     }
 }
 
@@ -167,16 +213,26 @@ impl Record {
     }
 }
 
+/// The version of the header at the start of `sheet`, if the whole of it is there:
+/// refusals 1 and 2, and 1 again where the version has a longer header.
+fn version_of(sheet: &[u8]) -> Result<&'static Version, Refusal> {
+    let too_short = Err(Refusal::new(1, 0));
+    if sheet.len() < SHORTEST_HEADER {
+        return too_short;
+    }
+    let Some(version) = Version::numbered(i128::from(sheet[0] >> 4)) else {
+        return Err(Refusal::new(2, 0));
+    };
+    if sheet.len() < version.bytes {
+        return too_short;
+    }
+    Ok(version)
+}
+
 /// Reads the header at the start of `sheet`: refusals 1, 2 and 3.
 pub fn read_header(sheet: &[u8]) -> Result<Header, Refusal> {
-    if sheet.len() < HEADER_BYTES {
-        return Err(Refusal::new(1, 0));
-    }
-    let form = Form::unpack(HEADER, sheet);
-    if form.get("version") != VERSION {
-        return Err(Refusal::new(2, 0));
-    }
-    match first_fault(&form, in_header) {
+    let form = Form::unpack(version_of(sheet)?.layout, sheet);
+    match first_fault(&form, |name| in_header(&form, name)) {
         Some(field) => Err(Refusal::new(3, field)),
         None => Ok(Header::of(&form)),
     }

@@ -1,14 +1,32 @@
 //! A count of what came up in a stream, so that a comparison can be shown to
-//! have visited every rule, every source and every refusal, not only many sheets.
+//! have visited every rule, every source, every version and every refusal, not only
+//! many sheets.
+
+mod moduli;
 
 use crate::check::{read_all, Verdict};
+use crate::header_case::{all, found, HeaderCase};
 use crate::loads::{plate_loads, CARGO, SEA};
 use crate::print::verdicts;
-use crate::sheet::Record;
+use crate::refusal::Refusal;
+use crate::sheet::{Header, Plate, Record};
 use crate::stream::{pieces, Piece};
+use crate::version::{Version, VERSIONS};
+use moduli::Moduli;
+use std::collections::BTreeMap;
 
 /// A row that must come up "hundreds of times" comes up at least so often.
 pub const HUNDREDS: usize = 200;
+
+/// A row that must do so in each version has its share there.
+const SHARE: usize = HUNDREDS / VERSIONS.len();
+
+/// Each case of a header, or of a plate at an edge, comes up at least so often.
+pub const EACH: usize = 5;
+
+/// The refusals that a sheet of either version must meet with. 1 and 2 come up by
+/// their cases: of a short or unknown header there is no version.
+const IN_EACH_VERSION: [usize; 5] = [3, 4, 6, 7, 8];
 
 #[derive(Default)]
 pub struct Tally {
@@ -26,6 +44,10 @@ pub struct Tally {
     pub ties: [usize; 4],
     /// By refusal number (row 0 unused).
     pub refusals: [usize; 9],
+    /// By version and refusal number; those with number 0 are judged.
+    pub by_version: BTreeMap<(i128, usize), usize>,
+    pub moduli: Moduli,
+    pub headers: BTreeMap<HeaderCase, usize>,
     pub broken: bool,
 }
 
@@ -43,14 +65,27 @@ impl Tally {
 
     fn count(&mut self, sheet: &[u8]) {
         self.sheets += 1;
-        match verdicts(sheet) {
+        let answer = verdicts(sheet);
+        self.header(sheet, answer.as_ref().err().copied());
+        match answer {
             Err(refusal) => self.refusals[refusal.number] += 1,
             Ok((verdicts, outcome)) => {
                 self.judged += 1;
                 self.records += outcome.n;
                 verdicts.iter().for_each(|verdict| self.judgement(verdict));
-                self.even_loads(sheet);
+                self.plates(sheet);
             }
+        }
+    }
+
+    fn header(&mut self, sheet: &[u8], refusal: Option<Refusal>) {
+        for case in found(sheet, refusal) {
+            *self.headers.entry(case).or_default() += 1;
+        }
+        if let Some(first) = sheet.first() {
+            let number = refusal.map_or(0, |refusal| refusal.number);
+            let row = (i128::from(first >> 4), number);
+            *self.by_version.entry(row).or_default() += 1;
         }
     }
 
@@ -68,18 +103,33 @@ impl Tally {
         sources[verdict.source as usize] += 1;
     }
 
-    fn even_loads(&mut self, sheet: &[u8]) {
+    fn plates(&mut self, sheet: &[u8]) {
         let (header, records) = read_all(sheet, usize::MAX).expect("a sheet that was judged");
         for record in &records {
-            let Record::Plate(plate) = record else {
-                continue;
-            };
-            if let [other, ballast] = plate_loads(&header, plate)[..] {
-                if other.P == ballast.P {
-                    self.ties[other.source as usize] += 1;
-                }
+            if let Record::Plate(plate) = record {
+                self.even_loads(&header, plate);
+                self.moduli.count(&header, plate);
             }
         }
+    }
+
+    fn even_loads(&mut self, header: &Header, plate: &Plate) {
+        if let [other, ballast] = plate_loads(header, plate)[..] {
+            if other.P == ballast.P {
+                self.ties[other.source as usize] += 1;
+            }
+        }
+    }
+
+    fn of_version(&self, version: i128, number: usize) -> usize {
+        self.by_version
+            .get(&(version, number))
+            .copied()
+            .unwrap_or(0)
+    }
+
+    fn of_case(&self, case: &HeaderCase) -> usize {
+        self.headers.get(case).copied().unwrap_or(0)
     }
 
     pub fn table(&self) -> String {
@@ -110,14 +160,31 @@ impl Tally {
                 self.refusals[number]
             ));
         }
+        for version in VERSIONS {
+            let of = |number| self.of_version(version.number, number);
+            let refused = IN_EACH_VERSION.map(|number| format!("{number}: {}", of(number)));
+            lines.push(format!(
+                "version {}: judged {}, refused by {}",
+                version.number,
+                of(0),
+                refused.join(", ")
+            ));
+        }
+        lines.extend(self.moduli.lines());
+        let cases = all();
+        let least = cases.iter().map(|case| self.of_case(case)).min();
+        lines.push(format!(
+            "cases of a header {}, each at least {} times",
+            cases.len(),
+            least.unwrap_or(0)
+        ));
         lines.join("\n") + "\n"
     }
 
-    /// The rows that must come up hundreds of times and do not. Rules 1 and 4
-    /// always have a number in the gauge, ballast is never just as great as the sea
-    /// above the draught, and refusal 5 needs a short output, which the commands
-    /// never lend.
-    pub fn scarce_rows(&self) -> Vec<String> {
+    /// The rows that must come up hundreds of times. Rules 1 and 4 always have a number
+    /// in the gauge, ballast is never just as great as the sea above the draught, and
+    /// refusal 5 needs a short output, which the commands never lend.
+    fn rows(&self) -> Vec<(String, usize)> {
         let mut rows = vec![("pass".to_string(), self.passes)];
         for rule in 1..=6 {
             rows.push((format!("rule {rule} with a number"), self.with_number[rule]));
@@ -139,9 +206,54 @@ impl Tally {
         for number in [1, 2, 3, 4, 6, 7, 8] {
             rows.push((format!("refusal {number}"), self.refusals[number]));
         }
-        let scarce = rows.into_iter().filter(|row| row.1 < HUNDREDS);
-        scarce
-            .map(|(name, count)| format!("{name}: only {count}"))
+        for kind in 1..=4 {
+            let name = |does: &str| format!("kind {kind} {does} by its own modulus alone");
+            rows.push((name("passes"), self.moduli.passes_by_own[kind]));
+            rows.push((name("fails"), self.moduli.fails_by_own[kind]));
+        }
+        rows
+    }
+
+    /// The rows that must come up in each version.
+    fn rows_by_version(&self) -> Vec<(String, usize)> {
+        let mut rows = Vec::new();
+        for Version { number, .. } in VERSIONS {
+            let of = |refusal| self.of_version(*number, refusal);
+            rows.push((format!("version {number} judged"), of(0)));
+            for refusal in IN_EACH_VERSION {
+                rows.push((
+                    format!("version {number} refused by {refusal}"),
+                    of(refusal),
+                ));
+            }
+        }
+        rows
+    }
+
+    /// The cases that come up one by one: a header's, and plates at the edge of rule 3
+    /// by the one of two moduli that is theirs.
+    fn cases(&self) -> Vec<(String, usize)> {
+        let headers = all().into_iter();
+        let headers = headers.map(|case| (format!("{case:?}"), self.of_case(&case)));
+        let plates = (1..=4).flat_map(|kind| {
+            let name = |does: &str| format!("kind {kind} just {does} by its own modulus");
+            [
+                (name("passes"), self.moduli.just_passes[kind]),
+                (name("fails"), self.moduli.just_fails[kind]),
+            ]
+        });
+        headers.chain(plates).collect()
+    }
+
+    /// The rows that do not come up often enough.
+    pub fn scarce_rows(&self) -> Vec<String> {
+        let under = |rows: Vec<(String, usize)>, least| {
+            let scarce = rows.into_iter().filter(move |row| row.1 < least);
+            scarce.map(|(name, count)| format!("{name}: only {count}"))
+        };
+        under(self.rows(), HUNDREDS)
+            .chain(under(self.rows_by_version(), SHARE))
+            .chain(under(self.cases(), EACH))
             .collect()
     }
 }

@@ -3,19 +3,22 @@
 
 use crate::edit::{read_sheet, Edit};
 use crate::edit_stream::{parts, Lent, Part};
-use crate::limits::N_HIGHEST;
+use crate::form::RECORD_BYTES;
+use crate::refusal::Refusal;
+use crate::version::{Version, SHORTEST_HEADER, VERSIONS};
 use std::collections::BTreeMap;
 
 /// A row that must come up does so at least so often.
 pub const ENOUGH: usize = 30;
 
-/// The rows that must come up, in the order of the table.
-pub const ROWS: [&str; 15] = [
+/// A row that must come up in each version has its share there.
+const SHARE: usize = ENOUGH / VERSIONS.len();
+
+/// The rows that must come up in each version, in the order of the table.
+pub const IN_EACH_VERSION: [&str; 13] = [
     "replaced",
     "inserted",
     "removed",
-    "1 the stated length",
-    "2 on the sheet",
     "3 on the sheet",
     "4 on the sheet",
     "6 on the sheet",
@@ -28,14 +31,24 @@ pub const ROWS: [&str; 15] = [
     "11 for the count",
 ];
 
+/// The rows that must come up whatever the version: it is not looked at, not known, or
+/// has a longer header than the others.
+pub const IN_ANY_VERSION: [&str; 4] = [
+    "1 past the buffer",
+    "1 under twelve bytes",
+    "1 under its header",
+    "2 on the sheet",
+];
+
 /// Neither the buffer nor the count has room: 11 says nothing of either alone.
-const BOTH: &str = "11 for both";
+pub const BOTH: &str = "11 for both";
 
 #[derive(Default)]
 pub struct EditTally {
     pub cases: usize,
     pub edits: usize,
-    pub rows: BTreeMap<String, usize>,
+    /// By name and version; 0 stands for whatever version.
+    pub rows: BTreeMap<(String, i128), usize>,
     pub broken: bool,
 }
 
@@ -62,52 +75,87 @@ impl EditTally {
         *self.rows.entry(row).or_default() += 1;
     }
 
-    pub fn row(&self, name: &str) -> usize {
-        self.rows.get(name).copied().unwrap_or(0)
+    pub fn row(&self, name: &str, version: i128) -> usize {
+        let row = (name.to_string(), version);
+        self.rows.get(&row).copied().unwrap_or(0)
     }
 
     pub fn table(&self) -> String {
+        let versions = VERSIONS.iter().map(|version| version.number);
+        let heads = versions.clone().map(|version| format!("{version:>8}"));
         let mut lines = vec![
             format!("cases                {:>8}", self.cases),
             format!("edits                {:>8}", self.edits),
         ];
-        for name in ROWS.iter().chain(&[BOTH]) {
-            lines.push(format!("  {name:<19}{:>8}", self.row(name)));
+        for name in IN_ANY_VERSION {
+            lines.push(format!("  {name:<21}{:>6}", self.row(name, 0)));
+        }
+        lines.push(format!(
+            "  in version         {}",
+            heads.collect::<String>()
+        ));
+        for name in IN_EACH_VERSION.iter().chain(&[BOTH]) {
+            let counts = versions
+                .clone()
+                .map(|version| format!("{:>8}", self.row(name, version)));
+            lines.push(format!("  {name:<19}{}", counts.collect::<String>()));
         }
         lines.join("\n") + "\n"
     }
 
     pub fn scarce_rows(&self) -> Vec<String> {
-        let scarce = ROWS.iter().filter(|name| self.row(name) < ENOUGH);
-        scarce
-            .map(|name| format!("{name}: only {}", self.row(name)))
-            .collect()
+        let in_any = IN_ANY_VERSION.iter().filter_map(|name| {
+            let count = self.row(name, 0);
+            (count < ENOUGH).then(|| format!("{name}: only {count}"))
+        });
+        let in_each = VERSIONS.iter().flat_map(|Version { number, .. }| {
+            IN_EACH_VERSION.iter().filter_map(move |name| {
+                let count = self.row(name, *number);
+                (count < SHARE).then(|| format!("{name} in version {number}: only {count}"))
+            })
+        });
+        in_any.chain(in_each).collect()
     }
 }
 
-/// Does the edit and names the row it belongs to.
-fn outcome(lent: &mut Lent, edit: &Edit) -> String {
+/// Does the edit and names the row it belongs to, with its version.
+fn outcome(lent: &mut Lent, edit: &Edit) -> (String, i128) {
     let before = lent.clone();
-    let refusal = match (lent.edit(edit), edit) {
-        (Ok(_), Edit::Remove(_)) => return "removed".to_string(),
-        (Ok(length), Edit::Put(_)) if length == before.length => return "replaced".to_string(),
-        (Ok(_), Edit::Put(_)) => return "inserted".to_string(),
-        (Err(refusal), _) => refusal,
+    let done = lent.edit(edit);
+    let header = match read_sheet(&before.buffer, before.length) {
+        Ok((header, _)) => header,
+        Err(refusal) => return of_the_sheet(&before, refusal),
     };
-    let number = refusal.number;
-    let Ok((header, _)) = read_sheet(&before.buffer, before.length) else {
-        return match number {
-            1 => "1 the stated length".to_string(),
-            _ => format!("{number} on the sheet"),
-        };
+    let buffer_is_full = before.length + RECORD_BYTES > before.buffer.len();
+    let count_is_full = header.n == header.version().n_highest;
+    let name = match (done.map_err(|refusal| refusal.number), edit) {
+        (Ok(_), Edit::Remove(_)) => "removed",
+        (Ok(length), Edit::Put(_)) if length == before.length => "replaced",
+        (Ok(_), Edit::Put(_)) => "inserted",
+        (Err(10), _) => "10 id not there",
+        (Err(11), _) => match (buffer_is_full, count_is_full) {
+            (true, false) => "11 for the buffer",
+            (false, true) => "11 for the count",
+            _ => BOTH,
+        },
+        (Err(6), _) => "6 on the new record",
+        (Err(_), _) => "7 on the new record",
     };
-    let buffer_is_full = before.length + 16 > before.buffer.len();
-    let row = match (number, buffer_is_full, header.n == N_HIGHEST) {
-        (10, _, _) => "10 id not there",
-        (11, true, false) => "11 for the buffer",
-        (11, false, true) => "11 for the count",
-        (11, true, true) => BOTH,
-        _ => return format!("{number} on the new record"),
+    (name.to_string(), header.version().number)
+}
+
+/// The row of a sheet that is turned away before anything is edited.
+fn of_the_sheet(lent: &Lent, refusal: Refusal) -> (String, i128) {
+    let Lent { buffer, length } = lent;
+    let name = match refusal.number {
+        1 if *length > buffer.len() => "1 past the buffer",
+        1 if *length < SHORTEST_HEADER => "1 under twelve bytes",
+        1 => "1 under its header",
+        2 => "2 on the sheet",
+        number => {
+            let version = i128::from(buffer[0] >> 4);
+            return (format!("{number} on the sheet"), version);
+        }
     };
-    row.to_string()
+    (name.to_string(), 0)
 }

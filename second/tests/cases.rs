@@ -5,11 +5,12 @@
 
 mod common;
 
-use common::{member, plate, required, sheet, vessel_v, with};
+use common::{member, plate, required, sheet, vessel_v, vessel_v2, vessels, with};
 use second::form::Form;
 use second::loads;
 use second::print::answer;
 use second::sheet::{Header, Plate, Record};
+use std::slice;
 
 fn sea(header: &Form, z: i128) -> i128 {
     loads::sea(&Header::of(header), z).P
@@ -141,7 +142,9 @@ fn passes_print_zeros_and_an_empty_sheet_is_accepted() {
     );
     let full = sheet(&vessel_v(), &[bottom, longitudinal]);
     assert_eq!(answer(&full), "7 0 0 0\n12 0 0 0\n2 0\n");
-    assert_eq!(answer(&sheet(&vessel_v(), &[])), "0 0\n");
+    for v in vessels() {
+        assert_eq!(answer(&sheet(&v, &[])), "0 0\n");
+    }
 }
 
 #[test]
@@ -180,14 +183,26 @@ fn two_runs_round_the_half_up() {
     assert_eq!(pressure(&one_run, &member(7)), 98_100 * 251 + 3_001_860);
 }
 
+/// By ZB in version 1 whatever the kind, and in version 2 by ZB on the bottom and by
+/// ZDB on the inner bottom.
 #[test]
 fn hull_stress_rounds_up() {
-    let stress =
-        |M, ZB| loads::hull_stress(&Header::of(&with(&vessel_v(), &[("M", M), ("ZB", ZB)])));
-    assert_eq!(stress(0, 1), 0);
-    assert_eq!(stress(1, 100_000_000), 1);
-    assert_eq!(stress(1_000_000, 1), 1_000_000_000_000);
-    assert_eq!(stress(20_000, 200_000), 100_000);
+    let stress = |header: Form, kind| loads::hull_stress(&Header::of(&header), kind);
+    for (M, modulus, R) in [
+        (0, 1, 0),
+        (1, 100_000_000, 1),
+        (1_000_000, 1, 1_000_000_000_000),
+        (20_000, 200_000, 100_000),
+        (20_000, 300_000, 66_667),
+    ] {
+        let fields = |name| [("M", M), (name, modulus)];
+        for kind in 1..=4 {
+            assert_eq!(stress(with(&vessel_v(), &fields("ZB")), kind), R);
+        }
+        for (kind, name) in [(1, "ZB"), (2, "ZB"), (3, "ZDB"), (4, "ZDB")] {
+            assert_eq!(stress(with(&vessel_v2(), &fields(name)), kind), R);
+        }
+    }
 }
 
 #[test]
@@ -198,6 +213,90 @@ fn second_form_of_rule_3_is_for_the_bottom_only() {
     // 25 T2 1040^2 >= 1156 x 500^2 x 210,000 and 10^8 T2 >= 1521 x 500^2 x 210,000
     assert_eq!(required(&v, &plate(3))[2], Some(1499));
     assert_eq!(required(&v, &plate(4))[2], Some(894));
+    // Nor by a modulus of its own, beside a bottom under R 2100 alone.
+    let own = [("M", 210_000), ("ZB", 100_000_000), ("ZDB", 1_000_000)];
+    let v = with(&vessel_v2(), &own);
+    let rule_3 = [1, 2, 3, 4].map(|kind| required(&v, &plate(kind))[2]);
+    assert_eq!(rule_3, [150, 90, 1499, 894].map(Some));
+}
+
+/// R 25,000 by ZDB 800,000 and 400,000 by ZDB 50,000, where ZB gives 100,000. Kind 3:
+/// T2 >= 10.6879 R; kind 4: T2 >= 3.8025 R.
+#[test]
+fn the_inner_bottom_answers_to_its_own_modulus() {
+    let rule_3 = |v: &Form, kind| required(v, &plate(kind))[2];
+    for (ZDB, kind_3, kind_4) in [
+        (800_000, 517, 309),
+        (200_000, 1034, 617),
+        (50_000, 2068, 1234),
+    ] {
+        let v = with(&vessel_v2(), &[("ZDB", ZDB)]);
+        let found = [1, 2, 3, 4].map(|kind| rule_3(&v, kind));
+        assert_eq!(found, [1034, 617, kind_3, kind_4].map(Some));
+        // The depth moves nothing.
+        let deeper = with(&v, &[("depth", 1000)]);
+        assert_eq!([1, 2, 3, 4].map(|kind| rule_3(&deeper, kind)), found);
+    }
+    // In version 1 it has no other one than the bottom.
+    let found = [1, 2, 3, 4].map(|kind| rule_3(&vessel_v(), kind));
+    assert_eq!(found, [1034, 617, 1034, 617].map(Some));
+}
+
+/// R 10,000 is met exactly, with S 1000, by 390 (kinds 2 and 4) and, with K2 2000, by
+/// 340 (kinds 1 and 3); R 10,001, by a modulus one less, asks for one more.
+#[test]
+fn rule_3_at_equality_by_either_modulus() {
+    let whole = [("M", 10_000), ("ZB", 1_000_000), ("ZDB", 1_000_000)];
+    let v = with(&vessel_v2(), &whole);
+    let rule_3 = |v: &Form| {
+        [1, 2, 3, 4].map(|kind| {
+            let b = kind % 2 * 70;
+            let wide = [("S", 1000), ("b1", b), ("b2", b)];
+            required(v, &with(&plate(kind), &wide))[2].expect("a number")
+        })
+    };
+    assert_eq!(rule_3(&v), [340, 390, 340, 390]);
+    let less = |name| with(&v, &[(name, 999_999)]);
+    assert_eq!(rule_3(&less("ZB")), [341, 391, 340, 390]);
+    assert_eq!(rule_3(&less("ZDB")), [340, 390, 341, 391]);
+}
+
+/// The plates of cases 4 and 9, at what their rules need by their own modulus and one
+/// less: by the other modulus each would be answered otherwise.
+#[test]
+fn a_sheet_of_version_2() {
+    let plates = |bottom, inner| {
+        let bottom = with(&plate(2), &[("T", bottom)]);
+        let inner = [("id", 2), ("cargo", 30_000), ("T", inner)];
+        [bottom, with(&plate(4), &inner)]
+    };
+    let said = |ZDB, bottom, inner| {
+        let v = with(&vessel_v2(), &[("ZDB", ZDB)]);
+        answer(&sheet(&v, &plates(bottom, inner)))
+    };
+    // Rule 1 asks 458 of the inner bottom plate, rule 3 309 and 1234.
+    assert_eq!(said(800_000, 617, 458), "1 0 0 0\n2 0 0 3\n2 0\n");
+    assert_eq!(said(800_000, 616, 457), "1 3 617 0\n2 1 458 3\n2 2\n");
+    assert_eq!(said(50_000, 617, 1234), "1 0 0 0\n2 0 0 3\n2 0\n");
+    assert_eq!(said(50_000, 617, 1233), "1 0 0 0\n2 3 1234 3\n2 1\n");
+    let v1 = answer(&sheet(&vessel_v(), &plates(617, 616)));
+    assert_eq!(v1, "1 0 0 0\n2 3 617 3\n2 1\n");
+}
+
+/// With ZDB as great as ZB a sheet of version 2 is answered as the same in version 1.
+#[test]
+fn with_equal_moduli_the_version_does_not_show() {
+    let v2 = with(&vessel_v2(), &[("ZDB", 200_000)]);
+    let mut records: Vec<Form> = (1..=4).map(plate).collect();
+    records.extend((5..=8).map(member));
+    for T in [1, 308, 458, 616, 617, 1033, 1034, 4000] {
+        for record in &records {
+            let record = with(record, &[("T", T)]);
+            let [one, two] = [vessel_v(), v2.clone()].map(|v| sheet(&v, slice::from_ref(&record)));
+            assert_eq!(answer(&one), answer(&two));
+            assert_eq!(one.len() + 8, two.len());
+        }
+    }
 }
 
 #[test]

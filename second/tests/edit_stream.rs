@@ -8,7 +8,7 @@ use second::edit_stream::{answer, framed, parts, Lent, Part};
 use second::form::MEMBER;
 use second::make::edit_cases;
 use second::refusal::Refusal;
-use second::tally_edits::{EditTally, ROWS};
+use second::tally_edits::{EditTally, BOTH, IN_ANY_VERSION, IN_EACH_VERSION};
 use std::collections::BTreeSet;
 
 /// Each part in a word: the size of a case's buffer, an edit's id, or a break.
@@ -120,8 +120,10 @@ fn three_thousand_cases_bring_up_every_row() {
     assert_eq!(tally.cases, 3000);
     assert!(!tally.broken);
     assert_eq!(tally.scarce_rows(), Vec::<String>::new());
-    let named: usize = ROWS.iter().map(|row| tally.row(row)).sum();
-    assert_eq!(tally.edits, named + tally.row("11 for both"));
+    let in_any = IN_ANY_VERSION.iter().map(|row| tally.row(row, 0));
+    let in_each = IN_EACH_VERSION.iter().chain(&[BOTH]);
+    let in_each = in_each.flat_map(|row| [1, 2].map(|version| tally.row(row, version)));
+    assert_eq!(tally.edits, in_any.chain(in_each).sum());
     assert!(!EditTally::of(&stream(7, 60)).scarce_rows().is_empty());
 }
 

@@ -2,12 +2,13 @@
 
 mod common;
 
-use common::{member, numbers, plate, sheet, vessel_v, with};
+use common::{header_bytes, member, numbers, plate, sheet, vessel_v, vessel_v2, vessels, with};
 use second::edit::{edit, read_sheet, Edit};
 use second::edit_stream::Lent;
-use second::form::{Form, HEADER_BYTES, RECORD_BYTES};
+use second::form::{Form, RECORD_BYTES};
 use second::limits::in_record;
 use second::make::edit_cases;
+use second::version::{Version, VERSIONS};
 use std::collections::BTreeMap;
 
 /// What the room behind a sheet holds before it is used.
@@ -28,13 +29,14 @@ fn with_id(record: &Form, id: i128) -> Form {
     with(record, &[("id", id)])
 }
 
-/// Vessel V with plates and members of these ids in turn.
+/// Plates and members of these ids in turn.
 fn records(ids: &[i128]) -> Vec<Form> {
     let kinds = [plate(2), member(5), plate(3), member(6)];
     let pairs = ids.iter().zip(kinds.iter().cycle());
     pairs.map(|(id, record)| with_id(record, *id)).collect()
 }
 
+/// Vessel V with them.
 fn v(ids: &[i128]) -> Vec<u8> {
     sheet(&vessel_v(), &records(ids))
 }
@@ -54,17 +56,20 @@ fn both_edits() -> [Edit; 2] {
 #[test]
 fn a_replacement_changes_its_own_sixteen_bytes_only() {
     let ids = [10, 20, 30, 1000];
-    for (index, id) in ids.iter().enumerate() {
-        for new in [with_id(&member(7), *id), with_id(&plate(1), *id)] {
-            for room in [0, 5, 16, 40] {
-                let before = lend(&v(&ids), room);
-                let mut after = before.clone();
-                assert_eq!(after.edit(&put(&new)), Ok(before.length));
-                let mut expected = before.clone();
-                let start = HEADER_BYTES + RECORD_BYTES * index;
-                expected.buffer[start..start + RECORD_BYTES].copy_from_slice(&new.pack());
-                assert_eq!(after, expected);
-                assert_ne!(after, before);
+    for v in vessels() {
+        let whole = sheet(&v, &records(&ids));
+        for (index, id) in ids.iter().enumerate() {
+            for new in [with_id(&member(7), *id), with_id(&plate(1), *id)] {
+                for room in [0, 5, 16, 40] {
+                    let before = lend(&whole, room);
+                    let mut after = before.clone();
+                    assert_eq!(after.edit(&put(&new)), Ok(before.length));
+                    let mut expected = before.clone();
+                    let start = header_bytes(&v) + RECORD_BYTES * index;
+                    expected.buffer[start..start + RECORD_BYTES].copy_from_slice(&new.pack());
+                    assert_eq!(after, expected);
+                    assert_ne!(after, before);
+                }
             }
         }
     }
@@ -73,51 +78,76 @@ fn a_replacement_changes_its_own_sixteen_bytes_only() {
 #[test]
 fn an_insertion_goes_in_at_its_place() {
     let ids = [10, 20, 30];
-    for (new, index) in [(1, 0), (9, 0), (11, 1), (29, 2), (31, 3), (1000, 3)] {
-        let mut all = records(&ids);
-        let record = with_id(&member(8), new);
-        all.insert(index, record.clone());
-        let expected = lend(&sheet(&vessel_v(), &all), 9);
-        let mut lent = lend(&v(&ids), RECORD_BYTES + 9);
-        assert_eq!(lent.edit(&put(&record)), Ok(12 + 16 * 4));
-        assert_eq!(lent, expected, "id {new}");
+    for v in vessels() {
+        for (new, index) in [(1, 0), (9, 0), (11, 1), (29, 2), (31, 3), (1000, 3)] {
+            let mut all = records(&ids);
+            let record = with_id(&member(8), new);
+            all.insert(index, record.clone());
+            let expected = lend(&sheet(&v, &all), 9);
+            let mut lent = lend(&sheet(&v, &records(&ids)), RECORD_BYTES + 9);
+            let length = header_bytes(&v) + 16 * 4;
+            assert_eq!(lent.edit(&put(&record)), Ok(length));
+            assert_eq!(lent, expected, "id {new}");
+        }
+        let mut lent = lend(&sheet(&v, &[]), 16);
+        assert_eq!(lent.edit(&put(&plate(4))), Ok(header_bytes(&v) + 16));
+        assert_eq!(lent.buffer, sheet(&v, &[plate(4)]));
     }
-    let mut lent = lend(&v(&[]), 16);
-    assert_eq!(lent.edit(&put(&plate(4))), Ok(28));
-    assert_eq!(lent.buffer, sheet(&vessel_v(), &[plate(4)]));
 }
 
 #[test]
 fn a_removal_closes_the_gap_and_zeroes_what_it_frees() {
     let ids = [10, 20, 30];
-    for index in 0..3 {
-        let mut left = records(&ids);
-        left.remove(index);
-        let mut expected = sheet(&vessel_v(), &left);
-        expected.extend([0; RECORD_BYTES]);
-        expected.extend([LENT; 9]);
-        let mut lent = lend(&v(&ids), 9);
-        let outcome = lent.edit(&Edit::Remove(ids[index] as u32));
-        assert_eq!(outcome, Ok(12 + 16 * 2));
-        assert_eq!(lent.buffer, expected);
+    for v in vessels() {
+        for index in 0..3 {
+            let mut left = records(&ids);
+            left.remove(index);
+            let mut expected = sheet(&v, &left);
+            expected.extend([0; RECORD_BYTES]);
+            expected.extend([LENT; 9]);
+            let mut lent = lend(&sheet(&v, &records(&ids)), 9);
+            let outcome = lent.edit(&Edit::Remove(ids[index] as u32));
+            assert_eq!(outcome, Ok(header_bytes(&v) + 16 * 2));
+            assert_eq!(lent.buffer, expected);
+        }
+        let mut lent = lend(&sheet(&v, &records(&[7])), 0);
+        assert_eq!(lent.edit(&Edit::Remove(7)), Ok(header_bytes(&v)));
+        assert_eq!(lent.buffer, [sheet(&v, &[]), vec![0; 16]].concat());
     }
-    let mut lent = lend(&v(&[7]), 0);
-    assert_eq!(lent.edit(&Edit::Remove(7)), Ok(12));
-    assert_eq!(lent.buffer, [v(&[]), vec![0; 16]].concat());
+}
+
+/// A header of version 2 before and after, byte by byte: the count's bits alone differ.
+#[test]
+fn the_header_keeps_its_version_and_its_own_fields() {
+    let before = [
+        0x27, 0xd0, 0x0f, 0xa3, 0xc0, 0x27, 0x10, 0x00, 0x30, 0xd4, 0x00, 0x00, 0x01, 0x86, 0xa0,
+        0x09, 0x60, 0x00, 0x00, 0x00,
+    ];
+    let mut after = before;
+    after[11] = 0x08;
+    assert_eq!(sheet(&vessel_v2(), &[]), before);
+    let mut lent = lend(&before, 16);
+    assert_eq!(lent.edit(&put(&plate(3))), Ok(36));
+    assert_eq!(lent.buffer, [&after[..], &plate(3).pack()].concat());
+    assert_eq!(lent.edit(&Edit::Remove(1)), Ok(20));
+    assert_eq!(lent.buffer, [&before[..], &[0; 16]].concat());
 }
 
 /// Also where the sheet fills its buffer, as the freed bytes are used again.
 #[test]
 fn the_next_insertion_uses_the_freed_bytes() {
-    let mut lent = lend(&v(&[10, 20, 30]), 0);
-    let new = with_id(&plate(2), 40);
-    assert_eq!(refused(&lent, &put(&new)), Some((11, 0)));
-    assert_eq!(lent.edit(&Edit::Remove(10)), Ok(12 + 16 * 2));
-    assert_eq!(lent.edit(&put(&new)), Ok(12 + 16 * 3));
-    let mut left = records(&[10, 20, 30]);
-    left.remove(0);
-    left.push(new);
-    assert_eq!(lent.buffer, sheet(&vessel_v(), &left));
+    for v in vessels() {
+        let mut lent = lend(&sheet(&v, &records(&[10, 20, 30])), 0);
+        let new = with_id(&plate(2), 40);
+        let header = header_bytes(&v);
+        assert_eq!(refused(&lent, &put(&new)), Some((11, 0)));
+        assert_eq!(lent.edit(&Edit::Remove(10)), Ok(header + 16 * 2));
+        assert_eq!(lent.edit(&put(&new)), Ok(header + 16 * 3));
+        let mut left = records(&[10, 20, 30]);
+        left.remove(0);
+        left.push(new);
+        assert_eq!(lent.buffer, sheet(&v, &left));
+    }
 }
 
 #[test]
@@ -167,13 +197,23 @@ fn number_1_when_the_stated_length_exceeds_the_buffer() {
     }
 }
 
+/// Also where the buffer has the rest of the header.
 #[test]
-fn number_1_when_the_stated_length_is_under_twelve() {
+fn number_1_when_the_stated_length_is_under_the_header() {
     for edit in both_edits() {
-        for length in 0..12 {
-            let mut lent = lend(&v(&[]), 16);
+        for (v, bytes) in [(vessel_v(), 12), (vessel_v2(), 20)] {
+            for length in 0..bytes {
+                let mut lent = lend(&sheet(&v, &[]), 16);
+                lent.length = length;
+                assert_eq!(refused(&lent, &edit), Some((1, 0)));
+            }
+        }
+        // Of a version that is not there, 2 from twelve bytes on.
+        let mut lent = lend(&sheet(&with(&vessel_v2(), &[("version", 3)]), &[]), 16);
+        for length in 0..20 {
             lent.length = length;
-            assert_eq!(refused(&lent, &edit), Some((1, 0)));
+            let number = if length < 12 { 1 } else { 2 };
+            assert_eq!(refused(&lent, &edit), Some((number, 0)));
         }
     }
 }
@@ -188,13 +228,20 @@ fn the_sheet_is_turned_away_first() {
         sheet(&vessel_v(), &all)
     };
     let header = |field: (&str, i128)| sheet(&with(&vessel_v(), &[field]), &records(&[10]));
+    let header_2 = |field: (&str, i128)| sheet(&with(&vessel_v2(), &[field]), &records(&[10]));
     let mut long = v(&[10, 20]);
     long.push(0);
     let faults = [
-        (header(("version", 2)), (2, 0)),
+        (header(("version", 3)), (2, 0)),
+        (header_2(("version", 0)), (2, 0)),
         (header(("L", 3999)), (3, 2)),
         (header(("zero", 1)), (3, 9)),
+        (header_2(("zero", 4)), (3, 9)),
+        (header_2(("ZDB", 0)), (3, 10)),
+        (header_2(("depth", 99)), (3, 11)),
+        (header_2(("last_zero", 1)), (3, 12)),
         (long, (4, 0)),
+        (header_2(("n", 1))[..28].to_vec(), (4, 0)),
         (v(&[10, 20])[..28].to_vec(), (4, 0)),
         (changed(2, ("kind", 9)), (6, 2)),
         (changed(1, ("T", 0)), (7, 32 + 6)),
@@ -225,11 +272,11 @@ fn only_the_stated_length_is_read() {
     let mut lent = lend(&v(&[10, 20]), 0);
     lent.length = 28;
     assert_eq!(refused(&lent, &both_edits()[0]), Some((4, 0)));
-    lent.buffer[..HEADER_BYTES].copy_from_slice(&v(&[10])[..HEADER_BYTES]);
+    lent.buffer[..12].copy_from_slice(&v(&[10])[..12]);
     assert_eq!(refused(&lent, &Edit::Remove(20)), Some((10, 0)));
     let mut expected = v(&[10]);
     expected.extend(with_id(&plate(4), 20).pack());
-    expected[..HEADER_BYTES].copy_from_slice(&v(&[10, 20])[..HEADER_BYTES]);
+    expected[..12].copy_from_slice(&v(&[10, 20])[..12]);
     assert_eq!(lent.edit(&put(&with_id(&plate(4), 20))), Ok(44));
     assert_eq!(lent.buffer, expected);
 }
@@ -325,16 +372,18 @@ fn number_10_id_not_there() {
 
 #[test]
 fn number_11_exactly_when_the_buffer_has_no_room() {
-    for ids in [&[][..], &[10], &[10, 20, 30]] {
-        for room in 0..40 {
-            let lent = lend(&v(ids), room);
-            let expected = (room < 16).then_some((11, 0));
-            for id in [5, 15, 500] {
-                assert_eq!(refused(&lent, &put(&with_id(&plate(2), id))), expected);
-            }
-            // Never on a replacement.
-            for id in ids {
-                assert_eq!(refused(&lent, &put(&with_id(&plate(2), *id))), None);
+    for v in vessels() {
+        for ids in [&[][..], &[10], &[10, 20, 30]] {
+            for room in 0..40 {
+                let lent = lend(&sheet(&v, &records(ids)), room);
+                let expected = (room < 16).then_some((11, 0));
+                for id in [5, 15, 500] {
+                    assert_eq!(refused(&lent, &put(&with_id(&plate(2), id))), expected);
+                }
+                // Never on a replacement.
+                for id in ids {
+                    assert_eq!(refused(&lent, &put(&with_id(&plate(2), *id))), None);
+                }
             }
         }
     }
@@ -342,27 +391,30 @@ fn number_11_exactly_when_the_buffer_has_no_room() {
 
 #[test]
 fn number_11_exactly_when_n_stands_at_its_highest() {
-    for n in [398, 399, 400] {
-        let ids: Vec<i128> = (2..n + 2).collect();
-        let expected = (n == 400).then_some((11, 0));
-        for room in [16, 17, 100] {
-            let lent = lend(&v(&ids), room);
-            for id in [1, 500, 1000] {
-                assert_eq!(refused(&lent, &put(&with_id(&plate(2), id))), expected);
-            }
-            for id in [2, 200, n + 1] {
-                assert_eq!(refused(&lent, &put(&with_id(&plate(2), id))), None);
+    for v in vessels() {
+        for n in [398, 399, 400] {
+            let ids: Vec<i128> = (2..n + 2).collect();
+            let expected = (n == 400).then_some((11, 0));
+            for room in [16, 17, 100] {
+                let lent = lend(&sheet(&v, &records(&ids)), room);
+                for id in [1, 500, 1000] {
+                    assert_eq!(refused(&lent, &put(&with_id(&plate(2), id))), expected);
+                }
+                for id in [2, 200, n + 1] {
+                    assert_eq!(refused(&lent, &put(&with_id(&plate(2), id))), None);
+                }
             }
         }
+        let ids: Vec<i128> = (2..402).collect();
+        let mut lent = lend(&sheet(&v, &records(&ids)), 16);
+        let header = header_bytes(&v);
+        assert_eq!(lent.edit(&Edit::Remove(401)), Ok(header + 16 * 399));
+        assert_eq!(lent.edit(&put(&plate(2))), Ok(header + 16 * 400));
+        assert_eq!(
+            refused(&lent, &put(&with_id(&plate(2), 401))),
+            Some((11, 0))
+        );
     }
-    let ids: Vec<i128> = (2..402).collect();
-    let mut lent = lend(&v(&ids), 16);
-    assert_eq!(lent.edit(&Edit::Remove(401)), Ok(12 + 16 * 399));
-    assert_eq!(lent.edit(&put(&plate(2))), Ok(12 + 16 * 400));
-    assert_eq!(
-        refused(&lent, &put(&with_id(&plate(2), 401))),
-        Some((11, 0))
-    );
 }
 
 #[test]
@@ -379,16 +431,18 @@ fn the_new_record_is_turned_away_before_the_room() {
 /// holds, and a sheet that passed every refusal still does.
 #[test]
 fn any_edits_leave_what_a_plain_map_holds() {
-    let mut done = [0; 3];
-    for (lent, edits) in edit_cases(12).take(500) {
+    let mut done = BTreeMap::new();
+    for (lent, edits) in edit_cases(12).take(1000) {
         let Lent { mut buffer, length } = lent;
         let mut length = length;
         if read_sheet(&buffer, length).is_err() {
             continue;
         }
-        let header = buffer[..HEADER_BYTES].to_vec();
+        let version = i128::from(buffer[0] >> 4);
+        let header_bytes = Version::numbered(version).expect("sound").bytes;
+        let header = buffer[..header_bytes].to_vec();
         let mut map: BTreeMap<u32, Vec<u8>> = BTreeMap::new();
-        for record in buffer[HEADER_BYTES..length].chunks(RECORD_BYTES) {
+        for record in buffer[header_bytes..length].chunks(RECORD_BYTES) {
             let id = u32::from(record[0] & 0xf) << 6 | u32::from(record[1] >> 2);
             map.insert(id, record.to_vec());
         }
@@ -399,7 +453,7 @@ fn any_edits_leave_what_a_plain_map_holds() {
                 assert_eq!(buffer, before);
                 continue;
             };
-            match &change {
+            let does = match &change {
                 Edit::Put(numbers) => {
                     let values = numbers.map(i128::from);
                     let fields = if numbers[0] <= 4 { 12 } else { 13 };
@@ -407,17 +461,20 @@ fn any_edits_leave_what_a_plain_map_holds() {
                     let layout = form.layout;
                     let values = values[..fields].to_vec();
                     let packed = Form { layout, values }.pack();
-                    let old = map.insert(numbers[1], packed);
-                    done[usize::from(old.is_some())] += 1;
+                    match map.insert(numbers[1], packed) {
+                        Some(_) => "replaces",
+                        None => "inserts",
+                    }
                 }
                 Edit::Remove(id) => {
                     map.remove(id).expect("it is there");
-                    done[2] += 1;
+                    "removes"
                 }
-            }
-            assert_eq!(new_length, HEADER_BYTES + RECORD_BYTES * map.len());
+            };
+            *done.entry((version, does)).or_insert(0) += 1;
+            assert_eq!(new_length, header_bytes + RECORD_BYTES * map.len());
             assert_eq!(
-                buffer[HEADER_BYTES..new_length],
+                buffer[header_bytes..new_length],
                 map.values().cloned().collect::<Vec<_>>().concat()
             );
             let (read, _) = read_sheet(&buffer, new_length).expect("still sound");
@@ -426,11 +483,14 @@ fn any_edits_leave_what_a_plain_map_holds() {
             // the bytes that the longer of the two sheets takes.
             assert_eq!(buffer[..10], header[..10]);
             assert_eq!(buffer[10] & 0xf0, header[10] & 0xf0);
+            assert_eq!(buffer[11] & 7, header[11] & 7);
+            assert_eq!(buffer[12..header_bytes], header[12..]);
             let longer = length.max(new_length);
             assert_eq!(buffer[longer..], before[longer..]);
             assert!(buffer[new_length..longer].iter().all(|byte| *byte == 0));
             length = new_length;
         }
     }
-    assert!(done.iter().all(|count| *count > 100), "{done:?}");
+    assert_eq!(done.len(), 3 * VERSIONS.len());
+    assert!(done.values().all(|count| *count > 100), "{done:?}");
 }

@@ -1,7 +1,14 @@
 //! The maker: the same seed gives the same sheets, and a short run already
 //! brings up every row the tally asks for, in proportion.
 
+#![allow(non_snake_case)]
+
+mod common;
+
+use common::{plate, sheet, vessel_v2, with};
+use second::header_case::{all, found, HeaderCase};
 use second::make::sheets;
+use second::print::verdicts;
 use second::stream::framed;
 use second::tally::Tally;
 
@@ -42,4 +49,109 @@ fn a_short_run_brings_up_every_row() {
         assert!(tally.refusals[number] >= 6, "refusal {number}");
     }
     assert_eq!(tally.refusals[5], 0);
+    for kind in 1..=4 {
+        assert!(tally.moduli.passes_by_own[kind] >= 6, "kind {kind} passes");
+        assert!(tally.moduli.fails_by_own[kind] >= 6, "kind {kind} fails");
+    }
+}
+
+/// Sheets of either version are judged about as often; more of version 2 are refused
+/// by 3, as it has more fields.
+#[test]
+fn the_versions_are_even() {
+    let tally = Tally::of(&stream(9, 3000));
+    let of = |number| [1, 2].map(|version| tally.by_version[&(version, number)]);
+    let [one, two] = of(0);
+    assert!(one.abs_diff(two) < (one + two) / 10, "{one} {two}");
+    for number in [3, 4, 6, 7, 8] {
+        assert!(of(number).iter().all(|count| *count >= 15), "{number}");
+    }
+}
+
+/// 3,000 sheets bring up each case of a header once; a short run does not, and the
+/// tally says so.
+#[test]
+fn every_case_of_a_header_comes_up() {
+    let tally = Tally::of(&stream(7, 3000));
+    for case in all() {
+        assert!(tally.headers.contains_key(&case), "{case:?}");
+    }
+    let scarce = Tally::of(&stream(7, 60)).scarce_rows();
+    let unseen = "Cut { version: 2, bytes: 19 }: only 0".to_string();
+    assert!(scarce.contains(&unseen), "{scarce:?}");
+}
+
+/// Kind 4 with S 1000 and no load: T2 >= 15.21 R, so that 780 meets R 40,000 exactly and
+/// misses R 40,001; ZB 4,000,000 gives R 10,000 (390), ZB 400,000 R 100,000 (1234).
+#[test]
+fn plates_are_told_by_their_moduli() {
+    let told = |ZB, ZDB, T| {
+        let v = with(&vessel_v2(), &[("M", 40_000), ("ZB", ZB), ("ZDB", ZDB)]);
+        let inner = with(&plate(4), &[("S", 1000), ("T", T)]);
+        let moduli = Tally::of(&framed(&sheet(&v, &[inner]))).moduli;
+        [
+            moduli.passes_by_own,
+            moduli.fails_by_own,
+            moduli.just_passes,
+            moduli.just_fails,
+        ]
+        .map(|by_kind| by_kind[4])
+    };
+    assert_eq!(told(400_000, 1_000_000, 780), [1, 0, 1, 0]);
+    assert_eq!(told(4_000_000, 1_000_000, 780), [0, 0, 1, 0]);
+    assert_eq!(told(400_000, 1_000_000, 781), [1, 0, 0, 0]);
+    assert_eq!(told(4_000_000, 999_990, 780), [0, 1, 0, 1]);
+    assert_eq!(told(400_000, 999_990, 780), [0, 0, 0, 1]);
+    assert_eq!(told(4_000_000, 999_990, 779), [0, 1, 0, 0]);
+}
+
+/// What must come up, counted by hand.
+#[test]
+fn the_cases_of_a_header() {
+    let cases = all();
+    // Version 2 in 12 to 19 bytes; the versions that are not there, long and short.
+    let first = 8 + 2 * 14;
+    // L, D0, H, runs, M, ZB, n, zero in both versions; ZDB, depth, last_zero in one.
+    let fields = 2 * (4 + 4 + 8 + 2 + 3 + 4 + 3 + 3) + 4 + 4 + 27;
+    // As long as the other version's, as the longest, and a byte longer.
+    let lengths = 2 + 2 + 2;
+    assert_eq!(cases.len(), first + fields + lengths);
+    let field = |version, field, value| HeaderCase::Field {
+        version,
+        field,
+        value,
+    };
+    for (place, values) in [
+        (10, [0, 1, 100_000_000, 100_000_001]),
+        (11, [99, 100, 1000, 1001]),
+    ] {
+        for value in values {
+            assert!(cases.contains(&field(2, place, value)));
+        }
+    }
+    for bit in 0..27 {
+        assert!(cases.contains(&field(2, 12, 1 << bit)));
+    }
+    for version in [1, 2] {
+        for bit in 0..3 {
+            assert!(cases.contains(&field(version, 9, 1 << bit)));
+        }
+    }
+}
+
+/// Sheets told by hand, by their length, version and refusal.
+#[test]
+fn cases_are_told_by_the_sheet() {
+    let told = |sheet: &[u8]| found(sheet, verdicts(sheet).err());
+    let mut sheet = [0x20; 20];
+    assert_eq!(told(&sheet[..11]), []);
+    for bytes in 12..20 {
+        let cut = HeaderCase::Cut { version: 2, bytes };
+        assert_eq!(told(&sheet[..bytes]), [cut]);
+    }
+    for (bytes, short) in [(12, true), (19, true), (20, false)] {
+        sheet[0] = 0x70;
+        let unknown = HeaderCase::Unknown { version: 7, short };
+        assert_eq!(told(&sheet[..bytes]), [unknown]);
+    }
 }

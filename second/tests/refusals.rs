@@ -2,13 +2,14 @@
 
 mod common;
 
-use common::{member, plate, sheet, vessel_v, with};
+use common::{header_bytes, member, plate, sheet, vessel_v, vessel_v2, vessels, with};
 use second::check::check;
 use second::form::{field_number, Form};
 use second::limits::in_record;
 use second::make::sheets;
 use second::print::answer;
 use second::refusal::Refusal;
+use std::slice;
 
 fn refusal(sheet: &[u8]) -> Option<(usize, usize)> {
     let mut output = [0xee; 1600];
@@ -32,20 +33,35 @@ fn numbered(records: &[Form]) -> Vec<Form> {
 
 #[test]
 fn number_1_short_sheets() {
-    let whole = sheet(&vessel_v(), &[]);
-    for length in 0..12 {
-        assert_eq!(refusal(&whole[..length]), Some((1, 0)));
+    for (v, bytes) in [(vessel_v(), 12), (vessel_v2(), 20)] {
+        let whole = sheet(&v, &[]);
+        assert_eq!(whole.len(), bytes);
+        for length in 0..bytes {
+            assert_eq!(refusal(&whole[..length]), Some((1, 0)), "{length} bytes");
+        }
+        assert_eq!(refusal(&whole), None);
     }
-    assert_eq!(refusal(&whole), None);
     assert_eq!(answer(&[]), "refused 1 0\n");
 }
 
+/// 1 under twelve bytes, then 2, then 1 for the header of version 2.
 #[test]
 fn number_2_version() {
-    for version in (0..16).filter(|version| *version != 1) {
-        let v = with(&vessel_v(), &[("version", version), ("L", 0)]);
-        assert_eq!(refusal(&sheet(&v, &[])), Some((2, 0)));
+    for version in (0..16).filter(|version| *version != 1 && *version != 2) {
+        for v in vessels() {
+            let v = with(&v, &[("version", version), ("L", 0)]);
+            let longest = sheet(&v, &[plate(2)]);
+            assert_eq!(refusal(&longest[..11]), Some((1, 0)));
+            for length in 12..longest.len() {
+                assert_eq!(refusal(&longest[..length]), Some((2, 0)));
+            }
+        }
     }
+    // Behind the same twelve bytes, with every field but the version at fault.
+    let short =
+        |version| with(&vessel_v2(), &[("version", version), ("L", 0)]).pack()[..15].to_vec();
+    let found = [1, 2, 3].map(|version| refusal(&short(version)));
+    assert_eq!(found, [(3, 2), (1, 0), (2, 0)].map(Some));
 }
 
 #[test]
@@ -61,38 +77,94 @@ fn number_3_each_header_field() {
         ("ZB", 0, 7),
         ("ZB", 100_000_001, 7),
         ("zero", 1, 9),
+        ("zero", 2, 9),
         ("zero", 4, 9),
     ];
-    for (name, value, place) in faults {
-        let v = with(&vessel_v(), &[(name, value)]);
-        assert_eq!(refusal(&sheet(&v, &[])), Some((3, place)), "{name} {value}");
+    for v in vessels() {
+        for (name, value, place) in faults {
+            let v = with(&v, &[(name, value)]);
+            assert_eq!(refusal(&sheet(&v, &[])), Some((3, place)), "{name} {value}");
+        }
+        let too_many = with(&v, &[("n", 401)]).pack();
+        assert_eq!(refusal(&too_many), Some((3, 8)));
     }
-    let too_many = with(&vessel_v(), &[("n", 401)]).pack();
-    assert_eq!(refusal(&too_many), Some((3, 8)));
+}
+
+#[test]
+fn number_3_each_field_of_version_2() {
+    let at = |name, value| refusal(&sheet(&with(&vessel_v2(), &[(name, value)]), &[]));
+    for (name, lowest, highest, place) in [("ZDB", 1, 100_000_000, 10), ("depth", 100, 1000, 11)] {
+        assert_eq!(at(name, lowest - 1), Some((3, place)));
+        assert_eq!(at(name, lowest), None);
+        assert_eq!(at(name, highest), None);
+        assert_eq!(at(name, highest + 1), Some((3, place)));
+    }
+    assert_eq!(at("ZDB", (1 << 27) - 1), Some((3, 10)));
+    assert_eq!(at("depth", 1023), Some((3, 11)));
+    for bit in 0..27 {
+        assert_eq!(at("last_zero", 1 << bit), Some((3, 12)));
+    }
+    // Bytes 12 to 19 bit by bit: ZDB 0, depth 0 and a zero bit stand where they must.
+    for bit in 0..64 {
+        let mut bytes = with(&vessel_v2(), &[("ZDB", 0), ("depth", 0)]).pack();
+        bytes[12 + bit / 8] |= 1 << (7 - bit % 8);
+        let expected = match bit {
+            // ZDB 2^26 is allowed and a lower bit too: depth 0 is then the fault.
+            0..27 => (3, 11),
+            _ => (3, 10),
+        };
+        assert_eq!(refusal(&bytes), Some(expected), "bit {bit}");
+    }
 }
 
 #[test]
 fn number_4_length() {
-    let whole = sheet(&vessel_v(), &[plate(2)]);
-    assert_eq!(refusal(&whole), None);
-    assert_eq!(refusal(&whole[..27]), Some((4, 0)));
-    assert_eq!(refusal(&whole[..12]), Some((4, 0)));
-    let longer = [whole, vec![0]].concat();
-    assert_eq!(refusal(&longer), Some((4, 0)));
+    for v in vessels() {
+        let header = header_bytes(&v);
+        let whole = sheet(&v, &[plate(2)]);
+        assert_eq!(whole.len(), header + 16);
+        assert_eq!(refusal(&whole), None);
+        for length in header..header + 16 {
+            assert_eq!(refusal(&whole[..length]), Some((4, 0)));
+        }
+        for more in 1..40 {
+            let longer = [whole.clone(), vec![0; more]].concat();
+            assert_eq!(refusal(&longer), Some((4, 0)));
+        }
+    }
+}
+
+/// 12 + 16n bytes in version 2 and 20 + 16n in version 1; the longest sheets, and
+/// those a byte longer.
+#[test]
+fn number_4_length_of_the_other_version() {
+    for n in [1, 2, 400] {
+        let records = numbered(&vec![plate(2); n]);
+        let [one, two] = vessels().map(|v| sheet(&v, &records));
+        assert_eq!([one.len(), two.len()], [12 + 16 * n, 20 + 16 * n]);
+        assert_eq!([refusal(&one), refusal(&two)], [None, None]);
+        assert_eq!(refusal(&two[..12 + 16 * n]), Some((4, 0)));
+        assert_eq!(refusal(&[one, vec![0; 8]].concat()), Some((4, 0)));
+        assert_eq!(refusal(&[two, vec![0]].concat()), Some((4, 0)));
+    }
+    // Of version 2 with no record, twelve bytes are too few for the header.
+    assert_eq!(refusal(&sheet(&vessel_v2(), &[])[..12]), Some((1, 0)));
 }
 
 #[test]
 fn number_5_output() {
     let records = numbered(&[plate(2), plate(2)]);
-    let sound = sheet(&vessel_v(), &records);
-    let mut output = [0xee; 7];
-    assert_eq!(check(&sound, &mut output), Err(Refusal::new(5, 0)));
-    assert_eq!(output, [0xee; 7]);
-    // Before the records are looked at, after the length.
-    let no_kind = sheet(&vessel_v(), &[with(&plate(2), &[("kind", 0)])]);
-    assert_eq!(check(&no_kind, &mut []), Err(Refusal::new(5, 0)));
-    assert_eq!(check(&no_kind[..20], &mut []), Err(Refusal::new(4, 0)));
-    assert!(check(&sheet(&vessel_v(), &[]), &mut []).is_ok());
+    for v in vessels() {
+        let sound = sheet(&v, &records);
+        let mut output = [0xee; 7];
+        assert_eq!(check(&sound, &mut output), Err(Refusal::new(5, 0)));
+        assert_eq!(output, [0xee; 7]);
+        // Before the records are looked at, after the length.
+        let no_kind = sheet(&v, &[with(&plate(2), &[("kind", 0)])]);
+        assert_eq!(check(&no_kind, &mut []), Err(Refusal::new(5, 0)));
+        assert_eq!(check(&no_kind[..20], &mut []), Err(Refusal::new(4, 0)));
+        assert!(check(&sheet(&v, &[]), &mut []).is_ok());
+    }
 }
 
 /// Every sheet that is not turned away: an output of any length under 4n bytes
@@ -126,7 +198,9 @@ fn number_6_kind() {
     for kind in [0, 9, 10, 11, 12, 13, 14, 15] {
         let mut records = numbered(&[plate(2), member(5), plate(2)]);
         records[2].set("kind", kind);
-        assert_eq!(refusal(&sheet(&vessel_v(), &records)), Some((6, 2)));
+        for v in vessels() {
+            assert_eq!(refusal(&sheet(&v, &records)), Some((6, 2)));
+        }
     }
 }
 
@@ -175,7 +249,11 @@ fn number_7_each_record_field() {
 
 #[test]
 fn places_of_some_record_fields() {
-    let place = |record: Form| refusal(&sheet(&vessel_v(), &[record]));
+    let place = |record: Form| {
+        let [one, two] = vessels().map(|v| refusal(&sheet(&v, slice::from_ref(&record))));
+        assert_eq!(one, two);
+        one
+    };
     assert_eq!(place(with(&plate(2), &[("id", 0)])), Some((7, 2)));
     assert_eq!(place(with(&plate(2), &[("b1", 10)])), Some((7, 7)));
     assert_eq!(place(with(&plate(2), &[("zL", 1)])), Some((7, 10)));
@@ -198,24 +276,41 @@ fn number_8_order_of_ids() {
             with(&plate(2), &[("id", second)]),
         ]
     };
-    assert_eq!(refusal(&sheet(&vessel_v(), &records(5, 6))), None);
-    assert_eq!(refusal(&sheet(&vessel_v(), &records(5, 5))), Some((8, 1)));
-    assert_eq!(refusal(&sheet(&vessel_v(), &records(5, 4))), Some((8, 1)));
+    for v in vessels() {
+        assert_eq!(refusal(&sheet(&v, &records(5, 6))), None);
+        assert_eq!(refusal(&sheet(&v, &records(5, 5))), Some((8, 1)));
+        assert_eq!(refusal(&sheet(&v, &records(5, 4))), Some((8, 1)));
+    }
 }
 
 #[test]
 fn the_first_of_several_faulty_fields_is_named() {
     let v = with(&vessel_v(), &[("zero", 1), ("M", 1_000_001), ("H", 1)]);
     assert_eq!(refusal(&sheet(&v, &[])), Some((3, 4)));
+    // Of version 2 mended one by one, the fields of the first 96 bits before the others.
+    let mut v = vessel_v2();
+    let faults = [
+        ("n", 401),
+        ("zero", 1),
+        ("ZDB", 0),
+        ("depth", 1001),
+        ("last_zero", 1),
+    ];
+    v.fill(&faults);
+    for (name, _) in faults {
+        let place = field_number(v.layout, name);
+        assert_eq!(refusal(&v.pack()), Some((3, place)));
+        v.set(name, vessel_v2().get(name));
+    }
+    assert_eq!(refusal(&v.pack()), None);
     let record = with(&plate(2), &[("zero", 1), ("T", 0), ("S", 0)]);
     let place = field_number(record.layout, "S");
     assert_eq!(refusal(&sheet(&vessel_v(), &[record])), Some((7, place)));
 }
 
 /// One sheet with every fault at once, mended one by one from the top of the table.
-#[test]
-fn the_order_of_the_table() {
-    let mut header = with(&vessel_v(), &[("version", 2), ("L", 0), ("n", 3)]);
+fn in_the_order_of_the_table(v: &Form) {
+    let mut header = with(v, &[("version", 3), ("L", 0), ("n", 3)]);
     let mut records = [
         with(&plate(2), &[("kind", 9), ("id", 0)]),
         with(&plate(2), &[("id", 9), ("T", 0)]),
@@ -236,7 +331,11 @@ fn the_order_of_the_table() {
         Some((1, 0))
     );
     assert_eq!(refusal(&packed(&header, &records, &extra)), Some((2, 0)));
-    header.set("version", 1);
+    header.set("version", v.get("version"));
+    assert_eq!(
+        refusal(&packed(&header, &records, &extra)[..header_bytes(v) - 1]),
+        Some((1, 0))
+    );
     assert_eq!(refusal(&packed(&header, &records, &extra)), Some((3, 2)));
     header.set("L", 4000);
     assert_eq!(refusal(&packed(&header, &records, &extra)), Some((4, 0)));
@@ -265,4 +364,9 @@ fn the_order_of_the_table() {
     assert_eq!(refusal(&packed(&header, &records, &extra)), Some((8, 2)));
     records[2].set("id", 11);
     assert_eq!(refusal(&packed(&header, &records, &extra)), None);
+}
+
+#[test]
+fn the_order_of_the_table() {
+    vessels().iter().for_each(in_the_order_of_the_table);
 }

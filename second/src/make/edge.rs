@@ -13,6 +13,7 @@ use super::draft::Draft;
 use crate::check::judge;
 use crate::form::Form;
 use crate::sheet::{Header, Record};
+use crate::version::{Version, VERSIONS};
 use factor::Inequality;
 use load::Load;
 use side::Side::{self, Meets, Misses};
@@ -23,8 +24,9 @@ enum Aim {
     Load(Load, i128, Side),
 }
 
-/// So many edges are sought for each aim; then they come round again.
-const ROUNDS: usize = 4;
+/// So many edges are sought for each aim, in each version in turn; then they come
+/// round again.
+const ROUNDS: usize = 2 * VERSIONS.len();
 
 pub struct Edges {
     aims: Vec<Aim>,
@@ -59,8 +61,9 @@ impl Edges {
         let place = self.handed_out % (ROUNDS * self.aims.len());
         self.handed_out += 1;
         if place == self.found.len() {
-            let aim = self.aims[place % self.aims.len()];
-            self.found.push(sought(chance, aim));
+            let (round, aim) = (place / self.aims.len(), place % self.aims.len());
+            let version = &VERSIONS[(round + aim) % VERSIONS.len()];
+            self.found.push(sought(chance, self.aims[aim], version));
         }
         &self.found[place]
     }
@@ -68,7 +71,7 @@ impl Edges {
 
 /// Draws until an edge comes up whose record is answered as it should be: the
 /// rules before are met and, where this one is met, those behind it as well.
-fn sought(chance: &mut Chance, aim: Aim) -> Draft {
+fn sought(chance: &mut Chance, aim: Aim, version: &Version) -> Draft {
     loop {
         let (drawn, rule, side): (Option<(Form, Form)>, i128, Side) = match aim {
             Aim::Factor(inequality, kind, side) => {
@@ -83,10 +86,35 @@ fn sought(chance: &mut Chance, aim: Aim) -> Draft {
         let Some((header, record)) = drawn else {
             continue;
         };
+        let header = in_version(version, &header, record.get("kind"), side);
         let named = judge(&Header::of(&header), &Record::of(&record)).rule;
         if named == (if side == Misses { rule } else { 0 }) {
             let records = vec![record];
             return Draft { header, records };
         }
     }
+}
+
+/// The header as one of this version. Where that has two moduli, the one that the
+/// record answers to stays; by the other one, very great or very small, rule 3 is
+/// answered otherwise.
+fn in_version(version: &Version, header: &Form, kind: i128, side: Side) -> Form {
+    let mut form = Form::blank(version.layout);
+    for (name, _) in version.layout {
+        if header.has(name) {
+            form.set(name, header.get(name));
+        }
+    }
+    form.set("version", version.number);
+    if form.has("ZDB") {
+        let modulus = header.get("ZB");
+        let other = if side == Misses { 100_000_000 } else { 1 };
+        let (ZB, ZDB) = if kind <= 2 {
+            (modulus, other)
+        } else {
+            (other, modulus)
+        };
+        form.fill(&[("ZB", ZB), ("ZDB", ZDB), ("depth", 1000)]);
+    }
+    form
 }

@@ -5,10 +5,11 @@ use super::chance::Chance;
 use super::draft::Draft;
 use super::faults::Faults;
 use super::spoil;
-use super::whole::{noise, sound};
+use super::whole::{noise, sound, sound_in};
 use crate::edit::Edit;
 use crate::edit_stream::{Lent, LARGEST_BUFFER};
-use crate::limits::{ID_HIGHEST, N_HIGHEST};
+use crate::limits::ID_HIGHEST;
+use crate::version::{Version, SHORTEST_HEADER, VERSIONS};
 use std::collections::BTreeSet;
 
 /// What the edits of a case begin with. The draft is sound even where the sheet
@@ -23,8 +24,8 @@ struct Ground {
 pub fn case(chance: &mut Chance, faults: &mut Faults) -> (Lent, Vec<Edit>) {
     let ground = match chance.below(1000) {
         0 => in_the_largest_buffer(chance),
-        1..15 => full(chance),
-        15..270 => spoilt(chance),
+        1..21 => full(chance),
+        21..270 => spoilt(chance),
         270..350 => with_a_wrong_length(chance),
         350..370 => only_noise(chance),
         _ => small(chance),
@@ -68,8 +69,9 @@ fn small(chance: &mut Chance) -> Ground {
 
 /// Not often, since each answer is as long as the longest sheet.
 fn full(chance: &mut Chance) -> Ground {
-    let n = N_HIGHEST - chance.of(&[0, 0, 0, 1]);
-    let draft = sound(chance, n);
+    let version = chance.of(VERSIONS);
+    let n = version.n_highest - chance.of(&[0, 0, 0, 1]);
+    let draft = sound_in(chance, version, n);
     let more = *chance.of(&[0, 15, 16, 16, 17, 17, 32, 33, 48]);
     Ground {
         lent: lend(chance, draft.bytes(), more),
@@ -111,7 +113,7 @@ fn spoilt(chance: &mut Chance) -> Ground {
     }
 }
 
-/// A sound sheet whose length is stated past the buffer, under a header's or
+/// A sound sheet whose length is stated past the buffer, under its header's or
 /// beside the right one.
 fn with_a_wrong_length(chance: &mut Chance) -> Ground {
     let n = chance.between(0, 4);
@@ -119,11 +121,16 @@ fn with_a_wrong_length(chance: &mut Chance) -> Ground {
     let more = room(chance);
     let mut lent = lend(chance, draft.bytes(), more);
     let (right, size) = (lent.length, lent.buffer.len());
-    lent.length = match chance.below(5) {
+    lent.length = match chance.below(7) {
         0 => *chance.of(&[size + 1, size + 16, size + 4096, 1 << 31, u32::MAX as usize]),
-        1 => *chance.of(&[0, 1, 10, 11, 11]),
-        2 => *chance.of(&[right - 1, right.saturating_sub(16)]),
-        3 => *chance.of(&[right + 1, right + 16]),
+        1..4 => {
+            // Too short to look at the version, or for the header of this one.
+            let header = Version::of(&draft.header).bytes;
+            let short = (SHORTEST_HEADER + chance.below(8)).min(header - 1);
+            *chance.of(&[0, 10, 11, short, short, short, short])
+        }
+        4 => *chance.of(&[right - 1, right.saturating_sub(16)]),
+        5 => *chance.of(&[right + 1, right + 16]),
         _ => {
             // The buffer ends within the sheet, which is stated whole or so short.
             lent.buffer.truncate(chance.below(right));
@@ -150,13 +157,14 @@ fn only_noise(chance: &mut Chance) -> Ground {
 /// The edits are done as they are made, so that each knows which ids are there.
 fn edits(chance: &mut Chance, faults: &mut Faults, ground: &Ground) -> Vec<Edit> {
     let Ground { draft, .. } = ground;
+    let n_highest = Version::of(&draft.header).n_highest;
     let mut lent = ground.lent.clone();
     let mut ids: BTreeSet<i128> = draft.records.iter().map(|form| form.get("id")).collect();
     let mut last = chance.between(1, ID_HIGHEST);
     let mut edits = Vec::new();
     for _ in 0..ground.edits {
         // A full sheet is there for the ids that it has no room for.
-        let crowded = ids.len() as i128 >= N_HIGHEST - 1 && !chance.one_in(4);
+        let crowded = ids.len() as i128 >= n_highest - 1 && !chance.one_in(4);
         let id = match chance.below(8) {
             _ if crowded => not_there(chance, &ids),
             // The one just edited again: put and removed, removed and put.

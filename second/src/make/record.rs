@@ -143,15 +143,26 @@ fn plate(chance: &mut Chance, header: &Header, kind: i128) -> Form {
         0 => round_plate(chance, &mut form),
         1 if kind == 3 => heavy_cargo(chance, &mut form),
         2 => even_loads(chance, header, &mut form),
+        3 if header.ZDB() != header.ZB => bare_plate(chance, &mut form),
         _ => {}
     }
     form
 }
 
+/// Without cargo and ballast, and with K2 near 1000 where there is one, rule 3 asks for
+/// the most, so that the modulus shows.
+fn bare_plate(chance: &mut Chance, form: &mut Form) {
+    form.fill(&[("ballast", 0), ("zL", 0), ("cargo", 0)]);
+    if form.get("b1") != 0 {
+        let (b1, b2) = (chance.between(500, 1000), chance.between(10, 100));
+        form.fill(&[("b1", b1), ("b2", b2)]);
+    }
+}
+
 /// For the bottom, at times the K on one side or the other of the strict test
 /// that brings in the second form of rule 3.
 fn plate_material(chance: &mut Chance, header: &Header, kind: i128) -> i128 {
-    let R = hull_stress(header).max(1);
+    let R = hull_stress(header, kind).max(1);
     let turn = match kind {
         1 => 121_000_000_000 / (1156 * R),
         2 => 625_000_000_000 / (6084 * R),
@@ -347,12 +358,13 @@ fn round_member(chance: &mut Chance, form: &mut Form) {
 mod tests {
     use super::*;
     use crate::make::vessel;
+    use crate::version::VERSIONS;
 
     #[test]
     fn halving_finds_what_the_walk_finds() {
         let mut chance = Chance::new(5);
-        for _ in 0..60 {
-            let header = vessel::header(&mut chance);
+        for version in VERSIONS.iter().cycle().take(60) {
+            let header = vessel::header(&mut chance, version);
             let form = record(&mut chance, &header, 1);
             for demand in demands(&Header::of(&header), &Record::of(&form)) {
                 assert_eq!(turn(&demand), demand.least());

@@ -4,7 +4,8 @@
 use super::chance::Chance;
 use super::draft::Draft;
 use crate::form::{record_layout, Form};
-use crate::limits::{in_header, in_record, Allowed, N_HIGHEST};
+use crate::limits::{in_header, in_record, Allowed};
+use crate::version::{Version, VERSIONS};
 
 /// Values the kind field can hold and no record has.
 const NO_KINDS: [i128; 8] = [0, 9, 10, 11, 12, 13, 14, 15];
@@ -30,7 +31,8 @@ pub fn field_to_an_end(chance: &mut Chance, draft: &mut Draft) {
 fn header_field_to_an_end(chance: &mut Chance, header: &mut Form) {
     let index = chance.below(header.layout.len());
     let name = header.layout[index].0;
-    to_an_end(chance, header, index, in_header(name));
+    let allowed = in_header(header, name);
+    to_an_end(chance, header, index, allowed);
     if name == "H" && chance.one_in(2) {
         header.set("H", *chance.of(&[1, 59, 61, 119, 255]));
     }
@@ -70,9 +72,10 @@ pub fn draft(chance: &mut Chance, draft: &mut Draft) {
         3 => spoil_kind(chance, &mut draft.records[index]),
         4 => set_zero_bits(chance, draft, index),
         5 => wrong_count(chance, &mut draft.header),
+        // One that is not there, or another than the header was written for.
         6 => draft
             .header
-            .set("version", *chance.of(&[0, 2, 3, 8, 9, 15])),
+            .set("version", *chance.of(&[0, 1, 2, 3, 8, 9, 15])),
         _ => field_to_an_end(chance, draft),
     }
 }
@@ -98,27 +101,33 @@ fn spoil_kind(chance: &mut Chance, record: &mut Form) {
 
 /// Bits that must be zero, in the header or (plates only) in a record.
 fn set_zero_bits(chance: &mut Chance, draft: &mut Draft, index: usize) {
-    let has_zero = |form: &Form| form.layout.iter().any(|field| field.0 == "zero");
-    if has_zero(&draft.records[index]) && !chance.one_in(3) {
+    let Draft { header, records } = draft;
+    if records[index].has("zero") && !chance.one_in(3) {
         let bit = 1 << chance.below(20);
-        draft.records[index].set("zero", bit);
+        records[index].set("zero", bit);
+    } else if header.has("last_zero") && chance.one_in(2) {
+        header.set("last_zero", chance.between(1, (1 << 27) - 1));
     } else {
-        draft.header.set("zero", chance.between(1, 7));
+        header.set("zero", chance.between(1, 7));
     }
 }
 
 /// A count that is not the number of records behind the header.
 fn wrong_count(chance: &mut Chance, header: &mut Form) {
     let n = header.get("n");
+    let highest = Version::of(header).n_highest;
     let any = chance.between(0, 511);
-    let wrong = *chance.of(&[n - 1, n + 1, 0, N_HIGHEST, N_HIGHEST + 1, any]);
+    let wrong = *chance.of(&[n - 1, n + 1, 0, highest, highest + 1, any]);
     header.set("n", wrong.clamp(0, 511));
 }
 
 /// Spoils packed bytes: cut, lengthened, or some bits turned.
 pub fn bytes(chance: &mut Chance, bytes: &mut Vec<u8>) {
     match chance.below(5) {
-        0 => bytes.truncate(chance.below(12)),
+        0 => {
+            let header = chance.of(VERSIONS).bytes;
+            bytes.truncate(chance.below(header));
+        }
         1 => bytes.truncate(chance.below(bytes.len().max(1))),
         2 => {
             for _ in 0..*chance.of(&[1, 15, 16, 17]) {

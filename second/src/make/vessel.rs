@@ -1,14 +1,14 @@
 //! Headers: vessels over the whole range, most often where something turns.
 
 use super::chance::Chance;
-use crate::form::{Form, HEADER};
-use crate::limits::VERSION;
+use crate::form::Form;
+use crate::version::Version;
 
 /// A header that no check turns away; its count is still to be filled in.
-pub fn header(chance: &mut Chance) -> Form {
+pub fn header(chance: &mut Chance, version: &Version) -> Form {
     let (M, ZB) = moment_and_modulus(chance);
     let fields = [
-        ("version", VERSION),
+        ("version", version.number),
         ("L", length(chance)),
         ("D0", draught(chance)),
         ("H", *chance.of(&[0, 60, 120])),
@@ -16,7 +16,12 @@ pub fn header(chance: &mut Chance) -> Form {
         ("M", M),
         ("ZB", ZB),
     ];
-    Form::filled(HEADER, &fields)
+    let mut header = Form::filled(version.layout, &fields);
+    if header.has("ZDB") {
+        let (ZB, ZDB) = two_moduli(chance, M, ZB);
+        header.fill(&[("ZB", ZB), ("ZDB", ZDB), ("depth", depth(chance))]);
+    }
+    header
 }
 
 /// Rule 4 changes its form at 12000. With round lengths and K = 1000 the roots
@@ -84,6 +89,26 @@ fn moment_and_modulus(chance: &mut Chance) -> (i128, i128) {
             let M = *chance.of(&[0, 1, 999_999, 1_000_000]);
             (M, *chance.of(&[1, 2, 3, 99_999_999, 100_000_000]))
         }
+    }
+}
+
+/// The modulus and another one, either of them at the bottom: most often so far apart
+/// that a plate passes by the one and fails by the other.
+fn two_moduli(chance: &mut Chance, M: i128, modulus: i128) -> (i128, i128) {
+    let other = match chance.below(6) {
+        0 => modulus + chance.between(-1, 1),
+        1 | 2 => modulus * chance.between(500, 2000) / 1000,
+        3 | 4 => 1_000_000 * M / chance.between(1, 220_000),
+        _ => *chance.of(&[1, 2, 99_999_999, 100_000_000]),
+    };
+    let other = other.clamp(1, 100_000_000);
+    *chance.of(&[(modulus, other), (other, modulus)])
+}
+
+fn depth(chance: &mut Chance) -> i128 {
+    match chance.below(3) {
+        0 => *chance.of(&[100, 101, 999, 1000]),
+        _ => chance.between(100, 1000),
     }
 }
 

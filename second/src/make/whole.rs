@@ -3,8 +3,9 @@
 use super::chance::Chance;
 use super::draft::Draft;
 use super::{record, vessel};
-use crate::form::HEADER_BYTES;
+use crate::form::RECORD_BYTES;
 use crate::limits::ID_HIGHEST;
+use crate::version::{Version, VERSIONS};
 
 /// Ids that rise strictly and end at or under the highest one.
 fn rising_ids(chance: &mut Chance, n: i128) -> Vec<i128> {
@@ -22,7 +23,19 @@ fn rising_ids(chance: &mut Chance, n: i128) -> Vec<i128> {
 
 /// A sheet with `n` records that no check turns away.
 pub fn sound(chance: &mut Chance, n: i128) -> Draft {
-    let mut header = vessel::header(chance);
+    let version = chance.of(VERSIONS);
+    sound_in(chance, version, n)
+}
+
+/// A sound sheet with as many records as its version allows.
+pub fn full(chance: &mut Chance) -> Draft {
+    let version = chance.of(VERSIONS);
+    sound_in(chance, version, version.n_highest)
+}
+
+/// A sound sheet of this version.
+pub fn sound_in(chance: &mut Chance, version: &Version, n: i128) -> Draft {
+    let mut header = vessel::header(chance, version);
     header.set("n", n);
     let ids = rising_ids(chance, n);
     let records = ids
@@ -32,19 +45,23 @@ pub fn sound(chance: &mut Chance, n: i128) -> Draft {
     Draft { header, records }
 }
 
-/// Bytes of no meaning; half of them begin as a header of a few records would.
+/// Bytes of no meaning; half of them begin as a header of a few records would, or as
+/// much of one as they have room for.
 pub fn noise(chance: &mut Chance) -> Vec<u8> {
+    let version = chance.of(VERSIONS);
     let length = match chance.below(4) {
-        0 => chance.between(0, 11),
-        1 => 12,
-        2 => chance.between(13, 300),
-        _ => 12 + 16 * chance.between(1, 6),
+        0 => chance.below(version.bytes),
+        1 => version.bytes,
+        2 => chance.between(version.bytes as i128 + 1, 300) as usize,
+        _ => version.sheet_bytes(chance.between(1, 6)),
     };
     let mut bytes: Vec<u8> = (0..length).map(|_| chance.byte()).collect();
-    if chance.one_in(2) && bytes.len() >= HEADER_BYTES {
-        let mut header = vessel::header(chance);
-        header.set("n", (length - 12) / 16);
-        bytes[..HEADER_BYTES].copy_from_slice(&header.pack());
+    if chance.one_in(2) {
+        let mut header = vessel::header(chance, version);
+        let behind = length.saturating_sub(version.bytes);
+        header.set("n", (behind / RECORD_BYTES) as i128);
+        bytes.splice(..length.min(version.bytes), header.pack());
+        bytes.truncate(length);
     }
     bytes
 }

@@ -2,16 +2,17 @@
 //! Each test file takes what it needs of these.
 #![allow(dead_code)]
 
-use second::form::{Form, HEADER, MEMBER, PLATE, RECORD_NUMBERS};
+use second::form::{Form, MEMBER, PLATE, RECORD_NUMBERS};
 use second::rules::demands;
 use second::sheet::{Header, Record};
+use second::version::Version;
 
-/// L 8000, D0 250, H 60, one run, M 20,000, ZB 200,000 (R 100,000).
-pub fn vessel_v() -> Form {
+/// Vessel V in this version, as far as the fields go that all versions share.
+fn vessel_in(version: i128) -> Form {
     Form::filled(
-        HEADER,
+        Version::numbered(version).expect("a version").layout,
         &[
-            ("version", 1),
+            ("version", version),
             ("L", 8000),
             ("D0", 250),
             ("H", 60),
@@ -21,11 +22,28 @@ pub fn vessel_v() -> Form {
     )
 }
 
+/// L 8000, D0 250, H 60, one run, M 20,000, ZB 200,000 (R 100,000).
+pub fn vessel_v() -> Form {
+    vessel_in(1)
+}
+
+/// The same in version 2, with ZDB 800,000 (R 25,000 at the inner bottom), depth 300.
+pub fn vessel_v2() -> Form {
+    with(&vessel_in(2), &[("ZDB", 800_000), ("depth", 300)])
+}
+
+pub fn vessels() -> [Form; 2] {
+    [vessel_v(), vessel_v2()]
+}
+
+/// How many bytes the header takes.
+pub fn header_bytes(header: &Form) -> usize {
+    header.pack().len()
+}
+
 pub fn with(form: &Form, fields: &[(&str, i128)]) -> Form {
     let mut form = form.clone();
-    for (name, value) in fields {
-        form.set(name, *value);
-    }
+    form.fill(fields);
     form
 }
 

@@ -17,12 +17,13 @@ use crate::make::record::panel;
 use crate::make::vessel::aimed_at;
 use crate::sheet::{Header, Record};
 
-/// The rules' inequalities; rules 3 and 4 have two.
+/// The rules' inequalities; rules 3 and 4 have two, and rule 3 turns at the cap of K2.
 #[derive(Clone, Copy)]
 pub enum Inequality {
     T1,
     T2,
     T3,
+    T3AtCap,
     T3SecondForm,
     Web,
     LongWeb,
@@ -30,14 +31,14 @@ pub enum Inequality {
     Shear,
 }
 
-use Inequality::{LongWeb, Modulus, Shear, T3SecondForm, Web, T1, T2, T3};
+use Inequality::{LongWeb, Modulus, Shear, T3AtCap, T3SecondForm, Web, T1, T2, T3};
 
 impl Inequality {
     pub fn number(self) -> i128 {
         match self {
             T1 => 1,
             T2 => 2,
-            T3 | T3SecondForm => 3,
+            T3 | T3AtCap | T3SecondForm => 3,
             Web | LongWeb => 4,
             Modulus => 5,
             Shear => 6,
@@ -45,10 +46,12 @@ impl Inequality {
     }
 }
 
+/// The inner bottom is aimed at twice in rule 3, which goes by another modulus there.
 pub const AIMS: &[(Inequality, &[i128])] = &[
     (T1, &[1, 2, 3, 4]),
     (T2, &[1, 2, 3, 4]),
-    (T3, &[1, 2, 3, 4]),
+    (T3, &[1, 2, 3, 4, 4, 3]),
+    (T3AtCap, &[3]),
     (T3SecondForm, &[1, 2]),
     (Web, &[5, 6, 7, 8]),
     (LongWeb, &[5]),
@@ -65,6 +68,7 @@ pub fn draw(chance: &mut Chance, inequality: Inequality, kind: i128, side: Side)
         T1 => least_thickness(chance, kind, side),
         T2 => under_pressure(chance, kind, side),
         T3 => under_stress(chance, kind, side),
+        T3AtCap => under_stress_at_cap(chance, kind, side),
         T3SecondForm => under_stress_second_form(chance, kind, side),
         Web => web(chance, kind, side),
         LongWeb => web_of_long_vessel(chance, side),
@@ -169,7 +173,7 @@ fn press(chance: &mut Chance, header: &mut Form, plate: &mut Form, P: i128) -> b
 }
 
 /// Brings R to the number, as a rule with R rounded up.
-fn stress(chance: &mut Chance, header: &mut Form, R: i128) -> bool {
+fn stress(chance: &mut Chance, header: &mut Form, kind: i128, R: i128) -> bool {
     if !(1..=210_000).contains(&R) {
         return false;
     }
@@ -177,7 +181,7 @@ fn stress(chance: &mut Chance, header: &mut Form, R: i128) -> bool {
     let (M, ZB) = *chance.of(&[(R, 1_000_000), rounded]);
     header.set("M", M);
     header.set("ZB", ZB);
-    hull_stress(&Header::of(header)) == R
+    hull_stress(&Header::of(header), kind) == R
 }
 
 /// Rule 3 as it stands for all four kinds.
@@ -201,7 +205,7 @@ fn under_stress(chance: &mut Chance, kind: i128, side: Side) -> Drawn {
         return None;
     }
     let mut header = quiet_header();
-    stress(chance, &mut header, R).then_some((header, plate))
+    stress(chance, &mut header, kind, R).then_some((header, plate))
 }
 
 fn some_panel(chance: &mut Chance, plate: &mut Form) -> i128 {
@@ -212,6 +216,27 @@ fn some_panel(chance: &mut Chance, plate: &mut Form) -> i128 {
         Record::Plate(data) => panel_factor(&data),
         Record::Member(_) => panic!("a plate"),
     }
+}
+
+/// Rule 3 with K2 at its cap, where one more or one less in that would turn it. Only the
+/// inner bottom shows it: with so great an R as it takes, no T will do for the bottom.
+fn under_stress_at_cap(chance: &mut Chance, kind: i128, side: Side) -> Drawn {
+    let (K, S) = (chance.between(500, 1000), chance.between(100, 2000));
+    let T = chance.between(400, T_HIGHEST);
+    let b1 = chance.between(10, 199);
+    let mut plate = quiet_plate(kind, K, S, T);
+    plate.fill(&[("b1", b1), ("b2", 5 * b1 + 1)]);
+    let wanted = 25 * T * T * 26_000 * 26_000 / (1156 * S * S);
+    let M = chance.between(500_000, 1_000_000);
+    let mut header = quiet_header();
+    header.fill(&[("M", M), ("ZB", (1_000_000 * M / wanted).max(1))]);
+    let R = hull_stress(&Header::of(&header), kind);
+    let met_with = |K2: i128| 25 * T * T * K2 * K2 >= 1156 * S * S * R;
+    let at_edge = match side {
+        Misses => !met_with(26_000) && met_with(26_001),
+        Meets => met_with(26_000) && !met_with(25_999),
+    };
+    at_edge.then_some((header, plate))
 }
 
 /// Rule 3's second form, on the bottom: what stress is left stands on the left.
@@ -232,7 +257,7 @@ fn under_stress_second_form(chance: &mut Chance, kind: i128, side: Side) -> Draw
         return None;
     }
     let mut header = quiet_header();
-    stress(chance, &mut header, R).then_some((header, plate))
+    stress(chance, &mut header, kind, R).then_some((header, plate))
 }
 
 /// Rule 4, kind 5 under L = 12000 and the other kinds at every L.

@@ -1,19 +1,21 @@
 //! Vessels, plates and members that meet every rule with room, to be changed in
 //! the one that is tried.
 
-use crate::form::{Form, HEADER, MEMBER, PLATE};
-use crate::limits::{A_HIGHEST, T_HIGHEST, VERSION, W_HIGHEST};
+use crate::form::{Form, MEMBER, PLATE};
+use crate::limits::{A_HIGHEST, T_HIGHEST, W_HIGHEST};
+use crate::version::VERSIONS;
 
-/// A vessel without moment and without pressure at z = 1.
+/// A vessel without moment and without pressure at z = 1, in the first version.
 pub fn quiet_header() -> Form {
+    let version = &VERSIONS[0];
     let fields = [
-        ("version", VERSION),
+        ("version", version.number),
         ("L", 4000),
         ("D0", 1),
         ("ZB", 1),
         ("n", 1),
     ];
-    Form::filled(HEADER, &fields)
+    Form::filled(version.layout, &fields)
 }
 
 /// A plate at z = 1 without load.

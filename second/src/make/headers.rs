@@ -1,0 +1,107 @@
+//! Sheets for the cases of a header, each in its turn, so that some thousand sheets
+//! bring up every one of them.
+
+use super::chance::Chance;
+use super::draft::Draft;
+use super::whole::{sound, sound_in};
+use crate::header_case::all;
+use crate::header_case::HeaderCase::{self, Behind, Cut, Field, Full, Unknown};
+use crate::version::{Version, SHORTEST_HEADER, VERSIONS};
+
+pub struct Headers {
+    cases: Vec<HeaderCase>,
+    next: usize,
+}
+
+impl Headers {
+    pub fn new() -> Headers {
+        Headers {
+            cases: all().into_iter().collect(),
+            next: 0,
+        }
+    }
+
+    pub fn sheet(&mut self, chance: &mut Chance) -> Vec<u8> {
+        let case = self.cases[self.next % self.cases.len()];
+        self.next += 1;
+        made(chance, case)
+    }
+}
+
+fn known(number: i128) -> &'static Version {
+    Version::numbered(number).expect("a version of the table")
+}
+
+fn few_records(chance: &mut Chance, version: i128) -> Draft {
+    let n = chance.between(0, 3);
+    sound_in(chance, known(version), n)
+}
+
+fn made(chance: &mut Chance, case: HeaderCase) -> Vec<u8> {
+    match case {
+        Cut { version, bytes } => {
+            let mut sheet = few_records(chance, version).bytes();
+            sheet.truncate(bytes);
+            sheet
+        }
+        Unknown { version, short } => {
+            // With one record a sheet of any version is long enough for every header.
+            let n = chance.between(1, 3);
+            let mut draft = sound(chance, n);
+            draft.header.set("version", version);
+            let mut sheet = draft.bytes();
+            if short {
+                let longest = VERSIONS.iter().map(|version| version.bytes).max();
+                let under = longest.unwrap_or(0) - SHORTEST_HEADER;
+                sheet.truncate(SHORTEST_HEADER + chance.below(under));
+            }
+            sheet
+        }
+        Field {
+            version,
+            field,
+            value,
+        } => {
+            let version = known(version);
+            let mut draft = match version.layout[field - 1].0 {
+                "n" => sound_in(chance, version, value.min(version.n_highest)),
+                _ => few_records(chance, version.number),
+            };
+            draft.header.values[field - 1] = value;
+            draft.bytes()
+        }
+        Behind { version, bytes } => {
+            let version = known(version);
+            let n = *chance.of(&[1, 2, 3, version.n_highest]);
+            let mut sheet = sound_in(chance, version, n).bytes();
+            let length = version.sheet_bytes(n) - version.bytes + bytes;
+            sheet.resize_with(length, || chance.byte());
+            sheet
+        }
+        Full { version, past } => {
+            let version = known(version);
+            let mut sheet = sound_in(chance, version, version.n_highest).bytes();
+            if past {
+                sheet.push(chance.byte());
+            }
+            sheet
+        }
+    }
+}
+
+#[cfg(test)]
+mod tests {
+    use super::*;
+    use crate::header_case::found;
+    use crate::print::verdicts;
+
+    #[test]
+    fn each_sheet_is_the_case_that_it_is_made_for() {
+        let mut chance = Chance::new(8);
+        for case in all() {
+            let sheet = made(&mut chance, case);
+            let refusal = verdicts(&sheet).err();
+            assert!(found(&sheet, refusal).contains(&case), "{case:?}");
+        }
+    }
+}
