@@ -73,3 +73,14 @@ pub refusal-examples : (putIn (lent 0) 45 (plate 7 617) ≡ refused 1 0)
     × (putIn (lent 15) 44 (plate 9 600) ≡ refused 11 0)
 unfolding putIn removeIn placing placeOf hasOf sheetAt soundSheet sheetIn headerFor recordsIn partsFrom soundAfter _then_ demand readHeader readRecord recordIn plateFault
 refusal-examples = (refl, refl, refl, refl, refl, refl, refl, refl)
+
+-- the same vessel in version 2, with ZDB 300,000 and depth 300: the records stand behind twenty bytes
+abbrev second : ℕ → List ℕ
+second count = 39 ∷ 208 ∷ 15 ∷ 163 ∷ 192 ∷ 39 ∷ 16 ∷ 0 ∷ 48 ∷ 212 ∷ 0 ∷ count ∷ 0 ∷ 146 ∷ 124 ∷ 9 ∷ 96 ∷ 0 ∷ 0 ∷ 0 ∷ []
+
+-- id 9 goes in between and id 7 goes out, as above; a length of 19 is under the header
+pub second-examples : (putIn (second 16 ++ (seven ++ (twelve ++ replicate 17 170))) 52 (plate 9 600) ≡ given (record { size = 68; bytes = second 24 ++ (seven ++ ((32 ∷ 39 ∷ 232 ∷ 0 ∷ 7 ∷ 208 ∷ 150 ∷ 0 ∷ 0 ∷ 0 ∷ 0 ∷ 0 ∷ 0 ∷ 0 ∷ 0 ∷ 0 ∷ []) ++ (twelve ++ (170 ∷ [])))) }))
+    × (removeIn (second 16 ++ (seven ++ (twelve ++ (170 ∷ [])))) 52 7 ≡ given (record { size = 36; bytes = second 8 ++ (twelve ++ (replicate 16 0 ++ (170 ∷ []))) }))
+    × (putIn (second 16 ++ (seven ++ twelve)) 19 (plate 7 617) ≡ refused 1 0)
+unfolding putIn removeIn placing inserting removing placeOf hasOf sheetAt soundSheet sheetIn headerFor recordsIn partsFrom soundAfter _then_ demand readHeader readRecord recordIn plateFault
+second-examples = (refl, refl, refl)
