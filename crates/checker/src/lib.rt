@@ -135,7 +135,8 @@ fn header_for(sheet: &[u8], room: usize) -> HeaderRead
         HeaderRead::Refused(x) => HeaderRead::Refused(x),
         HeaderRead::Good(h) => {
             let n = h.count as usize;
-            if sheet.len() != h.size() + RECORD * n {
+            let size = h.size();
+            if sheet.len() != size + RECORD * n {
                 return HeaderRead::Refused(Refusal::SheetLength);
             }
             if room < VERDICT * n {

@@ -14,21 +14,20 @@ use Rattle.sheet.specs.declared.Own.{Own}
 use Rattle.sheet.specs.declared.Own.the-variants.{One}
 use Rattle.sheet.specs.declared.Body.{Body}
 use Rattle.sheet.specs.declared.Body.the-variants.{Plate as isPlate, Member as isMember}
-use Rattle.sheet.specs.declared.Plate.{Plate}
 use Rattle.sheet.specs.declared.Record.{Record}
 use Rattle.sheet.specs.Versions.{one, two, versionOf, needs}
 use Rattle.sheet.specs.Kinds.{isBottom}
 use Rattle.sheet.specs.Refusals.{Answer, given, refused, headerRefused}
 use Rattle.sheet.specs.RefusalLaws.{by-none, given-refused}
 use Rattle.sheet.specs.Header.{headerSize, innerOf, versionField, readHeader}
-use Rattle.plating.specs.Rules.{R, K2, rule3, plateModulus, asked, asked1, asked2, plateRules}
+use Rattle.plating.specs.Rules.{R, K2, rule3, plateModulus, asked, asked1, asked2}
 use Rattle.verdict.specs.Verdict.{Rule, verdictOf}
 use Rattle.hull.specs.Hull.{bodyRules, sourceOf}
 use Rattle.checker.specs.declared.Entry.{Entry}
-use Rattle.checker.specs.Check.{_then_, demand, sheetSize, headerFor, partsFrom, recordsIn, Sheet, sheetIn, entryWith, entryOf, verdicts, bytesOf, failures, Totals, answerOf, outputBy, outputOf}
+use Rattle.checker.specs.Check.{_then_, demand, sheetSize, headerFor, partsFrom, recordsIn, Sheet, sheetIn, entryWith, entryOf, verdicts, bytesOf, failures, answerOf, outputBy, outputOf}
 use Rattle.checker.specs.CheckLaws.{sheet-whole}
 use Rattle.demands.specs.Example.{example, lent}
-use Rattle.demands.specs.DocumentOne.{onlyLines, onlyHeader, onlyFields, readOnly, sheetOnly, onlyPlate, onlyRules, entryOnly, verdictsOnly, answerOnly, outputBy as onlyOutputBy, outputOnly}
+use Rattle.demands.specs.DocumentOne.{onlyLines, onlyHeader, onlyFields, readOnly, sheetOnly, onlyRules, entryOnly, verdictsOnly, answerOnly, outputBy as onlyOutputBy, outputOnly}
 
 -- ---- the rules: a header with nothing of its own has ZB for every plate
 

@@ -66,7 +66,8 @@ fn replace(buf: &mut [u8], h: Header, i: u16, r: Record)
     requires { ⌜ (recordFault r 0 ≡ 0) × (start h i + 16 ≤ length (now buf)) ⌝ }
     ensures { λ _. ⌜ now (buf .exit) ≡ replacing h i r (now (buf .entry)) ⌝ }
 {
-    let first = h.size() + RECORD * (i as usize);
+    let size = h.size();
+    let first = size + RECORD * (i as usize);
     let past = first + RECORD;
     record::write_record(r, &mut buf[first..past]);
 }

@@ -1,7 +1,7 @@
 -- Which answer is given in each case.
 -- Assumes nothing.
 use Prim.Native.Nat.{ℕ, _+_, _-_, _%_, _^_, _<_, _≤_}
-use mathlib.Core.Path.{_≡_, refl, sym, ap, ap₂, subst, _∙_}
+use mathlib.Core.Path.{_≡_, refl, sym, ap, ap₂, _∙_}
 use mathlib.Core.Bool.{Bool, true, false, cond}
 use mathlib.Core.List.{List, [], _∷_, _++_, append-assoc}
 use native.Mathlib.Omega.{arith}
@@ -16,7 +16,7 @@ use Rattle.layout.specs.Bytes.{readOf, writtenOf}
 use Rattle.layout.specs.BytesLaws.{read-all, write-all}
 use Rattle.layout.specs.Tail.{mid-tail, put-tail}
 use Rattle.layout.specs.Line.{faultFrom}
-use Rattle.sheet.specs.Versions.{Version, firstBytes, one, two, numbered, versionOf, needs}
+use Rattle.sheet.specs.Versions.{firstBytes, one, two, numbered, versionOf, needs}
 use Rattle.sheet.specs.VersionLaws.{under-first, regular, needs-own}
 use Rattle.sheet.specs.Lines.{headerLines, firstWidths, ownWidths}
 use Rattle.sheet.specs.Header.{headerSize, firstValues, ownValues, headerAt, rawFault, headerFault, fieldsIn, ownBytes, firstFields, ownFields, versionField, versionIn, headerFields, headerOf, readHeader, headerBytes, headerNeeds, writeHeader}
@@ -26,7 +26,6 @@ use Rattle.sheet.specs.Refusals.{Answer, given, refused, told, toldOutcome, tol
 use Rattle.sheet.specs.RefusalLaws.{at-none, says}
 use Rattle.sheet.specs.Writes.{Writes}
 use Rattle.sheet.specs.declared.Header.{Header}
-use Rattle.sheet.specs.declared.Own.{Own}
 use Rattle.sheet.specs.declared.Own.the-variants.{One, Two}
 use Rattle.sheet.specs.declared.Section.{Section}
 use Rattle.sheet.specs.declared.Refusal.{Refusal}

@@ -196,7 +196,8 @@ pub fn read_header(s: &[u8]) -> HeaderRead
     let n = layout::read_short(s);
     let rest = layout::read_word(&s[FIRST..]);
     let h = header_of(n, rest);
-    if s.len() < needs(h) {
+    let least = needs(h);
+    if s.len() < least {
         return HeaderRead::Refused(Refusal::SheetShort);
     }
     let f = fault(h, n.lo % 8, (rest % P27) as u32);
@@ -232,7 +233,8 @@ fn write_own(own: Own, out: &mut [u8])
 pub fn write_header(h: Header, out: &mut [u8]) -> Outcome
     ensures { λ r. ⌜ Writes (writeHeader h (now (out .entry))) (toldOutcome r) (now (out .exit)) ⌝ }
 {
-    if out.len() < needs(h) {
+    let least = needs(h);
+    if out.len() < least {
         return Outcome::Refused(Refusal::OutputShort);
     }
     let f = fault(h, 0, 0);

@@ -116,10 +116,11 @@ fn rule2(kind: u8, factor: SteelFactor, spacing: Spacing, load: Load) -> Shape
 fn modulus(h: Header, kind: u8) -> u32
     ensures { λ r. ⌜ r ≡ plateModulus h kind ⌝ }
 {
+    let inner = h.inner_modulus();
     if is_bottom(kind) {
         return h.bottom_modulus;
     }
-    h.inner_modulus()
+    inner
 }
 
 // R: the hull's stress at the plate, from the moment M and the modulus there.

@@ -18,7 +18,7 @@ use Rattle.keyed.specs.Keyed.{placeOf, hasOf, putOf}
 use Rattle.keyed.specs.Places.{place-le, put-at, put-has, put-place}
 use Rattle.edit.specs.Edit.{sheetAt, start, idOf, counting, inserting, removing, After, putIn, removeIn}
 use Rattle.edit.specs.Taken.{Taken, taken-at}
-use Rattle.revisions.specs.Rebuilt.{head, head-read}
+use Rattle.revisions.specs.Rebuilt.{head-read}
 use Rattle.edit.specs.Done.{Put, replaces, inserts, put-done}
 use Rattle.revisions.specs.Outcomes.{holding, put-sheet}
 use Rattle.revisions.specs.Touched.{inserted-before, inserted-moved, inserted-rest}

@@ -9,16 +9,16 @@ use lib.Seq.{take-add, take-at, length-take-le}
 use Rattle.quantity.specs.Range.{from}
 use Rattle.layout.specs.Layout.{pack, unpack, bytes, Fit}
 use Rattle.layout.specs.Laws.{fit-parts, fields-again, bytes-again, length-unpack, length-bytes}
-use Rattle.layout.specs.Line.{Allowed, faultFrom}
+use Rattle.layout.specs.Line.{Allowed}
 use Rattle.layout.specs.LineLaws.{all-none, low-high}
 use Rattle.sheet.specs.declared.Header.{Header}
 use Rattle.sheet.specs.declared.Own.{Own}
 use Rattle.sheet.specs.declared.Own.the-variants.{One, Two}
-use Rattle.sheet.specs.Versions.{Version, firstBytes, numbered, versionOf}
+use Rattle.sheet.specs.Versions.{Version, firstBytes, versionOf}
 use Rattle.sheet.specs.VersionLaws.{regular, numbered-own}
 use Rattle.sheet.specs.Lines.{headerLines, firstWidths, ownWidths}
 use Rattle.sheet.specs.Refusals.{given}
-use Rattle.sheet.specs.Header.{headerSize, firstValues, ownValues, headerValues, headerAt, rawFault, headerFault, ownBytes, firstFields, ownFields, versionField, versionIn, headerFields, headerOf, readHeader, headerBytes, writeHeader}
+use Rattle.sheet.specs.Header.{headerSize, firstValues, ownValues, headerValues, headerAt, rawFault, headerFault, ownBytes, firstFields, ownFields, versionField, versionIn, headerFields, readHeader, headerBytes, writeHeader}
 use Rattle.sheet.specs.HeaderLaws.{version-at, spareIn, restIn, values-at, header-allowed, header-version, header-fit, at-values}
 use Rattle.sheet.specs.HeaderExactly.{header-read-given, header-bytes-length, header-write-given, header-write-fine, header-write-bytes}
 

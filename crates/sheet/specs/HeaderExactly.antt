@@ -1,7 +1,7 @@
 -- The header: each answer of reading it, of writing it and of looking for its fault is given exactly when its case of the table holds and none
 -- before it does; and what the bytes are after writing.
 -- Assumes nothing.
-use Prim.Native.Nat.{ℕ, suc, _≤_, _<_}
+use Prim.Native.Nat.{ℕ, _≤_}
 use mathlib.Core.Path.{_≡_, refl, sym, ap, _∙_}
 use mathlib.Core.Bool.{Bool, true, false}
 use mathlib.Core.List.{List, _∷_, _++_}

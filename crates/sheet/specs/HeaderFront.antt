@@ -12,8 +12,8 @@ use Rattle.layout.specs.Layout.{pack, unpack, bytes}
 use Rattle.layout.specs.BytesLaws.{drop-take}
 use Rattle.layout.specs.Line.{faultFrom}
 use Rattle.sheet.specs.declared.Header.{Header}
-use Rattle.sheet.specs.Versions.{Version, firstBytes, numbered, versionOf, needs}
-use Rattle.sheet.specs.VersionLaws.{regular, regular-at, needs-most}
+use Rattle.sheet.specs.Versions.{Version, firstBytes, numbered, needs}
+use Rattle.sheet.specs.VersionLaws.{regular-at, needs-most}
 use Rattle.sheet.specs.Lines.{headerLines, firstWidths, ownWidths}
 use Rattle.sheet.specs.Refusals.{given, headerRefused}
 use Rattle.sheet.specs.Header.{headerSize, headerFault, ownBytes, firstFields, ownFields, versionField, versionIn, headerAt, headerFields, headerBytes, readHeader}

@@ -8,7 +8,6 @@ use native.Mathlib.Omega.{arith}
 use native.Mathlib.Nat.{mod-lt}
 use lib.ListN.{length, getD}
 use lib.Dec.{eqb}
-use borrow.Author.Tests.{eq-eqb}
 use Rattle.quantity.specs.Range.{within, from}
 use Rattle.layout.specs.Layout.{Fit}
 use Rattle.layout.specs.Laws.{fit-parts}
@@ -23,7 +22,6 @@ use Rattle.sheet.specs.VersionLaws.{regular}
 use Rattle.sheet.specs.Lines.{headerLines, firstWidths, ownWidths, waves}
 use Rattle.sheet.specs.Header.{innerOf, firstValues, ownValues, headerValues, headerAt, rawFault, headerFault, firstFields, ownFields, versionField, versionIn, headerFields, headerOf}
 use Rattle.sheet.specs.Ranges.{HeaderRanges}
-use Rattle.sheet.specs.Refusals.{given, headerRefused}
 
 -- a flag's bit is within its line, and is the flag again
 pub flag-within : (b : Bool) → within (from 0 1) (cond b 1 0) ≡ true

@@ -50,6 +50,9 @@ pub struct Version {
     pub most: u16,
 }
 
+// The most records of versions 1 and 2.
+const MOST: u16 = 400;
+
 impl Own {
     // The version that holds this.
     pub fn version(self) -> Version
@@ -59,12 +62,12 @@ impl Own {
             Own::One => Version {
                 number: 1,
                 size: 12,
-                most: 400,
+                most: MOST,
             },
             Own::Two(_) => Version {
                 number: 2,
                 size: 20,
-                most: 400,
+                most: MOST,
             },
         }
     }

@@ -30,6 +30,18 @@ past c size e = mid-past size (headerSize (c .read2 .given .0 .0)) (now (c .befo
 inside : (c : tie.After-size) → let s = now (c .before .before .before .before .before .before .args .sheet) in c .size .result ≤ length s
 inside c = omega (arith, c .size .ensures, header-fits _ _ _ (sym (read (c .before .before))) .whole)
 
+-- what is said of them
+said : (c : tie.After-records-sound) → let at-read = c .before .before .before .before in let s = now (at-read .before .before .before .before .args .sheet) in
+    toldOutcome (c .records-sound .result) ≡ recordsSound (recordsPart (at-read .read2 .given .0 .0) s) (at-read .read2 .given .0 .0 .count)
+said c =
+    let at-size = c .before .before in
+    let at-read = at-size .before .before in
+    let h = at-read .read2 .given .0 .0 in
+    let s = now (at-read .before .before .before .before .args .sheet) in
+    let k = at-size .size .result in
+    let found : toldOutcome (c .records-sound .result) ≡ recordsSound (midOf k (length s - k) s) (h .count) = c .records-sound .ensures in
+    found ∙ ap (λ (b : List ℕ). recordsSound b (h .count)) (past at-read k (at-size .size .ensures))
+
 records-sound-requires : tie.Need-records-sound-requires
 records-sound-requires c κs =
     let at-read = c .before .before .before in
@@ -44,20 +56,16 @@ returns c =
 returns-2 : tie.Need-returns-2
 returns-2 c =
     let at-records = c .before .before .before in
-    let at-size = at-records .before .before in
-    let at-read = at-size .before .before in
+    let at-read = at-records .before .before .before .before in
     records-refused (now (at-read .before .before .before .before .args .sheet)) _ (read at-read) _ _
-    (sym (ap toldOutcome (c .before .found .given .1)) ∙ at-records .records-sound .ensures
-    ∙ ap (λ (b : List ℕ). recordsSound b (at-read .read2 .given .0 .0 .count)) (past at-read (at-size .size .result) (at-size .size .ensures)))
+    (sym (ap toldOutcome (c .before .found .given .1)) ∙ said at-records)
 
 returns-3 : tie.Need-returns-3
 returns-3 c =
     let at-records = c .before .before in
-    let at-size = at-records .before .before in
-    let at-read = at-size .before .before in
+    let at-read = at-records .before .before .before .before in
     all-sound (now (at-read .before .before .before .before .args .sheet)) _ (read at-read)
-    (sym (ap toldOutcome (c .enum-told .given .1)) ∙ at-records .records-sound .ensures
-    ∙ ap (λ (b : List ℕ). recordsSound b (at-read .read2 .given .0 .0 .count)) (past at-read (at-size .size .result) (at-size .size .ensures)))
+    (sym (ap toldOutcome (c .enum-told .given .1)) ∙ said at-records)
 
 pub sound-header-spec : {M : Type 1} → statement M
 sound-header-spec =

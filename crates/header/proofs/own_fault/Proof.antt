@@ -1,7 +1,7 @@
 -- `header::own_fault` meets its contract: the lines from the last to the first.
 -- Assumes nothing.
 use borrow.Author.Needs.{needs}
-use mathlib.Core.Path.{sym, ap, _∙_}
+use mathlib.Core.Path.{sym, ap}
 use Rattle.layout.specs.Line.{faultFrom}
 use Rattle.sheet.specs.declared.Own.{Own}
 use Rattle.sheet.specs.Versions.{versionOf}

@@ -1,7 +1,6 @@
 -- `header::own_of` meets its contract.
 -- Assumes nothing.
 use borrow.Author.Needs.{needs}
-use native.Mathlib.Nat.{div-one}
 use borrow.Author.Tests.{eq-eqb, ne-eqb}
 use Rattle.header.proofs.own_of.Statement.{statement}
 use Rattle.header.proofs.own_of.Tie as tie
