@@ -29,7 +29,7 @@ static int outside(uint32_t x, uint32_t low, uint32_t high) { return x < low || 
 
 static uint64_t refused(uint64_t number, uint64_t place) { return number << 40 | place; }
 
-// What version 2 has past the fields of version 1; a depth counts nowhere yet.
+// What version 2 has past the fields of version 1; a depth counts nowhere.
 static uint64_t read_inner_bottom(uint64_t own, Header *h) {
     h->inner_modulus = own >> 37;
     if (outside(h->inner_modulus, 1, 100000000)) return refused(3, 10);

@@ -72,7 +72,7 @@ static void check(const char *name, uint64_t length, uint64_t room) {
     return;
   }
   printf("%s: n %u failed %u\n", name, yard_n(answer), yard_failed(answer));
-  show_bytes(name, 4 * (int)yard_n(answer));
+  show_bytes(name, YARD_VERDICT_BYTES * (int)yard_n(answer));
 }
 
 static void read_as(const char *name, int count, uint64_t (*function)(const uint8_t *, uint64_t, uint32_t *), uint64_t length) {
@@ -97,191 +97,221 @@ static void write_as(const char *name, const uint32_t *numbers, int count, uint6
   show_bytes(name, count);
 }
 
-static const uint32_t vessel[10] = {1, 8000, 250, 60, 0, 20000, 200000, 2, 0, 0};
-static const uint32_t vessel_2[10] = {2, 8000, 250, 60, 0, 20000, 200000, 2, 400000, 300};
-static const uint32_t plate[13] = {2, 7, 1000, 0, 500, 600, 0, 0, 0, 0, 0, 0, 0};
-static const uint32_t inner[13] = {4, 9, 1000, 0, 500, 600, 0, 0, 0, 0, 30000, 0, 0};
-static const uint32_t member[13] = {5, 12, 0, 500, 300, 420, 100, 100, 90, 50, 560, 168, 1000};
-static uint32_t damaged[13];
+static const uint32_t vessel[YARD_HEADER_FIELDS] = {1, 8000, 250, 60, 0, 20000, 200000, 2, 0, 0};
+static const uint32_t vessel_2[YARD_HEADER_FIELDS] = {2, 8000, 250, 60, 0, 20000, 200000, 2, 400000, 300};
+static const uint32_t plate[YARD_RECORD_FIELDS] = {2, 7, 1000, 0, 500, 600, 0, 0, 0, 0, 0, 0, 0};
+static const uint32_t inner[YARD_RECORD_FIELDS] = {4, 9, 1000, 0, 500, 600, 0, 0, 0, 0, 30000, 0, 0};
+static const uint32_t member[YARD_RECORD_FIELDS] = {5, 12, 0, 500, 300, 420, 100, 100, 90, 50, 560, 168, 1000};
+static uint32_t damaged[YARD_RECORD_FIELDS];
 
 static const uint32_t *with(const uint32_t *numbers, int count, int at, uint32_t number) {
   for (int i = 0; i < count; i++) damaged[i] = i == at ? number : numbers[i];
   return damaged;
 }
 
+static const uint32_t *header_with(const uint32_t *numbers, int at, uint32_t number) { return with(numbers, YARD_HEADER_FIELDS, at, number); }
+
+static const uint32_t *record_with(const uint32_t *numbers, int at, uint32_t number) { return with(numbers, YARD_RECORD_FIELDS, at, number); }
+
+static uint64_t header_bytes(const uint32_t *numbers) { return numbers[0] == 1 ? YARD_HEADER_1_BYTES : YARD_HEADER_2_BYTES; }
+
+static void write_header(const char *name, const uint32_t *numbers, uint64_t room) {
+  write_as(name, numbers, (int)header_bytes(numbers), yard_write_header, room);
+}
+
+static void read_header(const char *name, uint64_t length) { read_as(name, YARD_HEADER_FIELDS, yard_read_header, length); }
+
+static void write_record(const char *name, const uint32_t *numbers, uint64_t room) {
+  write_as(name, numbers, YARD_RECORD_BYTES, yard_write_record, room);
+}
+
+static void read_record(const char *name, uint64_t length) { read_as(name, YARD_RECORD_FIELDS, yard_read_record, length); }
+
+static void read_verdict(const char *name, uint64_t length) { read_as(name, YARD_VERDICT_FIELDS, yard_read_verdict, length); }
+
 /* The example of the scope: a vessel with a plate and a longitudinal. */
 static void example(void) {
+  uint8_t *first = sheet + YARD_HEADER_1_BYTES, *second = first + YARD_RECORD_BYTES;
   clear_sheet();
-  if (yard_write_header(vessel, sheet, 44) | yard_write_record(plate, sheet + 12, 32) | yard_write_record(member, sheet + 28, 16)) {
+  if (yard_write_header(vessel, sheet, 44) | yard_write_record(plate, first, 32) | yard_write_record(member, second, YARD_RECORD_BYTES)) {
     printf("the example was not written\n");
     exit(1);
   }
 }
 
 static void headers(void) {
-  write_as("header written", vessel, 12, yard_write_header, 12);
-  write_as("header into more room", vessel, 12, yard_write_header, 40);
-  write_as("header into 11 bytes", vessel, 12, yard_write_header, 11);
-  write_as("header into no bytes", with(vessel, 10, 0, 7), 12, yard_write_header, 0);
-  write_as("version 0", with(vessel, 10, 0, 0), 12, yard_write_header, 12);
-  write_as("version 257", with(vessel, 10, 0, 257), 12, yard_write_header, 12);
-  write_as("L 70000", with(vessel, 10, 1, 70000), 12, yard_write_header, 12);
-  write_as("L 8000 + 65536", with(vessel, 10, 1, 8000 + 65536), 12, yard_write_header, 12);
-  write_as("D0 0", with(vessel, 10, 2, 0), 12, yard_write_header, 12);
-  write_as("H 61", with(vessel, 10, 3, 61), 12, yard_write_header, 12);
-  write_as("H 65596", with(vessel, 10, 3, 65596), 12, yard_write_header, 12);
-  write_as("two runs", with(vessel, 10, 4, 1), 12, yard_write_header, 12);
-  write_as("runs 2", with(vessel, 10, 4, 2), 12, yard_write_header, 12);
-  write_as("runs 2 in 11 bytes", damaged, 12, yard_write_header, 11);
+  write_header("header written", vessel, YARD_HEADER_1_BYTES);
+  write_header("header into more room", vessel, 40);
+  write_header("header into 11 bytes", vessel, 11);
+  write_header("header into no bytes", header_with(vessel, 0, 7), 0);
+  write_header("version 0", header_with(vessel, 0, 0), YARD_HEADER_1_BYTES);
+  write_header("version 257", header_with(vessel, 0, 257), YARD_HEADER_1_BYTES);
+  write_header("L 70000", header_with(vessel, 1, 70000), YARD_HEADER_1_BYTES);
+  write_header("L 8000 + 65536", header_with(vessel, 1, 8000 + 65536), YARD_HEADER_1_BYTES);
+  write_header("D0 0", header_with(vessel, 2, 0), YARD_HEADER_1_BYTES);
+  write_header("H 61", header_with(vessel, 3, 61), YARD_HEADER_1_BYTES);
+  write_header("H 65596", header_with(vessel, 3, 65596), YARD_HEADER_1_BYTES);
+  write_header("two runs", header_with(vessel, 4, 1), YARD_HEADER_1_BYTES);
+  write_header("runs 2", header_with(vessel, 4, 2), YARD_HEADER_1_BYTES);
+  write_header("runs 2 in 11 bytes", damaged, 11);
   damaged[7] = 401;
-  write_as("runs 2 and n 401", damaged, 12, yard_write_header, 12);
+  write_header("runs 2 and n 401", damaged, YARD_HEADER_1_BYTES);
   damaged[2] = 1001;
-  write_as("D0 1001, runs 2 and n 401", damaged, 12, yard_write_header, 12);
-  write_as("M 1000001", with(vessel, 10, 5, 1000001), 12, yard_write_header, 12);
-  write_as("ZB 4294967295", with(vessel, 10, 6, 4294967295u), 12, yard_write_header, 12);
-  write_as("n 65938", with(vessel, 10, 7, 65938), 12, yard_write_header, 12);
-  write_as("version 1 with ZDB 1", with(vessel, 10, 8, 1), 12, yard_write_header, 12);
-  write_as("version 1 with ZDB 1 into 11 bytes", damaged, 12, yard_write_header, 11);
+  write_header("D0 1001, runs 2 and n 401", damaged, YARD_HEADER_1_BYTES);
+  write_header("M 1000001", header_with(vessel, 5, 1000001), YARD_HEADER_1_BYTES);
+  write_header("ZB 4294967295", header_with(vessel, 6, 4294967295u), YARD_HEADER_1_BYTES);
+  write_header("n 65938", header_with(vessel, 7, 65938), YARD_HEADER_1_BYTES);
+  write_header("version 1 with ZDB 1", header_with(vessel, 8, 1), YARD_HEADER_1_BYTES);
+  write_header("version 1 with ZDB 1 into 11 bytes", damaged, 11);
   damaged[7] = 401;
-  write_as("version 1 with n 401 and ZDB 1", damaged, 12, yard_write_header, 12);
-  write_as("version 1 with ZDB 4294967295", with(vessel, 10, 8, 4294967295u), 12, yard_write_header, 12);
+  write_header("version 1 with n 401 and ZDB 1", damaged, YARD_HEADER_1_BYTES);
+  write_header("version 1 with ZDB 4294967295", header_with(vessel, 8, 4294967295u), YARD_HEADER_1_BYTES);
   damaged[9] = 1;
-  write_as("version 1 with ZDB 4294967295 and depth 1", damaged, 12, yard_write_header, 12);
-  write_as("version 1 with depth 300", with(vessel, 10, 9, 300), 12, yard_write_header, 20);
+  write_header("version 1 with ZDB 4294967295 and depth 1", damaged, YARD_HEADER_1_BYTES);
+  write_header("version 1 with depth 300", header_with(vessel, 9, 300), YARD_HEADER_2_BYTES);
   example();
-  read_as("header read", 10, yard_read_header, 44);
-  read_as("header in 12 bytes", 10, yard_read_header, 12);
-  read_as("header in 11 bytes", 10, yard_read_header, 11);
+  read_header("header read", 44);
+  read_header("header in 12 bytes", 12);
+  read_header("header in 11 bytes", 11);
   sheet[11] |= 1;
-  read_as("header with a spare bit", 10, yard_read_header, 12);
+  read_header("header with a spare bit", YARD_HEADER_1_BYTES);
   sheet[0] = 0;
-  read_as("header with no version", 10, yard_read_header, 12);
+  read_header("header with no version", YARD_HEADER_1_BYTES);
 }
 
 /* A vessel with a bottom plate and an inner bottom plate. */
 static void bottoms(const uint32_t *numbers) {
-  uint64_t bytes = numbers[0] == 1 ? YARD_HEADER_1_BYTES : YARD_HEADER_2_BYTES;
+  uint64_t bytes = header_bytes(numbers);
+  uint8_t *first = sheet + bytes, *second = first + YARD_RECORD_BYTES;
   clear_sheet();
-  if (yard_write_header(numbers, sheet, bytes) | yard_write_record(plate, sheet + bytes, 16) | yard_write_record(inner, sheet + bytes + 16, 16)) {
+  if (yard_write_header(numbers, sheet, bytes) | yard_write_record(plate, first, YARD_RECORD_BYTES) | yard_write_record(inner, second, YARD_RECORD_BYTES)) {
     printf("the two bottoms were not written\n");
     exit(1);
   }
 }
 
 static void headers_written_in_2(void) {
-  write_as("version 2 written", vessel_2, 20, yard_write_header, 20);
-  write_as("version 2 into more room", vessel_2, 20, yard_write_header, 40);
-  write_as("version 2 into 19 bytes", vessel_2, 20, yard_write_header, 19);
-  write_as("version 2 into 15 bytes", vessel_2, 20, yard_write_header, 15);
-  write_as("version 2 into 12 bytes", vessel_2, 20, yard_write_header, 12);
-  write_as("version 2 into 11 bytes", vessel_2, 20, yard_write_header, 11);
-  write_as("version 3 into 11 bytes", with(vessel_2, 10, 0, 3), 20, yard_write_header, 11);
-  write_as("version 3 into 15 bytes", damaged, 20, yard_write_header, 15);
-  write_as("version 3 into 20 bytes", damaged, 20, yard_write_header, 20);
-  write_as("version 258", with(vessel_2, 10, 0, 258), 20, yard_write_header, 20);
-  write_as("version 2 with L 3999", with(vessel_2, 10, 1, 3999), 20, yard_write_header, 20);
-  write_as("ZDB 0 into 15 bytes", with(vessel_2, 10, 8, 0), 20, yard_write_header, 15);
-  write_as("ZDB 0", damaged, 20, yard_write_header, 20);
+  write_header("version 2 written", vessel_2, YARD_HEADER_2_BYTES);
+  write_header("version 2 into more room", vessel_2, 40);
+  write_header("version 2 into 19 bytes", vessel_2, 19);
+  write_header("version 2 into 15 bytes", vessel_2, 15);
+  write_header("version 2 into 12 bytes", vessel_2, 12);
+  write_header("version 2 into 11 bytes", vessel_2, 11);
+  write_header("version 3 into 11 bytes", header_with(vessel_2, 0, 3), 11);
+  write_header("version 3 into 15 bytes", damaged, 15);
+  write_header("version 3 into 20 bytes", damaged, 20);
+  write_header("version 258", header_with(vessel_2, 0, 258), YARD_HEADER_2_BYTES);
+  write_header("version 2 with L 3999", header_with(vessel_2, 1, 3999), YARD_HEADER_2_BYTES);
+  write_header("ZDB 0 into 15 bytes", header_with(vessel_2, 8, 0), 15);
+  write_header("ZDB 0", damaged, YARD_HEADER_2_BYTES);
   damaged[9] = 0;
-  write_as("ZDB 0 and depth 0", damaged, 20, yard_write_header, 20);
+  write_header("ZDB 0 and depth 0", damaged, YARD_HEADER_2_BYTES);
   damaged[4] = 2;
-  write_as("runs 2, ZDB 0 and depth 0", damaged, 20, yard_write_header, 20);
-  write_as("ZDB 1", with(vessel_2, 10, 8, 1), 20, yard_write_header, 20);
-  write_as("ZDB 100000000", with(vessel_2, 10, 8, 100000000), 20, yard_write_header, 20);
-  write_as("ZDB 100000001", with(vessel_2, 10, 8, 100000001), 20, yard_write_header, 20);
-  write_as("ZDB 400000 + 2^27", with(vessel_2, 10, 8, 134617728), 20, yard_write_header, 20);
-  write_as("ZDB 4294967295", with(vessel_2, 10, 8, 4294967295u), 20, yard_write_header, 20);
-  write_as("depth 99", with(vessel_2, 10, 9, 99), 20, yard_write_header, 20);
-  write_as("depth 100", with(vessel_2, 10, 9, 100), 20, yard_write_header, 20);
-  write_as("depth 1000", with(vessel_2, 10, 9, 1000), 20, yard_write_header, 20);
-  write_as("depth 1001", with(vessel_2, 10, 9, 1001), 20, yard_write_header, 20);
-  write_as("depth 300 + 65536", with(vessel_2, 10, 9, 65836), 20, yard_write_header, 20);
+  write_header("runs 2, ZDB 0 and depth 0", damaged, YARD_HEADER_2_BYTES);
+  write_header("ZDB 1", header_with(vessel_2, 8, 1), YARD_HEADER_2_BYTES);
+  write_header("ZDB 100000000", header_with(vessel_2, 8, 100000000), YARD_HEADER_2_BYTES);
+  write_header("ZDB 100000001", header_with(vessel_2, 8, 100000001), YARD_HEADER_2_BYTES);
+  write_header("ZDB 400000 + 2^27", header_with(vessel_2, 8, 134617728), YARD_HEADER_2_BYTES);
+  write_header("ZDB 4294967295", header_with(vessel_2, 8, 4294967295u), YARD_HEADER_2_BYTES);
+  write_header("depth 99", header_with(vessel_2, 9, 99), YARD_HEADER_2_BYTES);
+  write_header("depth 100", header_with(vessel_2, 9, 100), YARD_HEADER_2_BYTES);
+  write_header("depth 1000", header_with(vessel_2, 9, 1000), YARD_HEADER_2_BYTES);
+  write_header("depth 1001", header_with(vessel_2, 9, 1001), YARD_HEADER_2_BYTES);
+  write_header("depth 300 + 65536", header_with(vessel_2, 9, 65836), YARD_HEADER_2_BYTES);
 }
 
 static void headers_read_in_2(void) {
   bottoms(vessel_2);
-  read_as("version 2 read", 10, yard_read_header, 52);
-  read_as("version 2 in 20 bytes", 10, yard_read_header, 20);
-  read_as("version 2 in 19 bytes", 10, yard_read_header, 19);
-  read_as("version 2 in 15 bytes", 10, yard_read_header, 15);
-  read_as("version 2 in 12 bytes", 10, yard_read_header, 12);
-  read_as("version 2 in 11 bytes", 10, yard_read_header, 11);
+  read_header("version 2 read", 52);
+  read_header("version 2 in 20 bytes", 20);
+  read_header("version 2 in 19 bytes", 19);
+  read_header("version 2 in 15 bytes", 15);
+  read_header("version 2 in 12 bytes", 12);
+  read_header("version 2 in 11 bytes", 11);
   sheet[19] |= 1;
-  read_as("the last of 27 spare bits", 10, yard_read_header, 20);
+  read_header("the last of 27 spare bits", YARD_HEADER_2_BYTES);
   sheet[19] = 0;
   sheet[16] |= 4;
-  read_as("the first of 27 spare bits", 10, yard_read_header, 20);
+  read_header("the first of 27 spare bits", YARD_HEADER_2_BYTES);
   sheet[15] &= 0xE0;
   sheet[16] &= 7;
-  read_as("depth 0 and a spare bit", 10, yard_read_header, 20);
+  read_header("depth 0 and a spare bit", YARD_HEADER_2_BYTES);
   for (int i = 12; i < 16; i++) sheet[i] = 0;
-  read_as("ZDB 0, depth 0 and a spare bit", 10, yard_read_header, 20);
+  read_header("ZDB 0, depth 0 and a spare bit", YARD_HEADER_2_BYTES);
   sheet[11] |= 4;
-  read_as("the first of three spare bits, and ZDB 0", 10, yard_read_header, 20);
-  read_as("the same in 19 bytes", 10, yard_read_header, 19);
+  read_header("the first of three spare bits, and ZDB 0", YARD_HEADER_2_BYTES);
+  read_header("the same in 19 bytes", 19);
   sheet[0] = 0x37;
-  read_as("the same as version 3", 10, yard_read_header, 20);
-  read_as("the same as version 3 in 15 bytes", 10, yard_read_header, 15);
-  read_as("the same as version 3 in 11 bytes", 10, yard_read_header, 11);
+  read_header("the same as version 3", YARD_HEADER_2_BYTES);
+  read_header("the same as version 3 in 15 bytes", 15);
+  read_header("the same as version 3 in 11 bytes", 11);
 }
 
-static void records(void) {
-  write_as("plate written", plate, 16, yard_write_record, 16);
-  write_as("plate into 15 bytes", plate, 16, yard_write_record, 15);
-  write_as("kind 257", with(plate, 13, 0, 257), 16, yard_write_record, 16);
-  write_as("kind 258 of a plate", with(plate, 13, 0, 258), 16, yard_write_record, 16);
-  write_as("kind 0", with(plate, 13, 0, 0), 16, yard_write_record, 16);
-  write_as("kind 9", with(member, 13, 0, 9), 16, yard_write_record, 16);
-  write_as("id 65543", with(plate, 13, 1, 65543), 16, yard_write_record, 16);
-  write_as("z 65536", with(plate, 13, 3, 65536), 16, yard_write_record, 16);
-  write_as("ballast 7", with(plate, 13, 8, 7), 16, yard_write_record, 16);
-  write_as("ballast 7 in 3 bytes", damaged, 16, yard_write_record, 3);
+static void records_written(void) {
+  write_record("plate written", plate, YARD_RECORD_BYTES);
+  write_record("plate into 15 bytes", plate, 15);
+  write_record("kind 257", record_with(plate, 0, 257), YARD_RECORD_BYTES);
+  write_record("kind 258 of a plate", record_with(plate, 0, 258), YARD_RECORD_BYTES);
+  write_record("kind 0", record_with(plate, 0, 0), YARD_RECORD_BYTES);
+  write_record("kind 9", record_with(member, 0, 9), YARD_RECORD_BYTES);
+  write_record("id 65543", record_with(plate, 1, 65543), YARD_RECORD_BYTES);
+  write_record("z 65536", record_with(plate, 3, 65536), YARD_RECORD_BYTES);
+  write_record("ballast 7", record_with(plate, 8, 7), YARD_RECORD_BYTES);
+  write_record("ballast 7 in 3 bytes", damaged, 3);
   damaged[10] = 1;
   damaged[11] = 1;
-  write_as("ballast 7, cargo and a number past it", damaged, 16, yard_write_record, 16);
+  write_record("ballast 7, cargo and a number past it", damaged, YARD_RECORD_BYTES);
   damaged[5] = 4294967295u;
-  write_as("T 4294967295, ballast 7, cargo and a number past it", damaged, 16, yard_write_record, 16);
-  write_as("ballast with a tank top at z", with(plate, 13, 8, 1), 16, yard_write_record, 16);
+  write_record("T 4294967295, ballast 7, cargo and a number past it", damaged, YARD_RECORD_BYTES);
+  write_record("ballast with a tank top at z", record_with(plate, 8, 1), YARD_RECORD_BYTES);
   damaged[9] = 120;
-  write_as("ballast with a tank top", damaged, 16, yard_write_record, 16);
+  write_record("ballast with a tank top", damaged, YARD_RECORD_BYTES);
   damaged[3] = 121;
-  write_as("a tank top below z", damaged, 16, yard_write_record, 16);
-  write_as("a number past the cargo", with(plate, 13, 11, 1), 16, yard_write_record, 16);
-  write_as("the last number", with(plate, 13, 12, 4294967295u), 16, yard_write_record, 16);
+  write_record("a tank top below z", damaged, YARD_RECORD_BYTES);
+  write_record("a number past the cargo", record_with(plate, 11, 1), YARD_RECORD_BYTES);
+  write_record("the last number", record_with(plate, 12, 4294967295u), YARD_RECORD_BYTES);
   damaged[10] = 5;
-  write_as("cargo and the last number", damaged, 16, yard_write_record, 16);
-  write_as("member written", member, 16, yard_write_record, 16);
-  write_as("sigma 1 of 255", with(member, 13, 9, 255), 16, yard_write_record, 16);
-  write_as("sigma 1 of 256", with(member, 13, 9, 256), 16, yard_write_record, 16);
+  write_record("cargo and the last number", damaged, YARD_RECORD_BYTES);
+  write_record("member written", member, YARD_RECORD_BYTES);
+  write_record("sigma 1 of 255", record_with(member, 9, 255), YARD_RECORD_BYTES);
+  write_record("sigma 1 of 256", record_with(member, 9, 256), YARD_RECORD_BYTES);
   damaged[12] = 0;
-  write_as("sigma 1 of 256 and K 0", damaged, 16, yard_write_record, 16);
+  write_record("sigma 1 of 256 and K 0", damaged, YARD_RECORD_BYTES);
   damaged[8] = 356;
-  write_as("eta 356, sigma 1 of 256 and K 0", damaged, 16, yard_write_record, 16);
-  write_as("W 100001", with(member, 13, 10, 100001), 16, yard_write_record, 16);
+  write_record("eta 356, sigma 1 of 256 and K 0", damaged, YARD_RECORD_BYTES);
+  write_record("W 100001", record_with(member, 10, 100001), YARD_RECORD_BYTES);
+}
+
+/* The record that begins at this byte, to the front of the sheet. */
+static void to_the_front(int from) {
+  for (int i = 0; i < YARD_RECORD_BYTES; i++) sheet[i] = sheet[from + i];
+}
+
+static void records_read(void) {
   example();
-  for (int i = 0; i < 16; i++) sheet[i] = sheet[i + 12];
-  read_as("plate read", 13, yard_read_record, 16);
-  read_as("plate in 15 bytes", 13, yard_read_record, 15);
+  to_the_front(YARD_HEADER_1_BYTES);
+  read_record("plate read", YARD_RECORD_BYTES);
+  read_record("plate in 15 bytes", 15);
   sheet[15] |= 1;
-  read_as("plate with a spare bit", 13, yard_read_record, 16);
+  read_record("plate with a spare bit", YARD_RECORD_BYTES);
   sheet[0] &= 15;
-  read_as("record with no kind", 13, yard_read_record, 16);
-  for (int i = 0; i < 16; i++) sheet[i] = sheet[i + 28];
-  read_as("member read", 13, yard_read_record, 20);
+  read_record("record with no kind", YARD_RECORD_BYTES);
+  to_the_front(YARD_HEADER_1_BYTES + YARD_RECORD_BYTES);
+  read_record("member read", 20);
   sheet[14] &= 0xFC;
-  read_as("member with K 232", 13, yard_read_record, 16);
+  read_record("member with K 232", YARD_RECORD_BYTES);
   bottoms(vessel_2);
-  for (int i = 0; i < 16; i++) sheet[i] = sheet[i + 36];
-  read_as("inner bottom plate read", 13, yard_read_record, 16);
+  to_the_front(YARD_HEADER_2_BYTES + YARD_RECORD_BYTES);
+  read_record("inner bottom plate read", YARD_RECORD_BYTES);
 }
 
 /* The example with its plate as thick as it must be, under a tank that presses more than the sea. */
 static void ballast(void) {
   example();
-  with(plate, 13, 5, 617);
+  record_with(plate, 5, 617);
   damaged[8] = 1;
   damaged[9] = 400;
-  if (yard_write_record(damaged, sheet + 12, 16)) {
+  if (yard_write_record(damaged, sheet + YARD_HEADER_1_BYTES, YARD_RECORD_BYTES)) {
     printf("the plate with ballast was not written\n");
     exit(1);
   }
@@ -301,7 +331,7 @@ static void sheets(void) {
   sheet[42] &= 0xFC;
   check("K 232 in record 1", 44, 8);
   example();
-  for (int i = 28; i < 44; i++) sheet[i] = sheet[i - 16];
+  for (int i = 28; i < 44; i++) sheet[i] = sheet[i - YARD_RECORD_BYTES];
   check("equal ids", 44, 8);
   ballast();
   check("a plate under ballast", 44, 8);
@@ -319,13 +349,13 @@ static void sheets_in_2(void) {
   check("two bottoms with a byte too few", 51, 8);
   check("two bottoms with a byte too many", 53, 8);
   check("version 2 with 12 + 16n bytes", 44, 8);
-  check("version 2 with no record there", 20, 8);
+  check("version 2 with no record there", YARD_HEADER_2_BYTES, 8);
   check("version 2 with 19 bytes", 19, 0);
   check("version 2 with 12 bytes", 12, 0);
   sheet[0] = 0x37;
   check("version 3 with 12 bytes", 12, 0);
   check("version 3 with 52 bytes", 52, 8);
-  bottoms(with(vessel_2, 10, 8, 100000));
+  bottoms(header_with(vessel_2, 8, 100000));
   check("two bottoms with a smaller ZDB", 52, 8);
   sheet[18] = 1;
   check("a spare bit of version 2", 52, 8);
@@ -336,10 +366,10 @@ static void sheets_in_2(void) {
   sheet[51] = 1;
   check("a spare bit of record 1 in version 2", 52, 8);
   bottoms(vessel_2);
-  for (int i = 36; i < 52; i++) sheet[i] = sheet[i - 16];
+  for (int i = 36; i < 52; i++) sheet[i] = sheet[i - YARD_RECORD_BYTES];
   check("equal ids in version 2", 52, 8);
-  bottoms(with(vessel_2, 10, 7, 0));
-  check("version 2 with no record", 20, 0);
+  bottoms(header_with(vessel_2, 7, 0));
+  check("version 2 with no record", YARD_HEADER_2_BYTES, 0);
 }
 
 static void verdicts(void) {
@@ -347,19 +377,19 @@ static void verdicts(void) {
   fill();
   yard_check(sheet, 44, out, 8);
   for (int i = 0; i < 8; i++) sheet[i] = out[i];
-  read_as("verdict read", 4, yard_read_verdict, 8);
-  read_as("verdict in 3 bytes", 4, yard_read_verdict, 3);
+  read_verdict("verdict read", 8);
+  read_verdict("verdict in 3 bytes", 3);
   sheet[3] |= 2;
-  read_as("verdict with a source", 4, yard_read_verdict, 4);
+  read_verdict("verdict with a source", YARD_VERDICT_BYTES);
   sheet[3] |= 1;
-  read_as("verdict with the highest source", 4, yard_read_verdict, 4);
+  read_verdict("verdict with the highest source", YARD_VERDICT_BYTES);
   sheet[1] &= 0xC7;
-  read_as("pass that requires", 4, yard_read_verdict, 4);
+  read_verdict("pass that requires", YARD_VERDICT_BYTES);
   ballast();
   fill();
   yard_check(sheet, 44, out, 8);
-  for (int i = 0; i < 4; i++) sheet[i] = out[i];
-  read_as("pass under ballast", 4, yard_read_verdict, 4);
+  for (int i = 0; i < YARD_VERDICT_BYTES; i++) sheet[i] = out[i];
+  read_verdict("pass under ballast", YARD_VERDICT_BYTES);
 }
 
 /* What must stand in the sheet's buffer and around it, whatever an edit does; and the length of the sheet. */
@@ -373,8 +403,8 @@ static void as_it_is(void) {
 
 /* The numbers of a record with the number's last three digits as its id, 000 being 1000, and all of it as its thickness, so that no two are alike. */
 static const uint32_t *numbered(int number) {
-  static uint32_t numbers[13];
-  for (int i = 0; i < 13; i++) numbers[i] = number % 2 ? plate[i] : member[i];
+  static uint32_t numbers[YARD_RECORD_FIELDS];
+  for (int i = 0; i < YARD_RECORD_FIELDS; i++) numbers[i] = number % 2 ? plate[i] : member[i];
   numbers[1] = (uint32_t)((number - 1) % 1000 + 1);
   numbers[5] = (uint32_t)number;
   return numbers;
@@ -384,14 +414,14 @@ static const uint32_t *numbered(int number) {
 static const uint32_t *hull;
 
 /* How long they are with so many records. */
-static uint64_t long_with(uint64_t records) { return (hull[0] == 1 ? YARD_HEADER_1_BYTES : YARD_HEADER_2_BYTES) + 16 * records; }
+static uint64_t long_with(uint64_t records) { return header_bytes(hull) + YARD_RECORD_BYTES * records; }
 
 /* A sheet with these records, up to a 0, at the front of bytes; its length. */
 static uint64_t lay(uint8_t *bytes, const int *numbers) {
   uint32_t count = 0;
   uint64_t answer = 0;
-  for (; numbers[count]; count++) answer |= yard_write_record(numbered(numbers[count]), bytes + long_with(count), 16);
-  answer |= yard_write_header(with(hull, 10, 7, count), bytes, long_with(0));
+  for (; numbers[count]; count++) answer |= yard_write_record(numbered(numbers[count]), bytes + long_with(count), YARD_RECORD_BYTES);
+  answer |= yard_write_header(header_with(hull, 7, count), bytes, long_with(0));
   if (answer != 0) {
     printf("a sheet to edit was not written\n");
     exit(1);
@@ -411,7 +441,7 @@ static void begin(const int *numbers) {
 static void leaving(const int *numbers) {
   uint64_t left = lay(wanted, numbers);
   if (left < length)
-    for (int i = 0; i < 16; i++) wanted[left + (uint64_t)i] = 0;
+    for (int i = 0; i < YARD_RECORD_BYTES; i++) wanted[left + (uint64_t)i] = 0;
 }
 
 static void edited(const char *name, uint64_t answer) {
@@ -504,7 +534,7 @@ static void refused_sheets(void) {
   both_refuse("a sheet with a byte too few", ROOM);
   length = long_with(4);
   both_refuse("a sheet with a record too many", ROOM);
-  length = hull[0] == 1 ? 68 : 60;
+  length = header_bytes(hull[0] == 1 ? vessel_2 : vessel) + 3 * YARD_RECORD_BYTES;
   both_refuse("a sheet as long as the other version's", ROOM);
   damage("version 0", 0, 0x07);
   damage("version 3", 0, 0x37);
@@ -529,11 +559,11 @@ static void refused_in_2(void) {
 
 static void refused_edits(void) {
   begin(LIST(3, 7, 9, 0));
-  put("put kind 9", with(numbered(7), 13, 0, 9), length);
-  put("put id 0", with(numbered(7), 13, 1, 0), length);
-  put("put id 65543", with(numbered(7), 13, 1, 65543), ROOM);
-  put("put the last number of a plate", with(numbered(7), 13, 12, 4294967295u), ROOM);
-  put("put K 0 of a member, with no room", with(numbered(8), 13, 12, 0), length);
+  put("put kind 9", record_with(numbered(7), 0, 9), length);
+  put("put id 0", record_with(numbered(7), 1, 0), length);
+  put("put id 65543", record_with(numbered(7), 1, 65543), ROOM);
+  put("put the last number of a plate", record_with(numbered(7), 12, 4294967295u), ROOM);
+  put("put K 0 of a member, with no room", record_with(numbered(8), 12, 0), length);
   put("put a new id in no more room", numbered(8), length);
   put("put a new id in a byte too few", numbered(8), length + 15);
   take("remove id 8", 8, ROOM);
@@ -553,8 +583,8 @@ static void full(void) {
   put("put record 399", numbered(999), long_with(400));
   put("put with n at 400", numbered(1000), ROOM);
   put("put in front with n at 400", numbered(1), ROOM);
-  put("put kind 9 with n at 400", with(numbered(7), 13, 0, 9), ROOM);
-  put("put K 0 of a member with n at 400", with(numbered(8), 13, 12, 0), ROOM);
+  put("put kind 9 with n at 400", record_with(numbered(7), 0, 9), ROOM);
+  put("put K 0 of a member with n at 400", record_with(numbered(8), 12, 0), ROOM);
   numbers[399] = 1999;
   leaving(numbers);
   put("put over record 399", numbered(1999), long_with(400));
@@ -587,13 +617,13 @@ static void as_barge(void) {
     printf("refused %u %u\n", yard_number(answer), yard_place(answer));
     return;
   }
-  intact("check", 4 * (int)yard_n(answer), 0);
+  intact("check", YARD_VERDICT_BYTES * (int)yard_n(answer), 0);
   for (uint32_t i = 0; i < yard_n(answer); i++) {
-    if (yard_read_verdict(out + 4 * i, 4, fields) != 0) {
+    if (yard_read_verdict(out + YARD_VERDICT_BYTES * i, YARD_VERDICT_BYTES, fields) != 0) {
       printf("verdict %u cannot be read\n", i);
       exit(1);
     }
-    intact("verdict", 4 * (int)yard_n(answer), 4);
+    intact("verdict", YARD_VERDICT_BYTES * (int)yard_n(answer), YARD_VERDICT_FIELDS);
     printf("%u %u %u %u\n", fields[0], fields[1], fields[2], fields[3]);
   }
   printf("%u %u\n", yard_n(answer), yard_failed(answer));
@@ -629,7 +659,8 @@ int main(int count, char **words) {
     headers();
     headers_written_in_2();
     headers_read_in_2();
-    records();
+    records_written();
+    records_read();
     sheets();
     sheets_in_2();
     verdicts();

@@ -66,39 +66,12 @@ fn one(chance: &mut Chance, edges: &mut Edges, headers: &mut Headers) -> Vec<u8>
     match chance.below(1000) {
         0..5 => full(chance).bytes(),
         5..7 => longer_than_any(chance),
-        7..10 => {
-            // A fault far back, so that its place is a great number.
-            let mut draft = full(chance);
-            spoil::last_record(chance, &mut draft);
-            draft.bytes()
-        }
+        7..10 => full_with_a_fault_at_its_end(chance),
         10..30 => sound(chance, 0).bytes(),
         30..100 => noise(chance),
-        100..250 => {
-            let n = chance.between(1, 6);
-            let mut draft = sound(chance, n);
-            spoil::field_to_an_end(chance, &mut draft);
-            draft.bytes()
-        }
-        250..450 => {
-            // More than one fault at times: the first of the table must be named.
-            let n = chance.between(1, 8);
-            let mut draft = sound(chance, n);
-            for _ in 0..*chance.of(&[1, 1, 1, 2, 3]) {
-                spoil::draft(chance, &mut draft);
-            }
-            let mut bytes = draft.bytes();
-            if chance.one_in(8) {
-                spoil::bytes(chance, &mut bytes);
-            }
-            bytes
-        }
-        450..550 => {
-            let n = chance.between(0, 8);
-            let mut bytes = sound(chance, n).bytes();
-            spoil::bytes(chance, &mut bytes);
-            bytes
-        }
+        100..250 => field_to_an_end(chance),
+        250..450 => spoilt_as_draft(chance),
+        450..550 => spoilt_as_bytes(chance),
         550..600 => edges.sheet(chance).bytes(),
         600..660 => headers.sheet(chance),
         _ => {
@@ -106,4 +79,39 @@ fn one(chance: &mut Chance, edges: &mut Edges, headers: &mut Headers) -> Vec<u8>
             sound(chance, n).bytes()
         }
     }
+}
+
+/// A fault far back, so that its place is a great number.
+fn full_with_a_fault_at_its_end(chance: &mut Chance) -> Vec<u8> {
+    let mut draft = full(chance);
+    spoil::last_record(chance, &mut draft);
+    draft.bytes()
+}
+
+fn field_to_an_end(chance: &mut Chance) -> Vec<u8> {
+    let n = chance.between(1, 6);
+    let mut draft = sound(chance, n);
+    spoil::field_to_an_end(chance, &mut draft);
+    draft.bytes()
+}
+
+/// More than one fault at times: the first of the table must be named.
+fn spoilt_as_draft(chance: &mut Chance) -> Vec<u8> {
+    let n = chance.between(1, 8);
+    let mut draft = sound(chance, n);
+    for _ in 0..*chance.of(&[1, 1, 1, 2, 3]) {
+        spoil::draft(chance, &mut draft);
+    }
+    let mut bytes = draft.bytes();
+    if chance.one_in(8) {
+        spoil::bytes(chance, &mut bytes);
+    }
+    bytes
+}
+
+fn spoilt_as_bytes(chance: &mut Chance) -> Vec<u8> {
+    let n = chance.between(0, 8);
+    let mut bytes = sound(chance, n).bytes();
+    spoil::bytes(chance, &mut bytes);
+    bytes
 }

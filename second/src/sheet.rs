@@ -4,7 +4,7 @@
 use crate::form::{record_layout, Form, MEMBER, PLATE, RECORD_NUMBERS};
 use crate::limits::{first_fault, in_header, in_record};
 use crate::refusal::Refusal;
-use crate::version::{Version, SHORTEST_HEADER};
+use crate::version::{Version, SHORTEST_HEADER, VERSION_1, VERSION_2};
 
 #[derive(Clone, Copy, Debug, PartialEq, Eq)]
 pub struct Header {
@@ -79,11 +79,10 @@ impl Header {
     }
 
     pub fn version(&self) -> &'static Version {
-        let number = match self.own {
-            Own::Version1 => 1,
-            Own::Version2 { .. } => 2,
-        };
-        Version::numbered(number).expect("a version of the table")
+        match self.own {
+            Own::Version1 => &VERSION_1,
+            Own::Version2 { .. } => &VERSION_2,
+        }
     }
 
     /// The modulus at the inner bottom: that at the bottom, in a version without it.
@@ -118,13 +117,13 @@ impl Header {
 
 impl Own {
     fn of(form: &Form) -> Own {
-        match Version::of(form).number {
-            1 => Own::Version1,
-            2 => Own::Version2 {
+        match *Version::of(form) {
+            VERSION_1 => Own::Version1,
+            VERSION_2 => Own::Version2 {
                 ZDB: form.get("ZDB"),
                 depth: form.get("depth"),
             },
-            number => panic!("no header of version {number}"),
+            Version { number, .. } => panic!("no header of version {number}"),
         }
     }
 }

@@ -133,6 +133,16 @@ impl Tally {
     }
 
     pub fn table(&self) -> String {
+        let mut lines = self.record_lines();
+        lines.extend(self.load_lines());
+        lines.extend(self.refusal_lines());
+        lines.extend(VERSIONS.iter().map(|version| self.version_line(version)));
+        lines.extend(self.moduli.lines());
+        lines.push(self.case_line());
+        lines.join("\n") + "\n"
+    }
+
+    fn record_lines(&self) -> Vec<String> {
         let mut lines = vec![
             format!("sheets           {:>8}", self.sheets),
             format!("  judged         {:>8}", self.judged),
@@ -144,41 +154,44 @@ impl Tally {
             let (with, without) = (self.with_number[rule], self.without[rule]);
             lines.push(format!("  rule {rule}         {with:>8} {without:>6}"));
         }
-        let sources = (0..4).map(|source| {
+        lines
+    }
+
+    fn load_lines(&self) -> [String; 2] {
+        let sources = [0, 1, 2, 3].map(|source| {
             let (passes, failures) = (self.on_passes[source], self.on_failures[source]);
             format!("{source}: {} ({passes})", passes + failures)
         });
-        let sources: Vec<String> = sources.collect();
-        lines.push(format!("sources (on passes) {}", sources.join(", ")));
         let (sea, cargo) = (self.ties[SEA as usize], self.ties[CARGO as usize]);
-        lines.push(format!(
-            "ballast as great as the sea {sea}, as the cargo {cargo}"
-        ));
-        for number in 1..=8 {
-            lines.push(format!(
-                "refusal {number}        {:>8}",
-                self.refusals[number]
-            ));
-        }
-        for version in VERSIONS {
-            let of = |number| self.of_version(version.number, number);
-            let refused = IN_EACH_VERSION.map(|number| format!("{number}: {}", of(number)));
-            lines.push(format!(
-                "version {}: judged {}, refused by {}",
-                version.number,
-                of(0),
-                refused.join(", ")
-            ));
-        }
-        lines.extend(self.moduli.lines());
+        [
+            format!("sources (on passes) {}", sources.join(", ")),
+            format!("ballast as great as the sea {sea}, as the cargo {cargo}"),
+        ]
+    }
+
+    fn refusal_lines(&self) -> impl Iterator<Item = String> + '_ {
+        (1..=8).map(|number| format!("refusal {number}        {:>8}", self.refusals[number]))
+    }
+
+    fn version_line(&self, version: &Version) -> String {
+        let of = |number| self.of_version(version.number, number);
+        let refused = IN_EACH_VERSION.map(|number| format!("{number}: {}", of(number)));
+        format!(
+            "version {}: judged {}, refused by {}",
+            version.number,
+            of(0),
+            refused.join(", ")
+        )
+    }
+
+    fn case_line(&self) -> String {
         let cases = all();
         let least = cases.iter().map(|case| self.of_case(case)).min();
-        lines.push(format!(
+        format!(
             "cases of a header {}, each at least {} times",
             cases.len(),
             least.unwrap_or(0)
-        ));
-        lines.join("\n") + "\n"
+        )
     }
 
     /// The rows that must come up hundreds of times. Rules 1 and 4 always have a number

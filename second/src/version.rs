@@ -27,20 +27,21 @@ const SHARED: [Field; 9] = [
 
 const OWN_OF_2: [Field; 3] = [("ZDB", 27), ("depth", 10), ("last_zero", 27)];
 
-pub const VERSIONS: &[Version] = &[
-    Version {
-        number: 1,
-        bytes: 12,
-        n_highest: 400,
-        layout: &SHARED,
-    },
-    Version {
-        number: 2,
-        bytes: 20,
-        n_highest: 400,
-        layout: &joined::<12>(&SHARED, &OWN_OF_2),
-    },
-];
+pub const VERSION_1: Version = Version {
+    number: 1,
+    bytes: 12,
+    n_highest: 400,
+    layout: &SHARED,
+};
+
+pub const VERSION_2: Version = Version {
+    number: 2,
+    bytes: 20,
+    n_highest: 400,
+    layout: &joined::<12>(&SHARED, &OWN_OF_2),
+};
+
+pub const VERSIONS: &[Version] = &[VERSION_1, VERSION_2];
 
 /// So many bytes must be there before the version is looked at.
 pub const SHORTEST_HEADER: usize = VERSIONS[0].bytes;

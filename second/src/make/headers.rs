@@ -32,61 +32,68 @@ fn known(number: i128) -> &'static Version {
     Version::numbered(number).expect("a version of the table")
 }
 
-fn few_records(chance: &mut Chance, version: i128) -> Draft {
+fn few_records(chance: &mut Chance, version: &Version) -> Draft {
     let n = chance.between(0, 3);
-    sound_in(chance, known(version), n)
+    sound_in(chance, version, n)
 }
 
 fn made(chance: &mut Chance, case: HeaderCase) -> Vec<u8> {
     match case {
-        Cut { version, bytes } => {
-            let mut sheet = few_records(chance, version).bytes();
-            sheet.truncate(bytes);
-            sheet
-        }
-        Unknown { version, short } => {
-            // With one record a sheet of any version is long enough for every header.
-            let n = chance.between(1, 3);
-            let mut draft = sound(chance, n);
-            draft.header.set("version", version);
-            let mut sheet = draft.bytes();
-            if short {
-                let longest = VERSIONS.iter().map(|version| version.bytes).max();
-                let under = longest.unwrap_or(0) - SHORTEST_HEADER;
-                sheet.truncate(SHORTEST_HEADER + chance.below(under));
-            }
-            sheet
-        }
+        Cut { version, bytes } => cut(chance, known(version), bytes),
+        Unknown { version, short } => unknown(chance, version, short),
         Field {
             version,
             field,
             value,
-        } => {
-            let version = known(version);
-            let mut draft = match version.layout[field - 1].0 {
-                "n" => sound_in(chance, version, value.min(version.n_highest)),
-                _ => few_records(chance, version.number),
-            };
-            draft.header.values[field - 1] = value;
-            draft.bytes()
-        }
-        Behind { version, bytes } => {
-            let version = known(version);
-            let n = *chance.of(&[1, 2, 3, version.n_highest]);
-            let mut sheet = sound_in(chance, version, n).bytes();
-            let length = version.sheet_bytes(n) - version.bytes + bytes;
-            sheet.resize_with(length, || chance.byte());
-            sheet
-        }
-        Full { version, past } => {
-            let version = known(version);
-            let mut sheet = sound_in(chance, version, version.n_highest).bytes();
-            if past {
-                sheet.push(chance.byte());
-            }
-            sheet
-        }
+        } => with_field(chance, known(version), field, value),
+        Behind { version, bytes } => behind(chance, known(version), bytes),
+        Full { version, past } => full(chance, known(version), past),
     }
+}
+
+fn cut(chance: &mut Chance, version: &Version, bytes: usize) -> Vec<u8> {
+    let mut sheet = few_records(chance, version).bytes();
+    sheet.truncate(bytes);
+    sheet
+}
+
+fn unknown(chance: &mut Chance, version: i128, short: bool) -> Vec<u8> {
+    // With one record a sheet of any version is long enough for every header.
+    let n = chance.between(1, 3);
+    let mut draft = sound(chance, n);
+    draft.header.set("version", version);
+    let mut sheet = draft.bytes();
+    if short {
+        let longest = VERSIONS.iter().map(|version| version.bytes).max();
+        let under = longest.unwrap_or(0) - SHORTEST_HEADER;
+        sheet.truncate(SHORTEST_HEADER + chance.below(under));
+    }
+    sheet
+}
+
+fn with_field(chance: &mut Chance, version: &Version, field: usize, value: i128) -> Vec<u8> {
+    let mut draft = match version.layout[field - 1].0 {
+        "n" => sound_in(chance, version, value.min(version.n_highest)),
+        _ => few_records(chance, version),
+    };
+    draft.header.values[field - 1] = value;
+    draft.bytes()
+}
+
+fn behind(chance: &mut Chance, version: &Version, bytes: usize) -> Vec<u8> {
+    let n = *chance.of(&[1, 2, 3, version.n_highest]);
+    let mut sheet = sound_in(chance, version, n).bytes();
+    let length = version.sheet_bytes(n) - version.bytes + bytes;
+    sheet.resize_with(length, || chance.byte());
+    sheet
+}
+
+fn full(chance: &mut Chance, version: &Version, past: bool) -> Vec<u8> {
+    let mut sheet = sound_in(chance, version, version.n_highest).bytes();
+    if past {
+        sheet.push(chance.byte());
+    }
+    sheet
 }
 
 #[cfg(test)]
