@@ -1,5 +1,5 @@
--- The checker as it was before the header had a second version: version 1 is the only one, its header has twelve bytes, and every plate goes by ZB. What is
--- the same is taken from the checker.
+-- The checker as it was before the header had a second version. Written out are what version 2 could have moved: the header's lines and refusals, the two
+-- lengths, where the records begin, and the modulus ZB of every plate. Records, formulas, sources and the verdict's bytes are those of the checker.
 use Prim.Native.Nat.{ℕ, _+_, _*_}
 use mathlib.Core.Bool.{cond}
 use mathlib.Core.List.{List, [], _∷_, _++_, map}
@@ -24,8 +24,8 @@ use Rattle.checker.specs.Check.{_then_, demand, partsFrom, recordsIn, Sheet, en
 
 -- the header, 96 bits: version 4 (1); L 14 (4000..13500); D0 10 (1..1000); H 8 (0, 60, 120); runs 1; M 20 (0..1,000,000); ZB 27 (1..100,000,000); n 9 (0..400);
 -- zero 3
-abbrev pub onlyLines : List Line
-onlyLines =
+abbrev pub linesBefore : List Line
+linesBefore =
     line 4 (from 1 1)
     ∷ line 14 (from 4000 13500)
     ∷ line 10 (from 1 1000)
@@ -38,8 +38,8 @@ onlyLines =
     ∷ []
 
 -- the header that its nine values are
-abbrev pub onlyHeader : List ℕ → Header
-onlyHeader vs =
+abbrev pub headerBefore : List ℕ → Header
+headerBefore vs =
     record {
       version = getD vs 0 0;
       length = record { 0 = getD vs 1 0 };
@@ -52,49 +52,49 @@ onlyHeader vs =
       own = One;
     }
 
--- 1: under 12 bytes; 2: version not 1; 3: a later field outside its values
-abbrev pub onlyFields : List ℕ → List ℕ
-onlyFields s = unpack (widths onlyLines) (pack (bytes 12) (take 12 s))
+-- its fields, in twelve bytes
+abbrev pub fieldsBefore : List ℕ → List ℕ
+fieldsBefore s = unpack (widths linesBefore) (pack (bytes 12) (take 12 s))
 
-unfoldable pub readOnly : List ℕ → Answer Header
-readOnly s = cond (ltb (length s) 12) (refused 1 0) (headerRefused (faultFrom 1 onlyLines (onlyFields s)) (given (onlyHeader (onlyFields s))))
+-- 1: under 12 bytes; 2: version not 1; 3: a later field outside its values
+unfoldable pub readBefore : List ℕ → Answer Header
+readBefore s = cond (ltb (length s) 12) (refused 1 0) (headerRefused (faultFrom 1 linesBefore (fieldsBefore s)) (given (headerBefore (fieldsBefore s))))
 
 -- 4: sheet length not 12 + 16n; 5: output under 4n bytes; then the records
-unfoldable pub sheetOnly : List ℕ → (room : ℕ) → Answer Sheet
-sheetOnly s room =
-    (readOnly s
+unfoldable pub sheetBefore : List ℕ → (room : ℕ) → Answer Sheet
+sheetBefore s room =
+    readBefore s
     then λ h. demand (eqb (length s) (12 + 16 * h .count)) 4
     then λ u. demand (leb (4 * h .count) room) 5
-    then λ v. given h)
-    then λ h. recordsIn 0 0 (partsFrom (drop 12 s) 0 (h .count))
+    then λ v. recordsIn 0 0 (partsFrom (drop 12 s) 0 (h .count))
     then λ rs. given (record { header = h; records = rs })
 
 -- rule 3 of every plate goes by R = 1,000,000·M/ZB
-abbrev pub onlyPlate : Header → ℕ → Plate → List Rule
-onlyPlate h kind p =
+abbrev pub plateBefore : Header → ℕ → Plate → List Rule
+plateBefore h kind p =
     asked1 h kind p
     ∷ asked2 h kind p
     ∷ asked p 3 (rule3 kind (p .factor .0) (p .spacing .0) (K2 (p .b1 .0) (p .b2 .0)) (R (h .moment) (h .«bottom_modulus»)))
     ∷ []
 
-abbrev pub onlyRules : Header → ℕ → Body → List Rule
-onlyRules h kind (isPlate p) = onlyPlate h kind p
-onlyRules h kind (isMember m) = memberRules h kind m
+abbrev pub rulesBefore : Header → ℕ → Body → List Rule
+rulesBefore h kind (isPlate p) = plateBefore h kind p
+rulesBefore h kind (isMember m) = memberRules h kind m
 
 -- the verdict on a record, with its id and what its pressure comes from
-unfoldable pub entryOnly : Header → Record → Entry
-entryOnly h r = entryWith (r .id) (record { verdict = verdictOf (onlyRules h (r .kind) (r .body)); source = sourceOf h r })
+unfoldable pub entryBefore : Header → Record → Entry
+entryBefore h r = entryWith (r .id) (record { verdict = verdictOf (rulesBefore h (r .kind) (r .body)); source = sourceOf h r })
 
-abbrev pub verdictsOnly : Sheet → List Entry
-verdictsOnly t = map (entryOnly (t .header)) (t .records)
+abbrev pub verdictsBefore : Sheet → List Entry
+verdictsBefore t = map (entryBefore (t .header)) (t .records)
 
 -- the answer, and the output
-unfoldable pub answerOnly : List ℕ → (room : ℕ) → Answer Totals
-answerOnly s room = sheetOnly s room then λ t. given (record { n = t .header .count; failed = failures (verdictsOnly t) })
+unfoldable pub answerBefore : List ℕ → (room : ℕ) → Answer Totals
+answerBefore s room = sheetBefore s room then λ t. given (record { n = t .header .count; failed = failures (verdictsBefore t) })
 
-abbrev pub outputBy : Answer Sheet → List ℕ → List ℕ
-outputBy (given t) out = bytesOf (verdictsOnly t) ++ drop (4 * t .header .count) out
-outputBy (refused k p) out = out
+abbrev pub writtenBefore : Answer Sheet → List ℕ → List ℕ
+writtenBefore (given t) out = bytesOf (verdictsBefore t) ++ drop (4 * t .header .count) out
+writtenBefore (refused k p) out = out
 
-unfoldable pub outputOnly : List ℕ → List ℕ → List ℕ
-outputOnly s out = outputBy (sheetOnly s (length out)) out
+unfoldable pub outputBefore : List ℕ → List ℕ → List ℕ
+outputBefore s out = writtenBefore (sheetBefore s (length out)) out

@@ -4,7 +4,7 @@ pub mod Program
 pub mod Raise
 pub mod Demands
 pub mod Sources
-pub mod DocumentOne
+pub mod BeforeVersion2
 pub mod Empty
 pub mod EmptyPrograms
 -- how it is proved
@@ -17,8 +17,8 @@ pub mod Proved
 pub mod SourcesProved
 pub mod ShutOut
 pub mod Only
--- sheets of bytes, computed
+-- sheets of bytes, computed, and that those of version 1 have not moved
 pub mod Example
+pub mod Unmoved
 pub mod Version2
 pub mod Cases
-pub mod Unmoved

@@ -27,7 +27,7 @@ use Rattle.checker.specs.declared.Entry.{Entry}
 use Rattle.checker.specs.Check.{_then_, demand, sheetSize, headerFor, partsFrom, recordsIn, Sheet, sheetIn, entryWith, entryOf, verdicts, bytesOf, failures, answerOf, outputBy, outputOf}
 use Rattle.checker.specs.CheckLaws.{sheet-whole}
 use Rattle.demands.specs.Example.{example, lent}
-use Rattle.demands.specs.DocumentOne.{onlyLines, onlyHeader, onlyFields, readOnly, sheetOnly, onlyRules, entryOnly, verdictsOnly, answerOnly, outputBy as onlyOutputBy, outputOnly}
+use Rattle.demands.specs.BeforeVersion2.{linesBefore, headerBefore, fieldsBefore, readBefore, sheetBefore, rulesBefore, entryBefore, verdictsBefore, answerBefore, writtenBefore, outputBefore}
 
 -- ---- the rules: a header with nothing of its own has ZB for every plate
 
@@ -39,17 +39,17 @@ module _ (h : Header) (bare : h .own ≡ One) where
       go true = refl
       go false = refl
 
-  rules-same : (kind : ℕ) (b : Body) → bodyRules h kind b ≡ onlyRules h kind b
+  rules-same : (kind : ℕ) (b : Body) → bodyRules h kind b ≡ rulesBefore h kind b
   rules-same kind (isPlate p) =
       ap (λ (Z : ℕ). asked1 h kind p ∷ asked2 h kind p ∷ asked p 3 (rule3 kind (p .factor .0) (p .spacing .0) (K2 (p .b1 .0) (p .b2 .0)) (R (h .moment) Z)) ∷ [])
       (one-modulus kind)
   rules-same kind (isMember m) = refl
 
-  entry-same : (r : Record) → entryOf h r ≡ entryOnly h r
-  unfolding entryOf entryOnly
+  entry-same : (r : Record) → entryOf h r ≡ entryBefore h r
+  unfolding entryOf entryBefore
   entry-same r = ap (λ (rs : List Rule). entryWith (r .id) (record { verdict = verdictOf rs; source = sourceOf h r })) (rules-same (r .kind) (r .body))
 
-  all-same : (rs : List Record) → map (entryOf h) rs ≡ map (entryOnly h) rs
+  all-same : (rs : List Record) → map (entryOf h) rs ≡ map (entryBefore h) rs
   all-same [] = refl
   all-same (r ∷ rs) = ap₂ (λ (e : Entry) (es : List Entry). e ∷ es) (entry-same r) (all-same rs)
 
@@ -64,18 +64,18 @@ needs-twelve k = go (eqb k 1)
 
 module _ (s : List ℕ) (other : versionField s ≡ two .number → ⊥) where
   -- its header is read as it was
-  read-unmoved : readHeader s ≡ readOnly s
-  unfolding readHeader readOnly
+  read-unmoved : readHeader s ≡ readBefore s
+  unfolding readHeader readBefore
   read-unmoved = rw (ne-eqb (versionField s) (two .number) other, needs-twelve (versionField s))
 
   -- and has nothing of its own
   own-none : (h : Header) → readHeader s ≡ given h → h .own ≡ One
-  unfolding readOnly
+  unfolding readBefore
   own-none h e = sym (ap (λ (g : Header). g .own) (go (ltb (length s) 12) (sym read-unmoved ∙ e)))
     where
-      go : (t : Bool) → cond t (refused 1 0) (headerRefused (faultFrom 1 onlyLines (onlyFields s)) (given (onlyHeader (onlyFields s)))) ≡ given h → onlyHeader (onlyFields s) ≡ h
+      go : (t : Bool) → cond t (refused 1 0) (headerRefused (faultFrom 1 linesBefore (fieldsBefore s)) (given (headerBefore (fieldsBefore s)))) ≡ given h → headerBefore (fieldsBefore s) ≡ h
       go true f = given-refused (sym f)
-      go false f = by-none 2 0 3 (λ k. k) (faultFrom 1 onlyLines (onlyFields s)) (onlyHeader (onlyFields s)) h f .1
+      go false f = by-none 2 0 3 (λ k. k) (faultFrom 1 linesBefore (fieldsBefore s)) (headerBefore (fieldsBefore s)) h f .1
 
   size-twelve : (h : Header) → readHeader s ≡ given h → headerSize h ≡ 12
   size-twelve h e = ap (λ (o : Own). versionOf o .size) (own-none h e)
@@ -98,41 +98,41 @@ module _ (s : List ℕ) (other : versionField s ≡ two .number → ⊥) where
         then λ rs. given (record { header = h; records = rs })
 
     -- the sheet is taken or turned away as it was
-    pub sheet-unmoved : sheetIn s room ≡ sheetOnly s room
-    unfolding sheetIn headerFor sheetOnly _then_
+    pub sheet-unmoved : sheetIn s room ≡ sheetBefore s room
+    unfolding sheetIn headerFor sheetBefore _then_
     sheet-unmoved = go (readHeader s) refl
       where
-        go : (x : Answer Header) → readHeader s ≡ x → sheetIn s room ≡ sheetOnly s room
+        go : (x : Answer Header) → readHeader s ≡ x → sheetIn s room ≡ sheetBefore s room
         go (refused k p) e = rw (e, sym read-unmoved ∙ e)
         go (given h) e =
             let now : sheetIn s room ≡ after (headerSize h) h = rw e (both-lengths (eqb (length s) (sheetSize h)) (leb (4 * h .count) room) h _) in
-            let once : sheetOnly s room ≡ after 12 h = rw (sym read-unmoved ∙ e) (both-lengths (eqb (length s) (12 + 16 * h .count)) (leb (4 * h .count) room) h _) in
+            let once : sheetBefore s room ≡ after 12 h = rw (sym read-unmoved ∙ e) in
             now ∙ ap (λ (k : ℕ). after k h) (size-twelve h e) ∙ sym once
 
     -- and its verdicts are those that they were
-    verdicts-unmoved : (t : Sheet) → sheetIn s room ≡ given t → verdicts t ≡ verdictsOnly t
+    verdicts-unmoved : (t : Sheet) → sheetIn s room ≡ given t → verdicts t ≡ verdictsBefore t
     unfolding verdicts
     verdicts-unmoved t e = all-same (t .header) (own-none (t .header) (sheet-whole s room t e .header .read)) (t .records)
 
     -- so is the answer
-    pub answer-unmoved : answerOf s room ≡ answerOnly s room
-    unfolding answerOf answerOnly _then_
+    pub answer-unmoved : answerOf s room ≡ answerBefore s room
+    unfolding answerOf answerBefore _then_
     answer-unmoved = go (sheetIn s room) refl
       where
-        go : (x : Answer Sheet) → sheetIn s room ≡ x → answerOf s room ≡ answerOnly s room
+        go : (x : Answer Sheet) → sheetIn s room ≡ x → answerOf s room ≡ answerBefore s room
         go (refused k p) e = rw (e, sym sheet-unmoved ∙ e)
         go (given t) e =
             rw (e, sym sheet-unmoved ∙ e) (ap (λ (es : List Entry). given (record { n = t .header .count; failed = failures es })) (verdicts-unmoved t e))
 
   -- and every byte of the output
-  pub output-unmoved : (out : List ℕ) → outputOf s out ≡ outputOnly s out
-  unfolding outputOf outputOnly
-  output-unmoved out = go (sheetIn s (length out)) refl ∙ ap (λ (x : Answer Sheet). onlyOutputBy x out) (sheet-unmoved (length out))
+  pub output-unmoved : (out : List ℕ) → outputOf s out ≡ outputBefore s out
+  unfolding outputOf outputBefore
+  output-unmoved out = go (sheetIn s (length out)) refl ∙ ap (λ (x : Answer Sheet). writtenBefore x out) (sheet-unmoved (length out))
     where
-      go : (x : Answer Sheet) → sheetIn s (length out) ≡ x → outputBy (sheetIn s (length out)) out ≡ onlyOutputBy (sheetIn s (length out)) out
+      go : (x : Answer Sheet) → sheetIn s (length out) ≡ x → outputBy (sheetIn s (length out)) out ≡ writtenBefore (sheetIn s (length out)) out
       go (refused k p) e = rw e
       go (given t) e = rw e (ap (λ (es : List Entry). bytesOf es ++ drop (4 * t .header .count) out) (verdicts-unmoved (length out) t e))
 
--- the premise holds for the document's example, whose answer and output are those of document 01
-pub example-unmoved : (answerOf example 9 ≡ answerOnly example 9) × (outputOf example lent ≡ outputOnly example lent)
+-- the premise holds for the document's example
+pub example-unmoved : (answerOf example 9 ≡ answerBefore example 9) × (outputOf example lent ≡ outputBefore example lent)
 example-unmoved = let other : versionField example ≡ 2 → ⊥ = λ e. omega (arith, e) in (answer-unmoved example other 9, output-unmoved example other lent)

@@ -65,7 +65,7 @@ module _ (s : List ℕ) (l : firstBytes ≤ length s) (n w : ℕ) (h : Header) (
   named = ap (λ (g : Header). g .version) eh ∙ ap (λ (m : ℕ). getD (unpack firstWidths m) 0 0) number
 
   kept : versionOf (h .own) ≡ versionIn s
-  kept = ap (λ (g : Header). versionOf (g .own)) eh ∙ version-at (fieldsIn n w) ∙ ap (λ (m : ℕ). numbered (getD (unpack firstWidths m) 0 0)) number
+  kept = ap (λ (g : Header). versionOf (g .own)) eh ∙ version-at (getD (unpack firstWidths n) 0 0) (drop 9 (fieldsIn n w)) ∙ ap (λ (m : ℕ). numbered (getD (unpack firstWidths m) 0 0)) number
 
   same-needs : headerNeeds h ≡ needs (versionField s) (versionIn s)
   same-needs = ap₂ needs named kept

@@ -224,7 +224,8 @@ fn write_own(own: Own, out: &mut [u8])
     ensures { λ _. ⌜ now (out .exit) ≡ unpack (bytes (ownBytes (versionOf own))) (pack (ownWidths (versionOf own)) (ownValues own 0)) ++ drop (ownBytes (versionOf own)) (now (out .entry)) ⌝ }
 {
     let n = own_number(own);
-    if let Own::Two(_) = own {
+    let version = own.version();
+    if FIRST < version.size {
         layout::write_word(out, n);
     }
 }

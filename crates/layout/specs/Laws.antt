@@ -73,6 +73,10 @@ pub length-bytes : (k : ℕ) → length (bytes k) ≡ k
 length-bytes zero = refl
 length-bytes (suc k) = ap suc (length-bytes k)
 
+pub bytes-add : (a b : ℕ) → bytes (a + b) ≡ bytes a ++ bytes b
+bytes-add zero b = ap bytes (zero-add b)
+bytes-add (suc a) b = let s : suc a + b ≡ suc (a + b) = omega arith in ap bytes s ∙ ap (λ (l : List ℕ). 8 ∷ l) (bytes-add a b)
+
 pub length-unpack : (ws : List ℕ) (n : ℕ) → length (unpack ws n) ≡ length ws
 length-unpack [] n = refl
 length-unpack (w ∷ ws) n = ap suc (length-unpack ws n)

@@ -1,7 +1,7 @@
 -- The laws of lines, over any list of them.
 -- Assumes nothing.
 use Prim.Native.Nat.{ℕ, zero, suc, _+_, _^_, _<_, _≤_}
-use mathlib.Core.Path.{_≡_, refl, _∙_}
+use mathlib.Core.Path.{_≡_, refl, ap, _∙_}
 use mathlib.Core.Bool.{Bool, true, false, cond, _&&_, _||_}
 use mathlib.Core.List.{List, [], _∷_}
 use native.Mathlib.Omega.{arith}
@@ -13,12 +13,12 @@ use Rattle.layout.specs.Layout.{Fit}
 use Rattle.layout.specs.Line.{Line, among, allows, widths, Allowed, allowsAt, faultFrom, endBelow, linesFit}
 
 -- both halves of a conjunction
-both : (a b : Bool) → (a && b) ≡ true → (a ≡ true) × (b ≡ true)
+pub both : (a b : Bool) → (a && b) ≡ true → (a ≡ true) × (b ≡ true)
 both true b e = (refl, e)
 both false b e = (e, cc)
 
 -- nothing is both
-clash : {A : Type 0} {b : Bool} → b ≡ true → b ≡ false → A
+pub clash : {A : Type 0} {b : Bool} → b ≡ true → b ≡ false → A
 clash p q = let z : _≡_ {A = ℕ} 0 1 = cc in absurd (omega arith)
 
 -- a number within a range lies from its lowest to its highest
@@ -115,6 +115,11 @@ among-below m (r ∷ s ∷ rs) v f a = go (within r v) refl (among-below m (s �
     go : (b : Bool) → within r v ≡ b → (among (s ∷ rs) v ≡ true → v < m) → (b || among (s ∷ rs) v) ≡ true → v < m
     go true q on e = omega (arith, ltb-true (r .high) m (both _ (endBelow m (s ∷ rs)) f .0), low-high r v q .1)
     go false q on e = on e
+
+-- there are as many widths as lines
+pub length-widths : (ls : List Line) → length (widths ls) ≡ length ls
+length-widths [] = refl
+length-widths (l ∷ ls) = ap suc (length-widths ls)
 
 -- allowed values fit their widths
 pub allowed-fit : (ls : List Line) (vs : List ℕ) → linesFit ls ≡ true → Allowed ls vs → Fit (widths ls) vs

@@ -18,16 +18,17 @@ use Rattle.sheet.specs.declared.Section.{Section}
 use Rattle.sheet.specs.declared.Body.{Body}
 use Rattle.sheet.specs.declared.Body.the-variants.{Plate as isPlate, Member as isMember}
 use Rattle.sheet.specs.declared.Record.{Record}
-use Rattle.sheet.specs.Versions.{one, two, versionOf}
+use Rattle.sheet.specs.Versions.{Version, one, two, versionOf}
+use Rattle.sheet.specs.VersionLaws.{numbered-own}
 use Rattle.sheet.specs.Lines.{none, headerLines}
 use Rattle.sheet.specs.Refusals.{given, refused, headerRefused}
 use Rattle.sheet.specs.RefusalLaws.{by-none, at-none}
-use Rattle.sheet.specs.Header.{rawFault, headerFault}
+use Rattle.sheet.specs.Header.{ownValues, ownAt, rawFault, headerFault}
 use Rattle.sheet.specs.Record.{plateRecord, memberRecord, plateLinesOf, memberLinesOf, plateFault, memberFault, recordFault}
 use Rattle.sheet.specs.HeaderLaws.{flag-read, flag-written}
 use Rattle.sheet.specs.RecordLaws.{plate-ranges, member-ranges}
-use Rattle.numbers.specs.Fields.{headerNumbers, recordNumbers}
-use Rattle.numbers.specs.From.{numbersFrom, headerOfNumbers, fieldsAs, inSecond, headerNumbersFault, headerFrom, plateNumbered, recordOfNumbers, plateFields, recordNumbersFault, recordFrom}
+use Rattle.numbers.specs.Fields.{ownNumbers, headerNumbers, recordNumbers}
+use Rattle.numbers.specs.From.{numbersFrom, headerOfNumbers, ownFieldsAs, fieldsAs, inSecond, headerNumbersFault, headerFrom, plateNumbered, recordOfNumbers, plateFields, recordNumbersFault, recordFrom}
 
 -- ---- all the numbers of a list
 
@@ -41,34 +42,25 @@ all-numbers (x ∷ ns) = ap (λ (l : List ℕ). x ∷ l) (one-further x ns 0 (le
 
 -- ---- a header
 
--- the header's own numbers are taken as the header, or refused as it is, where it holds what its version does
+-- what a version holds of its own is what its numbers are, and they stand in its fields
+own-again : (o : Own) (k : ℕ) → k ≡ versionOf o .number
+    → (ownAt k (numbersFrom 0 2 (ownNumbers o)) ≡ o) × (ownFieldsAs (eqb k (two .number)) (getD (ownNumbers o) 0 0) (getD (ownNumbers o) 1 0) ≡ 0 ∷ ownValues o 0)
+own-again One k e = (rw e, rw e)
+own-again (Two s) k e = (rw e, rw e)
+
+-- so the numbers of a header that holds what its version does are that header, and are at fault as it is
+pub header-again : (h : Header) → h .version ≡ versionOf (h .own) .number → (headerOfNumbers (headerNumbers h) ≡ h) × (headerNumbersFault (headerNumbers h) ≡ headerFault h)
+unfolding headerNumbersFault rawFault
+header-again h e =
+    let own = own-again (h .own) (h .version) e in (
+      rw (flag-read (h .«two_runs»), own .0),
+      ap₂ (λ (v : Version) (vs : List ℕ). faultFrom 1 (headerLines v) (numbersFrom 0 8 (headerNumbers h) ++ vs)) (numbered-own (h .own) (h .version) e) (own .1),
+    )
+
+-- they are taken as the header, or refused as it is
 pub header-from-numbers : (h : Header) → h .version ≡ versionOf (h .own) .number → headerFrom (headerNumbers h) ≡ headerRefused (headerFault h) (given h)
-unfolding headerFrom headerNumbersFault rawFault
-header-from-numbers h e = subst Taken-as (sym e) (go (h .own))
-  where
-    named : ℕ → Own → Header
-    named k o =
-        record {
-          version = k;
-          length = h .length;
-          draught = h .draught;
-          wave = h .wave;
-          «two_runs» = h .«two_runs»;
-          moment = h .moment;
-          «bottom_modulus» = h .«bottom_modulus»;
-          count = h .count;
-          own = o;
-        }
-
-    as-it-is : Header → Type 0
-    as-it-is g = headerFrom (headerNumbers g) ≡ headerRefused (headerFault g) (given g)
-
-    Taken-as : ℕ → Type 0
-    Taken-as k = as-it-is (named k (h .own))
-
-    go : (o : Own) → as-it-is (named (versionOf o .number) o)
-    go One = rw (flag-read (h .«two_runs»))
-    go (Two s) = rw (flag-read (h .«two_runs»))
+unfolding headerFrom
+header-from-numbers h e = let again = header-again h e in ap₂ (λ (f : ℕ) (g : Header). headerRefused f (given g)) (again .1) (again .0)
 
 -- what numbers with no fault give: the header that they are has none either, and has the same numbers
 abbrev pub HeaderSound : List ℕ → Header → Type 0

@@ -4,17 +4,19 @@ use Prim.Native.Nat.{ℕ, _+_, _*_}
 use mathlib.Core.Path.{_≡_, refl, ap}
 use mathlib.Core.Bool.{Bool, true, false, cond}
 use mathlib.Core.List.{List}
-use lib.ListN.{length}
+use lib.ListN.{length, getD, drop}
+use Rattle.quantity.specs.Range.{within}
 use Rattle.layout.specs.Line.{Line, Allowed, faultFrom}
 use Rattle.layout.specs.LineLaws.{FirstFault}
 use Rattle.sheet.specs.declared.Header.{Header}
 use Rattle.sheet.specs.declared.Record.{Record}
-use Rattle.sheet.specs.Versions.{firstBytes, one, two}
+use Rattle.sheet.specs.Versions.{firstBytes, one, two, numbers, numbered}
+use Rattle.sheet.specs.VersionLaws.{other-number}
 use Rattle.sheet.specs.Lines.{headerLines}
 use Rattle.sheet.specs.Refusals.{given, refused, recordRefused}
 use Rattle.sheet.specs.Record.{plateLinesOf, memberLinesOf}
-use Rattle.sheet.specs.Exactly.{Exactly, LaterFault, byFields, exactly-of, fields-first, fields-later, fields-given}
-use Rattle.sheet.specs.HeaderExactly.{headerCases}
+use Rattle.sheet.specs.Exactly.{Exactly, LaterFault, Cases, byFields, exactly-then, exactly-of, in-front, fields-first, fields-later, fields-given}
+use Rattle.sheet.specs.HeaderExactly.{headerCases, version-fault}
 use Rattle.sheet.specs.RecordExactly.{recordCases}
 use Rattle.numbers.specs.From.{numbersFrom, headerOfNumbers, fieldsAs, inSecond, headerFieldsOf, headerLinesOf, headerNumbersFault, headerFrom, plateNumbered, recordOfNumbers, plateFields, recordNumbersFault, recordFrom}
 
@@ -27,17 +29,25 @@ module _ (ns : List ℕ) where
       go true = refl
       go false = refl
 
-  pub header-from-2 : (p : ℕ) → Exactly (headerFrom ns ≡ refused 2 p) (FirstFault 0 (headerLinesOf ns) (headerFieldsOf ns) × (p ≡ 0))
+  -- no bytes are asked for here: of the cases only the refusals' numbers play a part
+  abbrev cases : Cases
+  cases = headerCases firstBytes
+
+  -- 2: a version that there is not
+  pub header-from-2 : (p : ℕ) → Exactly (headerFrom ns ≡ refused 2 p) ((within numbers (getD ns 0 0) ≡ false) × (p ≡ 0))
   unfolding headerFrom headerNumbersFault
-  header-from-2 p = fields-first (headerCases firstBytes) (headerLinesOf ns) (headerFieldsOf ns) same-header (headerOfNumbers ns) p
+  header-from-2 p =
+      let k = getD ns 0 0 in
+      exactly-then (fields-first cases (headerLinesOf ns) (headerFieldsOf ns) same-header (headerOfNumbers ns) p)
+      (in-front (exactly-then (version-fault (numbered k) k (drop 1 (headerFieldsOf ns))) (other-number k)))
 
   pub header-from-3 : (p : ℕ) → Exactly (headerFrom ns ≡ refused 3 p) (LaterFault (λ k. k) (headerLinesOf ns) (headerFieldsOf ns) p)
   unfolding headerFrom headerNumbersFault
-  header-from-3 p = fields-later (headerCases firstBytes) (headerLinesOf ns) (headerFieldsOf ns) same-header (headerOfNumbers ns) p
+  header-from-3 p = fields-later cases (headerLinesOf ns) (headerFieldsOf ns) same-header (headerOfNumbers ns) p
 
   pub header-from-given : (h : Header) → Exactly (headerFrom ns ≡ given h) (Allowed (headerLinesOf ns) (headerFieldsOf ns) × (headerOfNumbers ns ≡ h))
   unfolding headerFrom headerNumbersFault
-  header-from-given h = fields-given (headerCases firstBytes) (headerLinesOf ns) (headerFieldsOf ns) same-header (headerOfNumbers ns) h
+  header-from-given h = fields-given cases (headerLinesOf ns) (headerFieldsOf ns) same-header (headerOfNumbers ns) h
 
   -- a record's numbers as its fields
   abbrev pub recordFields : List ℕ

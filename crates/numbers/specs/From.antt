@@ -22,10 +22,13 @@ numbersFrom i (suc count) ns = getD ns i 0 ∷ numbersFrom (suc i) count ns
 abbrev pub headerOfNumbers : List ℕ → Header
 headerOfNumbers ns = headerAt (numbersFrom 0 8 ns ++ (0 ∷ numbersFrom 8 2 ns))
 
--- a header's numbers as its fields, in version 2 and else. All zero bits are 0; where the version has nothing of its own, what is not 0 past n stands where the
--- zero bits are
+-- the fields after n, in version 2 and else. All zero bits are 0; where the version has nothing of its own, what is not 0 past n stands where the zero bits are
+abbrev pub ownFieldsAs : (second : Bool) (x y : ℕ) → List ℕ
+ownFieldsAs second x y = cond second (0 ∷ x ∷ y ∷ 0 ∷ []) ((x + y) ∷ [])
+
+-- a header's numbers as its fields
 abbrev pub fieldsAs : (second : Bool) → List ℕ → List ℕ
-fieldsAs second ns = numbersFrom 0 8 ns ++ cond second (0 ∷ (numbersFrom 8 2 ns ++ 0 ∷ [])) ((getD ns 8 0 + getD ns 9 0) ∷ [])
+fieldsAs second ns = numbersFrom 0 8 ns ++ ownFieldsAs second (getD ns 8 0) (getD ns 9 0)
 
 abbrev pub inSecond : List ℕ → Bool
 inSecond ns = eqb (getD ns 0 0) (two .number)

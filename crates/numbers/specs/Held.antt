@@ -1,15 +1,15 @@
 -- How numbers of 32 bits are held in the fields of a header and a record while they are tested. No promise to a caller rests on this.
 use Prim.Native.Nat.{ℕ}
 use mathlib.Core.Bool.{cond}
-use mathlib.Core.List.{List}
+use mathlib.Core.List.{List, [], _∷_}
 use lib.ListN.{getD}
 use lib.Dec.{ltb, eqb}
 use Rattle.quantity.specs.Range.{Range, within, from, span, spacing, thickness, modulus, shearArea, steelFactor}
 use Rattle.sheet.specs.Refusals.{Answer, given, refused}
 use Rattle.sheet.specs.Lines.{none}
+use Rattle.sheet.specs.Header.{ownAt}
 use Rattle.sheet.specs.declared.Header.{Header}
 use Rattle.sheet.specs.declared.Own.{Own}
-use Rattle.sheet.specs.declared.Own.the-variants.{One, Two}
 use Rattle.sheet.specs.declared.Plate.{Plate}
 use Rattle.sheet.specs.declared.Member.{Member}
 use Rattle.sheet.specs.declared.Body.the-variants.{Plate as isPlate, Member as isMember}
@@ -35,7 +35,7 @@ earlierOf (refused j q) k p = cond (ltb q p) (refused j q) (refused k p)
 
 -- a version's own numbers in its fields
 abbrev pub ownHeld : List ℕ → Own
-ownHeld ns = cond (inSecond ns) (Two (record { «inner_modulus» = getD ns 8 0; depth = record { 0 = heldIn span 65535 (getD ns 9 0) } })) One
+ownHeld ns = ownAt (getD ns 0 0) (getD ns 8 0 ∷ heldIn span 65535 (getD ns 9 0) ∷ [])
 
 -- a header's numbers in its fields
 abbrev pub headerHeld : List ℕ → Header

@@ -10,9 +10,7 @@ use lib.Seq.{take-all, take-take}
 use lib.Dec.{ltb}
 use borrow.Author.Tests.{le-leb}
 use Rattle.sheet.specs.declared.Header.{Header}
-use Rattle.sheet.specs.declared.Own.{Own}
-use Rattle.sheet.specs.declared.Own.the-variants.{One, Two}
-use Rattle.sheet.specs.Versions.{versionOf}
+use Rattle.sheet.specs.VersionLaws.{regular}
 use Rattle.sheet.specs.Refusals.{Answer, given, refused}
 use Rattle.sheet.specs.RefusalLaws.{given-refused, refused-number, refused-place}
 use Rattle.checker.specs.Check.{_then_, demand, sheetSize, Sheet, sheetIn}
@@ -35,11 +33,7 @@ fields-most kind = go (ltb kind 5)
 
 -- a sheet's bytes say how many records its header counts, in every version
 pub records-counted : (h : Header) → recordsIn (sheetSize h) ≡ h .count
-records-counted h = go (h .own)
-  where
-    go : (o : Own) → recordsIn (versionOf o .size + 16 * h .count) ≡ h .count
-    go One = omega arith
-    go (Two s) = omega arith
+records-counted h = let v = regular (h .own) in omega (arith, v .least, v .less)
 
 -- the new sheet is in the buffer
 inside : (x : Answer After) (b : List ℕ) (e : Edited) (after : List ℕ) → ((a : After) → x ≡ given a → a .size ≤ length b) → Edits x b e after → Inside e (length b)

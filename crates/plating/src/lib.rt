@@ -113,7 +113,7 @@ fn rule2(kind: u8, factor: SteelFactor, spacing: Spacing, load: Load) -> Shape
 }
 
 // The modulus at the plate: the bottom's, or the inner bottom's.
-fn modulus(h: Header, kind: u8) -> u32
+fn plate_modulus(h: Header, kind: u8) -> u32
     ensures { λ r. ⌜ r ≡ plateModulus h kind ⌝ }
 {
     let inner = h.inner_modulus();
@@ -224,7 +224,7 @@ fn plate_verdict(h: Header, kind: u8, p: Plate, load: Load) -> Verdict
     if !gauge::meets(d2, t) {
         return verdict::failed(2, d2, top);
     }
-    let r = hull_stress(h.moment, modulus(h, kind));
+    let r = hull_stress(h.moment, plate_modulus(h, kind));
     let d3 = rule3(kind, p.factor, p.spacing, p.b1, p.b2, r);
     if !gauge::meets(d3, t) {
         return verdict::failed(3, d3, top);

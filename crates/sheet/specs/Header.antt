@@ -113,11 +113,12 @@ headerBytes h =
     let v = versionOf (h .own) in
     unpack (bytes firstBytes) (pack firstWidths (firstValues h 0)) ++ unpack (bytes (ownBytes v)) (pack (ownWidths v) (ownValues (h .own) 0))
 
--- writing: 5 where there are under 12 bytes; 2; 5 where there are fewer than the version takes; then 3. A refusal leaves every byte, and else the first
--- are the header's
+-- how many bytes are asked for before it is written
 abbrev pub headerNeeds : Header → ℕ
 headerNeeds h = needs (h .version) (versionOf (h .own))
 
+-- writing: 5 where there are under 12 bytes; 2; 5 where there are fewer than the version takes; then 3. A refusal leaves every byte, and else the first
+-- are the header's
 unfoldable pub writeHeader : Header → List ℕ → Wrote
 writeHeader h o =
     cond (ltb (length o) (headerNeeds h))

@@ -8,7 +8,7 @@ use lib.ListN.{length, getD, take, drop, length-append, take-append-drop}
 use lib.Seq.{take-add, take-at, length-take-le}
 use Rattle.quantity.specs.Range.{from}
 use Rattle.layout.specs.Layout.{pack, unpack, bytes, Fit}
-use Rattle.layout.specs.Laws.{fit-parts, fields-again, bytes-again, length-unpack, length-bytes}
+use Rattle.layout.specs.Laws.{fit-parts, fields-again, bytes-again, bytes-add, length-unpack, length-bytes}
 use Rattle.layout.specs.Line.{Allowed}
 use Rattle.layout.specs.LineLaws.{all-none, low-high}
 use Rattle.sheet.specs.declared.Header.{Header}
@@ -49,7 +49,7 @@ module _ (s : List ℕ) (h : Header) where
   unfolding rawFault
   read-holds e =
       let r = header-read-given s h .0 e in
-      let version : versionIn s ≡ versionOf (h .own) = sym (version-at (headerFields s)) ∙ ap (λ (g : Header). versionOf (g .own)) (r .2) in
+      let version : versionIn s ≡ versionOf (h .own) = sym (version-at (versionField s) (ownFields (versionIn s) s)) ∙ ap (λ (g : Header). versionOf (g .own)) (r .2) in
       let values : headerValues h (spareIn s) (restIn s) ≡ headerFields s = ap (λ (g : Header). headerValues g (spareIn s) (restIn s)) (sym (r .2)) ∙ values-at s in
       let allowed : Allowed (headerLines (versionOf (h .own))) (headerValues h (spareIn s) (restIn s)) =
       subst (λ (v : Version). Allowed (headerLines v) (headerValues h (spareIn s) (restIn s))) version
@@ -115,11 +115,6 @@ header-read-again h o e =
 
 -- ---- what is read is written again
 
--- as many bytes as a version takes are those of the first fields and its own
-two-parts : (o : Own) (l : List ℕ) → Fit (bytes (versionOf o .size)) l → Fit (bytes firstBytes ++ bytes (ownBytes (versionOf o))) l
-two-parts One l f = f
-two-parts (Two s) l f = f
-
 module _ (s : List ℕ) (h : Header) (e : readHeader s ≡ given h) (fit : Fit (bytes (headerSize h)) (take (headerSize h) s)) where
   abbrev v : Version
   v = versionOf (h .own)
@@ -127,16 +122,18 @@ module _ (s : List ℕ) (h : Header) (e : readHeader s ≡ given h) (fit : Fit (
   t : Holds s h
   t = read-holds s h e
 
+  -- as many bytes as the version takes are those of the first fields and its own
+  whole : headerSize h ≡ firstBytes + ownBytes v
+  whole = omega (arith, regular (h .own) .least)
+
   in-two : take (headerSize h) s ≡ take firstBytes s ++ take (ownBytes v) (drop firstBytes s)
-  in-two =
-      let whole : firstBytes + ownBytes v ≡ headerSize h = omega (arith, regular (h .own) .least) in
-      ap (λ (n : ℕ). take n s) (sym whole) ∙ take-add firstBytes (ownBytes v) s
+  in-two = ap (λ (n : ℕ). take n s) whole ∙ take-add firstBytes (ownBytes v) s
 
   fits : Fit (bytes firstBytes) (take firstBytes s) × Fit (bytes (ownBytes v)) (take (ownBytes v) (drop firstBytes s))
   fits =
       let l : length (take firstBytes s) ≡ length (bytes firstBytes) = length-take-le firstBytes s (omega (arith, regular (h .own) .least, t .long)) in
       fit-parts (bytes firstBytes) (bytes (ownBytes v)) (take firstBytes s) (take (ownBytes v) (drop firstBytes s)) l
-      (subst (Fit (bytes firstBytes ++ bytes (ownBytes v))) in-two (two-parts (h .own) (take (headerSize h) s) fit))
+      (subst (λ (ws : List ℕ). Fit ws (take firstBytes s ++ take (ownBytes v) (drop firstBytes s))) (ap bytes whole ∙ bytes-add firstBytes (ownBytes v)) (subst (Fit (bytes (headerSize h))) in-two fit))
 
   -- the values are the fields, part by part
   parts : (firstFields s ≡ firstValues h 0) × (ownFields v s ≡ ownValues (h .own) 0)

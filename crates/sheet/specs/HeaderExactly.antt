@@ -3,14 +3,17 @@
 -- Assumes nothing.
 use Prim.Native.Nat.{ℕ, _≤_}
 use mathlib.Core.Path.{_≡_, refl, sym, ap, _∙_}
-use mathlib.Core.Bool.{Bool, true, false}
+use mathlib.Core.Bool.{true, false}
 use mathlib.Core.List.{List, _∷_, _++_}
 use native.Mathlib.Omega.{arith}
 use lib.ListN.{length, drop, length-append, length-drop}
 use lib.Seq.{drop-at}
-use lib.Dec.{leb, eqb}
-use borrow.Author.Tests.{le-leb}
+use lib.Dec.{eqb}
+use borrow.Author.Tests.{eqb-false, ne-eqb}
 use Rattle.quantity.specs.Range.{within, from}
+use Rattle.quantity.specs.Laws.{one-value}
+use Rattle.layout.specs.Layout.{pack, unpack, bytes}
+use Rattle.layout.specs.Laws.{length-unpack, length-bytes}
 use Rattle.layout.specs.Line.{line, Allowed}
 use Rattle.layout.specs.LineLaws.{FirstFault, low-high}
 use Rattle.sheet.specs.declared.Header.{Header}
@@ -18,9 +21,9 @@ use Rattle.sheet.specs.declared.Own.{Own}
 use Rattle.sheet.specs.declared.Own.the-variants.{One, Two}
 use Rattle.sheet.specs.Versions.{Version, firstBytes, numbers, versionOf, needs}
 use Rattle.sheet.specs.VersionLaws.{Under, needs-own, needs-first, under-exactly, other-number, regular, regular-at}
-use Rattle.sheet.specs.Lines.{headerLines}
+use Rattle.sheet.specs.Lines.{headerLines, firstWidths, ownWidths}
 use Rattle.sheet.specs.Refusals.{Answer, given, refused, headerRefused}
-use Rattle.sheet.specs.Header.{headerSize, firstValues, ownValues, headerValues, rawFault, headerFault, versionField, versionIn, headerFields, headerOf, readHeader, headerBytes, headerNeeds, writeHeader}
+use Rattle.sheet.specs.Header.{headerSize, firstValues, ownValues, headerValues, rawFault, headerFault, ownBytes, versionField, versionIn, headerFields, headerOf, readHeader, headerBytes, headerNeeds, writeHeader}
 use Rattle.sheet.specs.HeaderLaws.{fields-lines, header-version}
 use Rattle.sheet.specs.Exactly.{Exactly, LaterFault, Cases, byFields, bySlice, exactly-then, exactly-of, in-front, alone, alone-two, first-alone, fields-first, fields-later, fields-given, fields-others, answer-short, answer-first, answer-later, answer-given, answer-others}
 use Rattle.sheet.specs.Written.{written, written-answer, written-fine, written-refused, written-all}
@@ -39,21 +42,10 @@ headerCases size =
 
 -- outside the one value of a line
 other-value : (x v : ℕ) → Exactly (within (from x x) v ≡ false) (v ≡ x → ⊥)
-other-value x v = (there, λ n. back (within (from x x) v) refl n)
-  where
-    there : within (from x x) v ≡ false → v ≡ x → ⊥
-    there e q =
-        let l : leb x v ≡ true = le-leb x v (omega arith) in
-        let h : leb v x ≡ true = le-leb v x (omega arith) in
-        let z : _≡_ {A = ℕ} 0 1 = cc in
-        omega arith
-
-    back : (b : Bool) → within (from x x) v ≡ b → (v ≡ x → ⊥) → b ≡ false
-    back true e n = absurd (n (omega (arith, low-high (from x x) v e)))
-    back false e n = refl
+other-value x v = (λ e. eqb-false v x (sym (one-value x v) ∙ e), λ n. one-value x v ∙ ne-eqb v x n)
 
 -- the version alone is at fault exactly when it is another
-version-fault : (v : Version) (k : ℕ) (vs : List ℕ) → Exactly (FirstFault 0 (headerLines v) (k ∷ vs)) (k ≡ v .number → ⊥)
+pub version-fault : (v : Version) (k : ℕ) (vs : List ℕ) → Exactly (FirstFault 0 (headerLines v) (k ∷ vs)) (k ≡ v .number → ⊥)
 version-fault v k vs = exactly-then (first-alone (line 4 (from (v .number) (v .number))) (drop 1 (headerLines v)) k vs) (other-value (v .number) k)
 
 -- ---- a header in a slice, to be read or to be written: the number of its version is k, its lines are v's, and short is the refusal of too few bytes
@@ -73,11 +65,11 @@ module _ {A : Type 0} (short : ℕ) (not-2 : eqb short 2 ≡ false) (not-3 : eqb
   first-allowed : within (from (v .number) (v .number)) k ≡ true → k ≡ v .number
   first-allowed e = omega (arith, low-high (from (v .number) (v .number)) k e)
 
-  pub slice-1 : (p : ℕ) → Exactly (x ≡ refused short p) (Under (length s) k v × (p ≡ 0))
-  slice-1 p = exactly-then (answer-short short c not-2 not-3 s (headerLines v) (k ∷ vs) same a p) (in-front (under-exactly k v least (length s)))
+  pub slice-short : (p : ℕ) → Exactly (x ≡ refused short p) (Under (length s) k v × (p ≡ 0))
+  slice-short p = exactly-then (answer-short short c not-2 not-3 s (headerLines v) (k ∷ vs) same a p) (in-front (under-exactly k v least (length s)))
 
-  pub slice-2 : (p : ℕ) → Exactly (x ≡ refused 2 p) ((firstBytes ≤ length s) × (k ≡ v .number → ⊥) × (p ≡ 0))
-  slice-2 p = exactly-then (answer-first short c not-2 not-3 s (headerLines v) (k ∷ vs) same a p) (there, back)
+  pub slice-version : (p : ℕ) → Exactly (x ≡ refused 2 p) ((firstBytes ≤ length s) × (k ≡ v .number → ⊥) × (p ≡ 0))
+  slice-version p = exactly-then (answer-first short c not-2 not-3 s (headerLines v) (k ∷ vs) same a p) (there, back)
     where
       there : (needs k v ≤ length s) × FirstFault 0 (headerLines v) (k ∷ vs) × (p ≡ 0) → (firstBytes ≤ length s) × (k ≡ v .number → ⊥) × (p ≡ 0)
       there h = let n = version-fault v k vs .0 (h .1) in (omega (arith, needs-first k v n, h .0), n, h .2)
@@ -85,8 +77,8 @@ module _ {A : Type 0} (short : ℕ) (not-2 : eqb short 2 ≡ false) (not-3 : eqb
       back : (firstBytes ≤ length s) × (k ≡ v .number → ⊥) × (p ≡ 0) → (needs k v ≤ length s) × FirstFault 0 (headerLines v) (k ∷ vs) × (p ≡ 0)
       back h = (omega (arith, needs-first k v (h .1), h .0), version-fault v k vs .1 (h .1), h .2)
 
-  pub slice-3 : (p : ℕ) → Exactly (x ≡ refused 3 p) ((v .size ≤ length s) × LaterFault (λ f. f) (headerLines v) (k ∷ vs) p)
-  slice-3 p = exactly-then (answer-later short c not-2 not-3 s (headerLines v) (k ∷ vs) same a p) (there, back)
+  pub slice-field : (p : ℕ) → Exactly (x ≡ refused 3 p) ((v .size ≤ length s) × LaterFault (λ f. f) (headerLines v) (k ∷ vs) p)
+  slice-field p = exactly-then (answer-later short c not-2 not-3 s (headerLines v) (k ∷ vs) same a p) (there, back)
     where
       version : LaterFault (λ f. f) (headerLines v) (k ∷ vs) p → k ≡ v .number
       version l = first-allowed (l .fault .earlier 0 (omega arith))
@@ -121,18 +113,18 @@ module _ (s : List ℕ) where
   -- 1: under 12 bytes, or, of a version that there is, under the version's
   pub header-read-1 : (p : ℕ) → Exactly (readHeader s ≡ refused 1 p) (Under (length s) (versionField s) (versionIn s) × (p ≡ 0))
   unfolding readHeader
-  header-read-1 p = slice-1 1 refl refl s v (regular-at (versionField s) .least) (versionField s) vs (fields-lines s) (headerOf s) p
+  header-read-1 p = slice-short 1 refl refl s v (regular-at (versionField s) .least) (versionField s) vs (fields-lines s) (headerOf s) p
 
   -- 2: a version that there is not
   pub header-read-2 : (p : ℕ) → Exactly (readHeader s ≡ refused 2 p) ((firstBytes ≤ length s) × (within numbers (versionField s) ≡ false) × (p ≡ 0))
   unfolding readHeader
   header-read-2 p =
-      exactly-then (slice-2 1 refl refl s v (regular-at (versionField s) .least) (versionField s) vs (fields-lines s) (headerOf s) p)
+      exactly-then (slice-version 1 refl refl s v (regular-at (versionField s) .least) (versionField s) vs (fields-lines s) (headerOf s) p)
       (λ h. (h .0, other-number (versionField s) .0 (h .1), h .2), λ h. (h .0, other-number (versionField s) .1 (h .1), h .2))
 
   pub header-read-3 : (p : ℕ) → Exactly (readHeader s ≡ refused 3 p) ((versionIn s .size ≤ length s) × LaterFault (λ k. k) (headerLines (versionIn s)) (headerFields s) p)
   unfolding readHeader
-  header-read-3 p = slice-3 1 refl refl s v (regular-at (versionField s) .least) (versionField s) vs (fields-lines s) (headerOf s) p
+  header-read-3 p = slice-field 1 refl refl s v (regular-at (versionField s) .least) (versionField s) vs (fields-lines s) (headerOf s) p
 
   pub header-read-given : (h : Header)
       → Exactly (readHeader s ≡ given h) ((versionIn s .size ≤ length s) × Allowed (headerLines (versionIn s)) (headerFields s) × (headerOf s ≡ h))
@@ -184,25 +176,11 @@ module _ (h : Header) where
 
   -- the bytes of a header are as many as its version takes
   pub header-bytes-length : length (headerBytes h) ≡ headerSize h
-  header-bytes-length = go (h .own)
-    where
-      with-own : Own → Header
-      with-own o =
-          record {
-            version = h .version;
-            length = h .length;
-            draught = h .draught;
-            wave = h .wave;
-            «two_runs» = h .«two_runs»;
-            moment = h .moment;
-            «bottom_modulus» = h .«bottom_modulus»;
-            count = h .count;
-            own = o;
-          }
-
-      go : (o : Own) → length (headerBytes (with-own o)) ≡ versionOf o .size
-      go One = refl
-      go (Two s) = refl
+  header-bytes-length =
+      let first = unpack (bytes firstBytes) (pack firstWidths (firstValues h 0)) in
+      let others = unpack (bytes (ownBytes own)) (pack (ownWidths own) (ownValues (h .own) 0)) in
+      let l : length others ≡ ownBytes own = length-unpack (bytes (ownBytes own)) (pack (ownWidths own) (ownValues (h .own) 0)) ∙ length-bytes (ownBytes own) in
+      omega (arith, length-append first others, regular (h .own) .least)
 
   -- a header with no fault needs just those
   pub fine-needs : headerFault h ≡ 0 → headerNeeds h ≡ headerSize h
@@ -219,15 +197,15 @@ module _ (h : Header) where
 
     -- 5: under 12 bytes, or, of a version that goes with what the header holds, under the version's
     pub header-write-5 : (p : ℕ) → Exactly (writeHeader h o .answer ≡ refused 5 p) (Under (length o) (h .version) (versionOf (h .own)) × (p ≡ 0))
-    header-write-5 p = exactly-of by-answer (slice-1 5 refl refl o own (regular (h .own) .least) (h .version) (drop 1 hs) (values-lines h) tt p)
+    header-write-5 p = exactly-of by-answer (slice-short 5 refl refl o own (regular (h .own) .least) (h .version) (drop 1 hs) (values-lines h) tt p)
 
     -- 2: the version is not that of what the header holds
     pub header-write-2 : (p : ℕ) → Exactly (writeHeader h o .answer ≡ refused 2 p) ((firstBytes ≤ length o) × (h .version ≡ versionOf (h .own) .number → ⊥) × (p ≡ 0))
-    header-write-2 p = exactly-of by-answer (slice-2 5 refl refl o own (regular (h .own) .least) (h .version) (drop 1 hs) (values-lines h) tt p)
+    header-write-2 p = exactly-of by-answer (slice-version 5 refl refl o own (regular (h .own) .least) (h .version) (drop 1 hs) (values-lines h) tt p)
 
     pub header-write-3 : (p : ℕ)
         → Exactly (writeHeader h o .answer ≡ refused 3 p) ((headerSize h ≤ length o) × LaterFault (λ k. k) (headerLines (versionOf (h .own))) (headerValues h 0 0) p)
-    header-write-3 p = exactly-of by-answer (slice-3 5 refl refl o own (regular (h .own) .least) (h .version) (drop 1 hs) (values-lines h) tt p)
+    header-write-3 p = exactly-of by-answer (slice-field 5 refl refl o own (regular (h .own) .least) (h .version) (drop 1 hs) (values-lines h) tt p)
 
     pub header-write-given : Exactly (writeHeader h o .answer ≡ given tt) ((headerSize h ≤ length o) × Allowed (headerLines (versionOf (h .own))) (headerValues h 0 0))
     header-write-given = exactly-then (exactly-of by-answer (slice-given 5 refl refl o own (regular (h .own) .least) (h .version) (drop 1 hs) (values-lines h) tt tt)) alone-two

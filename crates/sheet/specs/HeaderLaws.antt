@@ -1,26 +1,26 @@
 -- The header: its values and their fields, and what the absence of a fault gives.
 -- Assumes nothing.
-use Prim.Native.Nat.{ℕ, zero, suc, _≤_, _<_}
-use mathlib.Core.Path.{_≡_, refl, sym, ap₂}
+use Prim.Native.Nat.{ℕ, zero, suc, _+_, _≤_, _<_}
+use mathlib.Core.Path.{_≡_, refl, sym, ap₂, _∙_}
 use mathlib.Core.Bool.{Bool, true, false, cond}
 use mathlib.Core.List.{List, _++_}
 use native.Mathlib.Omega.{arith}
 use native.Mathlib.Nat.{mod-lt}
-use lib.ListN.{length, getD}
+use lib.ListN.{length, getD, take, drop, length-append}
 use lib.Dec.{eqb}
 use Rattle.quantity.specs.Range.{within, from}
-use Rattle.layout.specs.Layout.{Fit}
-use Rattle.layout.specs.Laws.{fit-parts}
+use Rattle.layout.specs.Layout.{Fit, pack, bytes}
+use Rattle.layout.specs.Laws.{fit-parts, length-unpack}
 use Rattle.layout.specs.Line.{among, Allowed, faultFrom}
-use Rattle.layout.specs.LineLaws.{none-all, allowed-fit, low-high, among-below}
+use Rattle.layout.specs.LineLaws.{none-all, allowed-fit, low-high, among-below, length-widths}
 use Rattle.sheet.specs.declared.Header.{Header}
 use Rattle.sheet.specs.declared.Own.{Own}
 use Rattle.sheet.specs.declared.Own.the-variants.{One, Two}
 use Rattle.sheet.specs.declared.Section.{Section}
-use Rattle.sheet.specs.Versions.{Version, hullModulus, one, two, numbered, versionOf}
+use Rattle.sheet.specs.Versions.{Version, firstBytes, hullModulus, one, two, numbered, versionOf}
 use Rattle.sheet.specs.VersionLaws.{regular}
 use Rattle.sheet.specs.Lines.{headerLines, firstWidths, ownWidths, waves}
-use Rattle.sheet.specs.Header.{innerOf, firstValues, ownValues, headerValues, headerAt, rawFault, headerFault, firstFields, ownFields, versionField, versionIn, headerFields, headerOf}
+use Rattle.sheet.specs.Header.{innerOf, firstValues, ownValues, headerValues, ownAt, headerAt, rawFault, headerFault, ownBytes, firstFields, ownFields, versionField, versionIn, headerFields, headerOf}
 use Rattle.sheet.specs.Ranges.{HeaderRanges}
 
 -- a flag's bit is within its line, and is the flag again
@@ -39,9 +39,9 @@ flag-written (suc (suc x)) h = absurd (omega arith)
 
 -- ---- the fields in bytes
 
--- the version of the header that values are goes by their first
-pub version-at : (vs : List ℕ) → versionOf (headerAt vs .own) ≡ numbered (getD vs 0 0)
-version-at vs = go (eqb (getD vs 0 0) (two .number)) _
+-- what version k holds of its own is of the version of that number
+pub version-at : (k : ℕ) (us : List ℕ) → versionOf (ownAt k us) ≡ numbered k
+version-at k us = go (eqb k (two .number)) _
   where
     go : (t : Bool) (s : Section) → versionOf (cond t (Two s) One) ≡ cond t two one
     go true s = refl
@@ -54,11 +54,11 @@ module _ (s : List ℕ) where
 
   -- there are as many fields as lines
   pub fields-lines : length (headerFields s) ≡ length (headerLines (versionIn s))
-  fields-lines = go (eqb (versionField s) (two .number))
-    where
-      go : (t : Bool) → length (fieldsAs t) ≡ length (headerLines (cond t two one))
-      go true = refl
-      go false = refl
+  fields-lines =
+      let v = versionIn s in
+      let own : length (ownFields v s) ≡ length (v .lines) =
+      length-unpack (ownWidths v) (pack (bytes (ownBytes v)) (take (ownBytes v) (drop firstBytes s))) ∙ length-widths (v .lines) in
+      omega (arith, length-append (firstFields s) (ownFields v s), own)
 
   -- what stands in the bits that carry nothing
   abbrev pub spareIn : ℕ
@@ -81,7 +81,7 @@ module _ (s : List ℕ) where
   -- reading goes by the fault of the header there
   pub read-fault : faultFrom 1 (headerLines (versionIn s)) (headerFields s) ≡ rawFault (headerOf s) spareIn restIn
   unfolding rawFault
-  read-fault = sym (ap₂ (λ (v : Version) (vs : List ℕ). faultFrom 1 (headerLines v) vs) (version-at (headerFields s)) values-at)
+  read-fault = sym (ap₂ (λ (v : Version) (vs : List ℕ). faultFrom 1 (headerLines v) vs) (version-at (versionField s) (ownFields (versionIn s) s)) values-at)
 
 -- ---- a header with no fault
 
@@ -135,24 +135,10 @@ header-fit h e =
     fit-parts firstWidths (ownWidths v) (firstValues h 0) (ownValues (h .own) 0) refl
     (allowed-fit (headerLines v) (headerValues h 0 0) (regular (h .own) .fit) (header-allowed h e))
 
--- the values of a header with no fault are that header
-pub at-values : (h : Header) → h .version ≡ versionOf (h .own) .number → headerAt (headerValues h 0 0) ≡ h
-at-values h = go (h .own)
-  where
-    with-own : Own → Header
-    with-own o =
-        record {
-          version = h .version;
-          length = h .length;
-          draught = h .draught;
-          wave = h .wave;
-          «two_runs» = h .«two_runs»;
-          moment = h .moment;
-          «bottom_modulus» = h .«bottom_modulus»;
-          count = h .count;
-          own = o;
-        }
+-- the values of a header whose version is that of what it holds are that header
+own-again : (o : Own) (k : ℕ) → k ≡ versionOf o .number → ownAt k (ownValues o 0) ≡ o
+own-again One k e = rw e
+own-again (Two s) k e = rw e
 
-    go : (o : Own) → h .version ≡ versionOf o .number → headerAt (headerValues (with-own o) 0 0) ≡ with-own o
-    go One e = rw (flag-read (h .«two_runs»), e)
-    go (Two s) e = rw (flag-read (h .«two_runs»), e)
+pub at-values : (h : Header) → h .version ≡ versionOf (h .own) .number → headerAt (headerValues h 0 0) ≡ h
+at-values h e = rw (flag-read (h .«two_runs»), own-again (h .own) (h .version) e)

@@ -1,21 +1,20 @@
 -- There and back across the boundary: numbers that are written are read again, and numbers that are read are written to the same bytes.
 -- Assumes nothing.
 use Prim.Native.Nat.{ℕ, _≤_}
-use mathlib.Core.Path.{_≡_, sym, ap, ap₂, subst, _∙_}
-use mathlib.Core.List.{List, _∷_, _++_}
+use mathlib.Core.Path.{_≡_, sym, ap, ap₂, _∙_}
+use mathlib.Core.List.{List}
 use native.Mathlib.Omega.{arith}
-use lib.ListN.{length, take}
+use lib.ListN.{length, take, getD}
 use borrow.Author.Tests.{lt-ltb, le-ltb}
 use Rattle.layout.specs.Layout.{bytes, Fit}
 use Rattle.sheet.specs.declared.Header.{Header}
-use Rattle.sheet.specs.declared.Own.{Own}
-use Rattle.sheet.specs.declared.Own.the-variants.{One, Two}
 use Rattle.sheet.specs.declared.Body.{Body}
 use Rattle.sheet.specs.declared.Body.the-variants.{Plate as isPlate, Member as isMember}
 use Rattle.sheet.specs.declared.Record.{Record}
 use Rattle.sheet.specs.Refusals.{given}
-use Rattle.sheet.specs.Versions.{versionOf}
-use Rattle.sheet.specs.Header.{headerSize, rawFault, readHeader, headerBytes, headerNeeds, writeHeader}
+use Rattle.sheet.specs.Versions.{Version, versionOf}
+use Rattle.sheet.specs.VersionLaws.{numbered-own, needs-own}
+use Rattle.sheet.specs.Header.{headerSize, headerFault, readHeader, headerBytes, headerNeeds, writeHeader}
 use Rattle.sheet.specs.Record.{plateFault, memberFault, recordFault, readRecord, recordBytes, writeRecord}
 use Rattle.sheet.specs.HeaderLaws.{flag-read, version-at, header-version}
 use Rattle.sheet.specs.RecordLaws.{plate-ranges, member-ranges}
@@ -26,7 +25,7 @@ use Rattle.sheet.specs.HeaderBack.{header-read-again, header-read-fine, header-
 use Rattle.sheet.specs.RecordBack.{record-read-again, record-read-fine, record-written-again}
 use Rattle.numbers.specs.Fields.{headerNumbers, recordNumbers}
 use Rattle.numbers.specs.From.{numbersFrom, namedSize, headerOfNumbers, headerNumbersFault, recordOfNumbers, recordNumbersFault}
-use Rattle.numbers.specs.Back.{header-sound, record-sound}
+use Rattle.numbers.specs.Back.{header-again, header-sound, record-sound}
 use Rattle.yard.specs.Fields.{numbered}
 use Rattle.yard.specs.Writing.{writeHeaderNumbers, writeRecordNumbers}
 
@@ -34,36 +33,17 @@ use Rattle.yard.specs.Writing.{writeHeaderNumbers, writeRecordNumbers}
 
 -- writing a header's own numbers is writing the header, where it holds what its version does
 pub header-as-numbers : (h : Header) (o : List ℕ) → h .version ≡ versionOf (h .own) .number → writeHeaderNumbers (headerNumbers h) o ≡ writeHeader h o
-unfolding writeHeaderNumbers writeHeader headerNumbersFault rawFault
-header-as-numbers h o e = subst Same (sym e) (go (h .own))
-  where
-    named : ℕ → Own → Header
-    named k own =
-        record {
-          version = k;
-          length = h .length;
-          draught = h .draught;
-          wave = h .wave;
-          «two_runs» = h .«two_runs»;
-          moment = h .moment;
-          «bottom_modulus» = h .«bottom_modulus»;
-          count = h .count;
-          own = own;
-        }
-
-    as-it-is : Header → Type 0
-    as-it-is g = writeHeaderNumbers (headerNumbers g) o ≡ writeHeader g o
-
-    Same : ℕ → Type 0
-    Same k = as-it-is (named k (h .own))
-
-    go : (own : Own) → as-it-is (named (versionOf own .number) own)
-    go One = rw (flag-read (h .«two_runs»))
-    go (Two s) = rw (flag-read (h .«two_runs»))
+unfolding writeHeaderNumbers writeHeader
+header-as-numbers h o e =
+    let again = header-again h e in
+    let size : namedSize (headerNumbers h) ≡ headerNeeds h =
+    ap (λ (v : Version). v .size) (numbered-own (h .own) (h .version) e) ∙ sym (needs-own (h .version) (versionOf (h .own)) e) in
+    ap₂ (λ (k f : ℕ). written (headerCases k) f (headerBytes (headerOfNumbers (headerNumbers h))) o) size (again .1)
+    ∙ ap (λ (g : Header). written (headerCases (headerNeeds h)) (headerFault h) (headerBytes g) o) (again .0)
 
 -- the header that numbers with no fault are takes as many bytes as their version
 sized : (ns : List ℕ) → headerNumbersFault ns ≡ 0 → headerNeeds (headerOfNumbers ns) ≡ namedSize ns
-sized ns z = fine-needs (headerOfNumbers ns) (header-sound ns z .0) ∙ ap (λ v. v .size) (version-at (numbersFrom 0 8 ns ++ (0 ∷ numbersFrom 8 2 ns)))
+sized ns z = fine-needs (headerOfNumbers ns) (header-sound ns z .0) ∙ ap (λ v. v .size) (version-at (getD ns 0 0) (numbersFrom 8 2 ns))
 
 -- writing numbers with no fault is writing the header that they are
 pub header-same : (ns o : List ℕ) → headerNumbersFault ns ≡ 0 → writeHeader (headerOfNumbers ns) o ≡ writeHeaderNumbers ns o

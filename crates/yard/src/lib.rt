@@ -114,7 +114,8 @@ pub extern "C" fn yard_read_record(bytes: &[u8], fields: &mut [u32; 13]) -> u64
 pub extern "C" fn yard_write_header(fields: &[u32; 10], out: &mut [u8]) -> u64
     ensures { λ r. ⌜ Wrote (writeHeaderNumbers (now (fields .entry)) (now (out .entry))) r (now (out .exit)) ⌝ }
 {
-    if out.len() < numbers::header_size(*fields) {
+    let least = numbers::header_size(*fields);
+    if out.len() < least {
         return packed_refusal(Refusal::OutputShort);
     }
     let taken = numbers::header_from(*fields);

@@ -1,11 +1,11 @@
--- `plating::modulus` meets its contract.
+-- `plating::plate_modulus` meets its contract.
 -- Assumes nothing.
 use mathlib.Core.Path.{_≡_, sym, ap, _∙_}
 use mathlib.Core.Bool.{Bool, cond}
 use borrow.Author.Needs.{needs}
 use Rattle.sheet.specs.Header.{innerModulus}
-use Rattle.plating.proofs.modulus.Statement.{statement}
-use Rattle.plating.proofs.modulus.Tie as tie
+use Rattle.plating.proofs.plate_modulus.Statement.{statement}
+use Rattle.plating.proofs.plate_modulus.Tie as tie
 
 returns : tie.Need-returns
 returns c =
@@ -19,7 +19,7 @@ returns-2 c =
     let named : inner .inner-modulus .result ≡ innerModulus (a .h) = inner .inner-modulus .ensures in
     named ∙ sym (ap (λ (t : Bool). cond t (a .h .«bottom_modulus») (innerModulus (a .h))) (sym (c .before .is-bottom .ensures) ∙ c .if1 .left))
 
-pub modulus-spec : {M : Type 1} → statement M
-modulus-spec =
+pub plate-modulus-spec : {M : Type 1} → statement M
+plate-modulus-spec =
     tie.close
     (tie.spec (λ c κs. search needs) (λ c κs. search needs) returns returns-2)

@@ -53,11 +53,11 @@ rule2-requires c κs =
     (p .factor-high, p .spacing-high, rw (s .pre .2) (load-high (s .args .h) (s .args .kind) (s .args .p) (s .pre .0) p))
 
 -- the modulus at the plate is not 0
-some : (c : tie.After-modulus) → 1 ≤ c .modulus .result
-some c =
+modulus-some : (c : tie.After-plate-modulus) → 1 ≤ c .plate-modulus .result
+modulus-some c =
     let s = start2 (c .before .before) in
     let h = s .pre .0 in
-    subst (λ (Z : ℕ). 1 ≤ Z) (sym (c .modulus .ensures)) (either-low (isBottom (s .args .kind)) _ _ (h .modulus-low) (h .inner-low))
+    subst (λ (Z : ℕ). 1 ≤ Z) (sym (c .plate-modulus .ensures)) (either-low (isBottom (s .args .kind)) _ _ (h .modulus-low) (h .inner-low))
   where
     either-low : (t : Bool) (x y : ℕ) → 1 ≤ x → 1 ≤ y → 1 ≤ cond t x y
     either-low true x y a b = a
@@ -70,7 +70,7 @@ rule3-requires c κs =
     let p = s .pre .1 in (
       record { spacing-low = p .spacing-low; spacing-high = p .spacing-high; b1-low = λ e. omega (arith, p .b1-low e) },
       p .factor-high,
-      rw (c .hull-stress .ensures) (R-high (s .args .h .moment) _ (h .moment-high) (some (c .before))),
+      rw (c .hull-stress .ensures) (R-high (s .args .h .moment) _ (h .moment-high) (modulus-some (c .before))),
     )
 
 step1 : (c : tie.After-meets) → Step (c .before .rule1 .result) (r1 (start1 c)) (r2 (start1 c) ∷ r3 (start1 c) ∷ []) (c .meets .result)
@@ -94,7 +94,7 @@ step3 c =
     let d = c .before .rule3 .result in
     let says : Says d (thickness .high) (r3 (start3 c) .asks) =
     subst (λ (r : ℕ). Says d (thickness .high) (rule3 (a .kind) (a .p .factor .0) (a .p .spacing .0) (K2 (a .p .b1 .0) (a .p .b2 .0)) r))
-    (c .before .before .hull-stress .ensures ∙ ap (R (a .h .moment)) (c .before .before .before .modulus .ensures)) (c .before .rule3 .ensures) in
+    (c .before .before .hull-stress .ensures ∙ ap (R (a .h .moment)) (c .before .before .before .plate-modulus .ensures)) (c .before .rule3 .ensures) in
     step d (r3 (start3 c)) _ says (p .thickness-low) (p .thickness-high) (c .meets3 .ensures)
 
 passed1 : (c : tie.Else1) → let s = start1 (c .before) in verdictOf (r1 s ∷ r2 s ∷ r3 s ∷ []) ≡ verdictOf (r2 s ∷ r3 s ∷ [])
@@ -141,7 +141,7 @@ plate-verdict-spec =
     (λ c κs. search needs)
     returns-2
     (λ c κs. search needs)
-    (λ c κs. some c)
+    (λ c κs. modulus-some c)
     rule3-requires
     (λ c κs. search needs)
     (λ c κs. search needs)
