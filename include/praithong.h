@@ -27,13 +27,14 @@ extern "C" {
 #define YARD_VERDICT_BYTES 4
 
 /* Checks a whole sheet, of version 1 (12 + 16n bytes) or version 2 (20 + 16n): n * 2^16 + failed. Each record's verdict goes into its own four bytes of
-   out, whose first 4n bytes are written and no others. */
+   out, whose first 4n bytes are written and no others. Refused: 1, 2 and 3 as yard_read_header refuses the header; 9, at place 0, in version 2 where L is
+   above 35 * depth at H 60 or above 25 * depth at H 120; then 4 to 8 of the table, 4 for a sheet of another length and 5 for an out under 4n bytes. */
 uint64_t yard_check(const uint8_t *sheet, uint64_t sheet_len, uint8_t *out, uint64_t out_len);
 
 /* Reads the header in the first bytes, twelve of version 1 and twenty of version 2: 0, and fields are version, L, D0, H, runs (0 one, 1 two), M, ZB, n,
    ZDB, depth; the last two are 0 in version 1, which has neither. Refused: 1 under twelve bytes, 2 for another version, 1 for version 2 under twenty bytes;
    then 3 at the first field that is outside its values, ZDB being field 10, depth 11, the 27 zero bits 12, and the three after n field 9 in both versions.
-   Lend room for ten numbers: programs that lent eight must be built anew. */
+   A hull that is too slender is no matter of a header alone. Lend room for ten numbers: programs that lent eight must be built anew. */
 uint64_t yard_read_header(const uint8_t *bytes, uint64_t bytes_len, uint32_t fields[10]);
 
 /* Writes the header that the ten fields are into the first bytes of out, twelve or twenty by its version, and into no others: 0. Refused: 5 under twelve

@@ -372,6 +372,40 @@ static void sheets_in_2(void) {
   check("version 2 with no record", YARD_HEADER_2_BYTES, 0);
 }
 
+/* A sheet of version 2 with no record, by its length, wave height and depth. */
+static void hull_of(const char *name, uint32_t L, uint32_t H, uint32_t depth) {
+  uint32_t numbers[YARD_HEADER_FIELDS] = {2, L, 250, H, 0, 20000, 200000, 0, 400000, depth};
+  clear_sheet();
+  if (yard_write_header(numbers, sheet, YARD_HEADER_2_BYTES)) {
+    printf("the header of a hull was not written\n");
+    exit(1);
+  }
+  check(name, YARD_HEADER_2_BYTES, 0);
+}
+
+/* A hull may be 35 depths long at H 60 and 25 at H 120; then a header alone is fine, and the sheet is refused after a faulty field and before all else. */
+static void slender_hulls(void) {
+  hull_of("35 depths at H 60", 7980, 60, 228);
+  hull_of("a centimetre more", 7981, 60, 228);
+  hull_of("25 depths at H 120", 8000, 120, 320);
+  hull_of("a centimetre more", 8001, 120, 320);
+  hull_of("35 depths at H 120", 7980, 120, 228);
+  hull_of("135 depths at H 0", 13500, 0, 100);
+  bottoms(header_with(vessel_2, 9, 229));
+  check("two bottoms on the least depth", 52, 8);
+  write_header("header of a slender hull", header_with(vessel_2, 9, 228), YARD_HEADER_2_BYTES);
+  bottoms(damaged);
+  read_header("header of a slender hull", 52);
+  check("two bottoms of a slender hull", 52, 8);
+  check("a slender hull with a byte too many", 53, 8);
+  check("a slender hull into 7 bytes", 52, 7);
+  check("a slender hull in 19 bytes", 19, 8);
+  sheet[36] = 0xF0;
+  check("a slender hull with a kind 15", 52, 8);
+  sheet[19] = 1;
+  check("a slender hull with a spare bit", 52, 8);
+}
+
 static void verdicts(void) {
   example();
   fill();
@@ -547,7 +581,7 @@ static void refused_sheets(void) {
   both_refuse("equal ids", ROOM);
 }
 
-/* What only a header of version 2 is refused for. */
+/* What only a sheet of version 2 is refused for. */
 static void refused_in_2(void) {
   begin(LIST(3, 7, 9, 0));
   length = 15;
@@ -555,6 +589,11 @@ static void refused_in_2(void) {
   damage("ZDB over 100000000", 12, 0xFF);
   damage("depth 1004", 15, 0x1F);
   damage("the last spare bit of version 2", 19, 1);
+  damage("a depth of 204", 15, 6);
+  sheet[long_with(1)] = 0xF0;
+  both_refuse("a depth of 204 and kind 15", ROOM);
+  length = long_with(3) - 1;
+  both_refuse("a depth of 204 and a byte too few", ROOM);
 }
 
 static void refused_edits(void) {
@@ -663,6 +702,7 @@ int main(int count, char **words) {
     records_read();
     sheets();
     sheets_in_2();
+    slender_hulls();
     verdicts();
     edits(vessel);
     edits(vessel_2);

@@ -25,7 +25,8 @@ use Rattle.checker.specs.declared.Entry.{Entry}
 use Rattle.checker.specs.Entry.{entryFault, entryBytes, writeEntry}
 use Rattle.checker.specs.EntryLaws.{bytes-written}
 use Rattle.checker.specs.Check.{_then_, recordPart, partsFrom, soundAfter, recordsIn, entryWith, entryOf, bytesOf, failing, failures}
-use Rattle.checker.specs.CheckLaws.{then-given, sound-read}
+use Rattle.checker.specs.ThenLaws.{then-given}
+use Rattle.checker.specs.CheckLaws.{sound-read}
 use Rattle.checker.specs.Passes.{Refuses, judgedAfter, Pass, passOver}
 use Rattle.checker.specs.Sound.{entry-sound}
 use Rattle.checker.proofs.Faults.{record-good}

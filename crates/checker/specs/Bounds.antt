@@ -3,7 +3,7 @@
 -- Assumes nothing.
 use Prim.Native.Nat.{ℕ, zero, suc, _+_, _*_, _≤_, _<_}
 use mathlib.Core.Path.{_≡_, refl, sym, subst}
-use mathlib.Core.Bool.{Bool, true, false, cond}
+use mathlib.Core.Bool.{Bool, true, false, not, cond}
 use mathlib.Core.List.{List, [], _∷_}
 use native.Mathlib.Omega.{arith}
 use lib.ListN.{length, take, length-map}
@@ -19,6 +19,7 @@ use Rattle.sheet.specs.Lines.{headerLines, plateWidths, memberWidths}
 use Rattle.sheet.specs.Refusals.{Answer, given, refused}
 use Rattle.sheet.specs.RefusalLaws.{Which, which, none, first, later}
 use Rattle.sheet.specs.Header.{versionField, versionIn, headerFields, headerOf, readHeader}
+use Rattle.sheet.specs.Slender.{tooSlender}
 use Rattle.sheet.specs.HeaderLaws.{fields-lines, header-ranges}
 use Rattle.sheet.specs.HeaderBack.{header-read-fine}
 use Rattle.sheet.specs.Record.{plateIn, plateLinesOf, memberLinesOf, recordIn, readRecord}
@@ -27,13 +28,13 @@ use Rattle.sheet.specs.Exactly.{Cases, byFault}
 use Rattle.sheet.specs.HeaderExactly.{headerCases}
 use Rattle.sheet.specs.RecordExactly.{recordCases, linesAt, fieldsAt, record-by-fields}
 use Rattle.checker.specs.declared.Entry.{Entry}
-use Rattle.checker.specs.Check.{_then_, demand, sheetSize, headerFor, recordsPart, recordPart, partsFrom, soundAfter, recordsIn, Sheet, sheetIn, entryOf, verdicts, failures}
+use Rattle.checker.specs.Check.{_then_, demand, sheetHeader, sheetSize, headerFor, recordsPart, recordPart, partsFrom, soundAfter, recordsIn, Sheet, sheetIn, entryOf, verdicts, failures}
 use Rattle.checker.specs.CheckLaws.{header-fits, sheet-whole}
 
 -- a number of the table, and a place within a sheet of 400 records
 pub record Row (number place : ℕ) : Type 0 where
   pub some : 1 ≤ number
-  pub last : number ≤ 8
+  pub last : number ≤ 9
   pub inside : place < 12800
 
 -- every refusal is one
@@ -58,7 +59,7 @@ fault-told {A} c f a p q = go (which (c .first) (c .at) (c .later) (c .place) f 
     go (later z w) = subst (λ (t : Answer A). Refusable t) (sym w) q
 
 -- a row from its three parts
-pub row : (k p : ℕ) → 1 ≤ k → k ≤ 8 → p < 12800 → Row k p
+pub row : (k p : ℕ) → 1 ≤ k → k ≤ 9 → p < 12800 → Row k p
 row k p a b c = record { some = a; last = b; inside = c }
 
 pub by-test : {A : Type 0} (t : Bool) (k p : ℕ) (x : Answer A) → Row k p → Refusable x → Refusable (cond t (refused k p) x)
@@ -124,10 +125,16 @@ records-told s (suc count) i before l =
     (sound-told i before (recordPart s i) (omega arith))
     (λ r e. then-told (recordsIn (i + 1) (r .id) (partsFrom s (i + 1) count)) (λ rs. given (r ∷ rs)) (records-told s count (i + 1) (r .id) (omega arith)) (λ rs q. tt))
 
+sheet-header-told : (s : List ℕ) → Refusable (sheetHeader s)
+unfolding sheetHeader
+sheet-header-told s =
+    then-told (readHeader s) (λ h. demand (not (tooSlender h)) 9 then λ u. given h) (read-header-told s)
+    (λ h e. then-told (demand (not (tooSlender h)) 9) (λ u. given h) (demand-told (not (tooSlender h)) 9 (row 9 0 (omega arith) (omega arith) (omega arith))) (λ u q. tt))
+
 header-told : (s : List ℕ) (space : ℕ) → Refusable (headerFor s space)
 unfolding headerFor
 header-told s space =
-    then-told (readHeader s) (λ h. demand (eqb (length s) (sheetSize h)) 4 then λ u. demand (leb (4 * h .count) space) 5 then λ v. given h) (read-header-told s)
+    then-told (sheetHeader s) (λ h. demand (eqb (length s) (sheetSize h)) 4 then λ u. demand (leb (4 * h .count) space) 5 then λ v. given h) (sheet-header-told s)
     (λ h e. then-told (demand (eqb (length s) (sheetSize h)) 4) (λ u. demand (leb (4 * h .count) space) 5 then λ v. given h) (demand-told (eqb (length s) (sheetSize h)) 4 (row 4 0 (omega arith) (omega arith) (omega arith)))
     (λ u q. then-told (demand (leb (4 * h .count) space) 5) (λ v. given h) (demand-told (leb (4 * h .count) space) 5 (row 5 0 (omega arith) (omega arith) (omega arith))) (λ v w. tt)))
 

@@ -1,7 +1,7 @@
 -- What a check of a whole sheet answers, and what it leaves in the output.
 use mathlib.Core.Path.{_≡_}
 use Prim.Native.Nat.{ℕ, zero, suc, _+_, _-_, _*_}
-use mathlib.Core.Bool.{Bool, cond}
+use mathlib.Core.Bool.{Bool, not, cond}
 use mathlib.Core.List.{List, [], _∷_, _++_, map}
 use lib.ListN.{length, take, drop}
 use lib.Dec.{leb, ltb, eqb}
@@ -9,6 +9,7 @@ use Rattle.sheet.specs.declared.Header.{Header}
 use Rattle.sheet.specs.declared.Record.{Record}
 use Rattle.sheet.specs.Refusals.{Answer, given, refused, told}
 use Rattle.sheet.specs.Header.{headerSize, readHeader}
+use Rattle.sheet.specs.Slender.{tooSlender}
 use Rattle.sheet.specs.Record.{readRecord}
 use Rattle.verdict.specs.Judged.{Finding}
 use Rattle.hull.specs.Hull.{finding}
@@ -29,14 +30,18 @@ demand t k = cond t (given tt) (refused k 0)
 
 -- ---- when the sheet is turned away
 
+-- 1, 2 and 3: reading the header; 9: too slender, which only the header of a sheet is asked
+unfoldable pub sheetHeader : List ℕ → Answer Header
+sheetHeader s = readHeader s then λ h. demand (not (tooSlender h)) 9 then λ u. given h
+
 -- how many bytes a sheet has: those of its header, and sixteen for each record
 abbrev pub sheetSize : Header → ℕ
 sheetSize h = headerSize h + 16 * h .count
 
--- 1, 2 and 3: reading the header; 4: sheet length not its header's bytes + 16n; 5: output under 4n bytes
+-- 1, 2, 3 and 9: the sheet's header; 4: sheet length not its header's bytes + 16n; 5: output under 4n bytes
 unfoldable pub headerFor : List ℕ → (room : ℕ) → Answer Header
 headerFor s room =
-    readHeader s
+    sheetHeader s
     then λ h. demand (eqb (length s) (sheetSize h)) 4
     then λ u. demand (leb (4 * h .count) room) 5
     then λ v. given h
@@ -76,7 +81,7 @@ pub record Sheet : Type 0 where
   pub header : Header
   pub records : List Record
 
--- the whole table, 1 to 8. Ids are at least 1, so that every id is above the 0 before the first record
+-- the whole table, 1 to 9. Ids are at least 1, so that every id is above the 0 before the first record
 unfoldable pub sheetIn : List ℕ → (room : ℕ) → Answer Sheet
 sheetIn s room =
     headerFor s room

@@ -12,10 +12,11 @@ use Rattle.sheet.specs.declared.Header.{Header}
 use Rattle.sheet.specs.Refusals.{Answer, given, refused}
 use Rattle.sheet.specs.Versions.{longestSheet}
 use Rattle.sheet.specs.VersionLaws.{regular, regular-at}
-use Rattle.sheet.specs.Header.{versionField, versionIn, readHeader}
+use Rattle.sheet.specs.Header.{versionField, versionIn}
 use Rattle.sheet.specs.HeaderFront.{read-same}
 use Rattle.sheet.specs.HeaderLaws.{header-ranges}
-use Rattle.checker.specs.Check.{_then_, demand, sheetSize, headerFor, Sheet, sheetIn, outputBy, outputOf, answerOf}
+use Rattle.checker.specs.Check.{_then_, demand, sheetHeader, sheetSize, headerFor, Sheet, sheetIn, outputBy, outputOf, answerOf}
+use Rattle.checker.specs.CheckLaws.{header-slim, header-same}
 use Rattle.sheet.specs.HeaderBack.{header-read-fine}
 
 -- one byte more than the longest sheet has
@@ -27,18 +28,18 @@ abbrev tooLong : Answer Header → Answer Sheet
 tooLong (given h) = refused 4 0
 tooLong (refused k p) = refused k p
 
-too-long : (s : List ℕ) (room : ℕ) (x : Answer Header) → readHeader s ≡ x → enough ≤ length s → sheetIn s room ≡ tooLong x
+too-long : (s : List ℕ) (room : ℕ) (x : Answer Header) → sheetHeader s ≡ x → enough ≤ length s → sheetIn s room ≡ tooLong x
 unfolding sheetIn headerFor _then_ demand
 too-long s room (refused k p) e l = rw e
 too-long s room (given h) e l =
-    let few = header-ranges h (header-read-fine s h e) .count-high in
+    let few = header-ranges h (header-read-fine s h (header-slim s h e .0)) .count-high in
     let other : length s ≡ sheetSize h → ⊥ = λ z. omega (arith, few, regular (h .own) .short) in
     rw (e, ne-eqb (length s) (sheetSize h) other)
 
-header-cut : (s : List ℕ) → enough ≤ length s → readHeader (take enough s) ≡ readHeader s
+header-cut : (s : List ℕ) → enough ≤ length s → sheetHeader (take enough s) ≡ sheetHeader s
 header-cut s l =
     let few : versionIn s .size ≤ enough = omega (arith, regular-at (versionField s) .short) in
-    read-same s (take enough s) enough (take-take enough enough s (omega arith)) few l (simp length-take (omega arith))
+    header-same (take enough s) s (read-same s (take enough s) enough (take-take enough enough s (omega arith)) few l (simp length-take (omega arith)))
 
 -- what is read of a sheet up to there says what the whole of it says
 pub sheet-cut : (s : List ℕ) (room : ℕ) → sheetIn (take enough s) room ≡ sheetIn s room
@@ -48,7 +49,7 @@ sheet-cut s room = go (decLt (length s) enough)
     go (yes l) = ap (λ (b : List ℕ). sheetIn b room) (take-all enough s (omega arith))
     go (no l) =
         let h : enough ≤ length s = omega arith in
-        too-long (take enough s) room (readHeader s) (header-cut s h) (simp length-take (omega arith)) ∙ sym (too-long s room (readHeader s) refl h)
+        too-long (take enough s) room (sheetHeader s) (header-cut s h) (simp length-take (omega arith)) ∙ sym (too-long s room (sheetHeader s) refl h)
 
 pub answer-cut : (s : List ℕ) (room : ℕ) → answerOf (take enough s) room ≡ answerOf s room
 unfolding answerOf

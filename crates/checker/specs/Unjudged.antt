@@ -10,7 +10,7 @@ use Rattle.checker.specs.Check.{_then_, partsFrom, recordsIn, Sheet, she
 abbrev pub room : ℕ
 room = 4 * mostRecords
 
--- rows 1 to 4 and 6 to 8: with that room row 5 never holds
+-- every row but 5, which never holds with that room
 unfoldable pub soundSheet : List ℕ → Answer Sheet
 soundSheet s = sheetIn s room
 

@@ -9,21 +9,21 @@ use Rattle.sheet.specs.declared.Header.{Header}
 use Rattle.sheet.specs.declared.HeaderRead.{HeaderRead}
 use Rattle.sheet.specs.Refusals.{Answer, given, refused, toldHeader}
 use Rattle.sheet.specs.RefusalLaws.{header-only}
-use Rattle.sheet.specs.Header.{readHeader}
 use Rattle.sheet.specs.HeaderLaws.{header-ranges}
 use Rattle.sheet.specs.HeaderBack.{header-read-fine}
-use Rattle.checker.specs.Check.{_then_, demand, headerFor, sheetIn}
+use Rattle.checker.specs.Check.{_then_, demand, sheetHeader, headerFor, sheetIn}
+use Rattle.checker.specs.CheckLaws.{header-slim}
 use Rattle.checker.specs.Unjudged.{room, soundHeader}
 
 -- it gives what any longer one gives: refusal 5 does not arise
 pub room-enough : (s : List ℕ) (space : ℕ) → room ≤ space → sheetIn s space ≡ sheetIn s room
 unfolding sheetIn headerFor _then_ demand
-room-enough s space l = go (readHeader s) refl
+room-enough s space l = go (sheetHeader s) refl
   where
-    go : (x : Answer Header) → readHeader s ≡ x → sheetIn s space ≡ sheetIn s room
+    go : (x : Answer Header) → sheetHeader s ≡ x → sheetIn s space ≡ sheetIn s room
     go (refused k p) e = rw e
     go (given h) e =
-        let few = header-ranges h (header-read-fine s h e) .count-few in
+        let few = header-ranges h (header-read-fine s h (header-slim s h e .0)) .count-few in
         rw (e, le-leb (4 * h .count) space (omega arith), le-leb (4 * h .count) room (omega arith))
 
 -- two answers that meet the promise of `sound_header` are equal

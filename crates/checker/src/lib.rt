@@ -126,7 +126,7 @@ pub fn write_verdict(e: Entry, out: &mut [u8]) -> Outcome
     Outcome::Fine
 }
 
-// Refusals 1 to 5: the header of the sheet, for an output of so many bytes.
+// Refusals 1 to 3, 9, 4 and 5: the header of the sheet, for an output of so many bytes.
 fn header_for(sheet: &[u8], room: usize) -> HeaderRead
     ensures { λ r. ⌜ toldHeader r ≡ headerFor (now (sheet .entry)) room ⌝ }
 {
@@ -136,6 +136,10 @@ fn header_for(sheet: &[u8], room: usize) -> HeaderRead
         HeaderRead::Good(h) => {
             let n = h.count as usize;
             let size = h.size();
+            let slender = h.too_slender();
+            if slender {
+                return HeaderRead::Refused(Refusal::TooSlender);
+            }
             if sheet.len() != size + RECORD * n {
                 return HeaderRead::Refused(Refusal::SheetLength);
             }
@@ -194,7 +198,7 @@ fn records_sound(records: &[u8], n: u16) -> Outcome
     Outcome::Fine
 }
 
-// The header of a sheet that is read and not judged, or the first of the refusals 1 to 4 and 6 to 8: 5 is about an output.
+// The header of a sheet that is read and not judged, or the first of the table's refusals but 5, which is about an output.
 pub fn sound_header(sheet: &[u8]) -> HeaderRead
     ensures { λ r. ⌜ toldHeader r ≡ soundHeader (now (sheet .entry)) ⌝ }
 {

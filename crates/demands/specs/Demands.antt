@@ -12,7 +12,7 @@ use Rattle.checker.specs.declared.Entry.{Entry}
 use Rattle.checker.specs.declared.Checked.the-variants.{Done}
 use Rattle.checker.specs.Entry.{entryBytes}
 use Rattle.checker.specs.Check.{entryWith}
-use Rattle.demands.specs.Table.{headSize, countOf, idOf, HeaderSound, Row, Accepted}
+use Rattle.demands.specs.Table.{headSize, countOf, idOf, HeaderSound, TooSlender, Row, Accepted}
 use Rattle.demands.specs.Program.{Program, Refuses, fourAt, Leaves}
 use Rattle.demands.specs.Raise.{theHeader, theRecord, withScantling, InGauge, Reaches, meetsRule, raisedTimes}
 
@@ -33,8 +33,8 @@ pub record First (P : Program) (s out : List ℕ) : Type 0 where
   pub accepted-otherwise : Exactly (Accepted s (length out)) ((k p : ℕ) → Row s (length out) k p → ⊥)
   -- a refusal writes nothing
   pub refusal-writes-nothing : (k p : ℕ) → Refuses P s out k p → P .after s out ≡ out
-  -- with n = 0 every sound header is accepted, and nothing is judged or written
-  pub none-judged : length s ≡ headSize s → HeaderSound s → countOf s ≡ 0 → (P .answer s out ≡ Done 0 0) × (P .after s out ≡ out)
+  -- with n = 0 every sound header of a hull that is not too slender is accepted, and nothing is judged or written
+  pub none-judged : length s ≡ headSize s → HeaderSound s → (TooSlender s → ⊥) → countOf s ≡ 0 → (P .answer s out ≡ Done 0 0) × (P .after s out ≡ out)
 
 -- the verdict on record i under the sheet's header and what its pressure comes from, with its id
 abbrev pub entryOn : List ℕ → ℕ → Entry

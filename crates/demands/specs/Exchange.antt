@@ -15,7 +15,7 @@ use Rattle.sheet.specs.Header.{headerSize, readHeader}
 use Rattle.sheet.specs.Record.{recordFault, recordBytes}
 use Rattle.checker.specs.Entry.{entryBytes, readEntry}
 use Rattle.checker.specs.Check.{_then_, demand, sheetSize, headerFor, recordsPart, recordOf, partsFrom, soundAfter, recordsIn, Sheet, sheetIn, entryOf, outputOf}
-use Rattle.checker.specs.CheckLaws.{Taken, none, next, sheet-whole, record-given, verdict-at, verdict-read}
+use Rattle.checker.specs.CheckLaws.{slim-header, Taken, none, next, sheet-whole, record-given, verdict-at, verdict-read}
 use Rattle.demands.specs.Program.{fourAt}
 use Rattle.demands.specs.Table.{headSize}
 use Rattle.demands.specs.Raise.{theHeader, theRecord, replaced}
@@ -50,7 +50,7 @@ accepted s s' room t e header size same =
     let again = retaken (recordsPart h s) (recordsPart h s') 0 0 (t .records) (w .records) same in
     let parts : recordsIn 0 0 (partsFrom (recordsPart h s') 0 (h .count)) ≡ given (again .0) = ap (λ (n : ℕ). recordsIn 0 0 (partsFrom (recordsPart h s') 0 n)) (sym (w .number)) ∙ again .1 in (
       record { header = h; records = again .0 },
-      rw (header, eq-eqb (length s') (sheetSize h) whole, le-leb (4 * h .count) room (w .header .fits), parts),
+      rw (slim-header s' h header (w .header .slim), eq-eqb (length s') (sheetSize h) whole, le-leb (4 * h .count) room (w .header .fits), parts),
       refl,
     )
 

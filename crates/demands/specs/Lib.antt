@@ -9,6 +9,7 @@ pub mod Empty
 pub mod EmptyPrograms
 -- how it is proved
 pub mod FieldsRead
+pub mod FrontRows
 pub mod Rows
 pub mod Replace
 pub mod Exchange
@@ -21,4 +22,5 @@ pub mod Only
 pub mod Example
 pub mod Unmoved
 pub mod Version2
+pub mod Slender
 pub mod Cases

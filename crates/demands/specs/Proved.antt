@@ -25,8 +25,9 @@ use Rattle.checker.specs.declared.Checked.{Checked}
 use Rattle.checker.specs.declared.Checked.the-variants.{Done, Refused as notDone}
 use Rattle.checker.specs.Entry.{entryBytes, readEntry}
 use Rattle.checker.specs.Check.{_then_, recordsPart, recordPart, recordOf, Sheet, sheetIn, entryWith, entryOf, verdicts, bytesOf, failures, Totals, toldChecked, answerOf, outputOf}
-use Rattle.checker.specs.CheckLaws.{then-given, Taken, none, next, sheet-whole, record-given, verdict-at, verdict-read, verdicts-count, rest-as-lent, answer-done, output-done, bytes-length, refused-as-lent}
-use Rattle.demands.specs.Table.{headSize, countOf, HeaderSound, Row, Accepted}
+use Rattle.checker.specs.ThenLaws.{then-given}
+use Rattle.checker.specs.CheckLaws.{Taken, none, next, sheet-whole, record-given, verdict-at, verdict-read, verdicts-count, rest-as-lent, answer-done, output-done, bytes-length, refused-as-lent}
+use Rattle.demands.specs.Table.{headSize, countOf, HeaderSound, TooSlender, Row, Accepted}
 use Rattle.demands.specs.Program.{Program, Meets, fourAt, Leaves}
 use Rattle.demands.specs.Raise.{theHeader, theRecord, replaced, withScantling, InGauge, OwnRule, Reaches, metIn, meetsRule, raisedBy, raisedTimes}
 use Rattle.demands.specs.Demands.{Covered, accepted, turned-away, First, entryOn, failedFrom, Second, Later, passed, above, Third, Settled, passes, none-meets, ThreeRaisings, Demands}
@@ -179,10 +180,10 @@ module _ (P : Program) (meets : Meets P) where
         let m : n ≡ 0 = q .number ∙ z in
         (e ∙ ap₂ Done m (q .counted ∙ ap (failedFrom s 0) m), subst (λ (k : ℕ). drop (4 * k) (P .after s out) ≡ drop (4 * k) out) m (q .others-as-lent))
 
-    no-records : length s ≡ headSize s → HeaderSound s → countOf s ≡ 0 → Accepted s (length out)
-    no-records l f z =
+    no-records : length s ≡ headSize s → HeaderSound s → (TooSlender s → ⊥) → countOf s ≡ 0 → Accepted s (length out)
+    no-records l f slim z =
         record {
-          fits = record { header = f; whole = omega arith; enough = omega arith };
+          fits = record { header = f; slim = slim; whole = omega arith; enough = omega arith };
           records = record { sound = λ j m. absurd (omega arith); rising = λ j m. absurd (omega arith) };
         }
 
@@ -195,7 +196,7 @@ module _ (P : Program) (meets : Meets P) where
           accepted-exactly = (λ d. given-fits s (length out) (record { n = d .0; failed = d .1 }) (done-given s out (d .0) (d .1) (d .2)), fits-done);
           accepted-otherwise = (no-row, otherwise covers);
           refusal-writes-nothing = λ k p e. left s out ∙ nothing-written k p (sym (meets s out .answer) ∙ e);
-          none-judged = λ l f z. let d = fits-done (no-records l f z) in none-judged (d .0) (d .1) (d .2) z;
+          none-judged = λ l f slim z. let d = fits-done (no-records l f slim z) in none-judged (d .0) (d .1) (d .2) z;
         }
 
   -- ---- demand 3

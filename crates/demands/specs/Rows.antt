@@ -2,66 +2,34 @@
 -- exactly where no row holds; and two rows that hold for one sheet are the same row with the same place.
 -- Assumes nothing.
 use Prim.Native.Nat.{ℕ, zero, suc, _+_, _-_, _*_, _≤_, _<_}
-use mathlib.Core.Path.{_≡_, refl, sym, ap, ap₂, subst, _∙_}
+use mathlib.Core.Path.{_≡_, refl, sym, ap, subst, _∙_}
 use mathlib.Core.Bool.{Bool, true, false, cond}
 use mathlib.Core.List.{List, [], _∷_}
 use native.Mathlib.Omega.{arith}
-use native.Mathlib.Decide.{decLt, ℕ-discrete}
+use native.Mathlib.Decide.{ℕ-discrete}
 use native.Mathlib.Nat.{zero-add}
 use native.Mathlib.Numerals.{add-one}
 use lib.ListN.{length}
-use lib.Dec.{ltb, leb, eqb}
-use borrow.Author.Tests.{lt-ltb, le-ltb, lt-leb, le-leb, leb-false, ltb-false, eq-eqb, ne-eqb, eqb-true, eqb-false}
+use lib.Dec.{ltb}
+use borrow.Author.Tests.{lt-ltb, le-ltb, ltb-false}
 use Rattle.quantity.specs.Range.{within, from}
 use Rattle.sheet.specs.declared.Header.{Header}
 use Rattle.sheet.specs.declared.Record.{Record}
 use Rattle.sheet.specs.Refusals.{Answer, given, refused}
 use Rattle.sheet.specs.RefusalLaws.{given-refused, refused-number, refused-place}
 use Rattle.sheet.specs.Exactly.{Exactly, LaterFault}
-use Rattle.sheet.specs.VersionLaws.{Under, under-first, under-own, own-number, number-own}
-use Rattle.sheet.specs.Header.{headerSize, versionField, versionIn, headerOf, readHeader}
-use Rattle.sheet.specs.HeaderExactly.{header-read-1, header-read-2, header-read-3, header-read-others}
+use Rattle.sheet.specs.VersionLaws.{under-first, under-own, number-own}
+use Rattle.sheet.specs.Header.{versionField, headerOf, readHeader}
+use Rattle.sheet.specs.HeaderExactly.{header-read-1, header-read-2, header-read-3}
 use Rattle.sheet.specs.Record.{readRecord}
 use Rattle.sheet.specs.RecordLaws.{recordAt}
 use Rattle.sheet.specs.RecordExactly.{kindAt, linesAt, fieldsAt, record-read-1, record-read-6, record-read-7, record-read-others}
-use Rattle.checker.specs.Check.{_then_, demand, sheetSize, headerFor, recordsPart, recordPart, recordOf, partsFrom, soundAfter, recordsIn, Sheet, sheetIn, verdicts, failures, Totals, answerOf}
-use Rattle.checker.specs.CheckLaws.{HeaderFits, header-fits, sound-read, Taken, none, next, sheet-whole}
-use Rattle.demands.specs.Table.{headSize, countOf, numberOf, fieldsOf, linesOf, idOf, HeaderSound, RecordSound, InOrder, Fits, Reached, Row, sheet-short, version, header-short, header-field, sheet-length, output-short, kind, field, order, Accepted}
-use Rattle.demands.specs.FieldsRead.{recordsOf, size-read, records-read, header-sound, header-given, number-read, part-length, record-sound, record-is, record-id-field, sound-id}
-
--- ---- one answer after another
-
--- where the second of two answers is a refusal, it is the first one's or that of what comes next
-data By {A B : Type 0} (x : Answer A) (rest : A → Answer B) (k p : ℕ) : Type 0 where
-  first : x ≡ refused k p → By x rest k p
-  later : (a : A) → x ≡ given a → rest a ≡ refused k p → By x rest k p
-
-same : {A B : Type 0} (k p l q : ℕ) → _≡_ {A = Answer A} (refused k p) (refused l q) → _≡_ {A = Answer B} (refused k p) (refused l q)
-same k p l q e = ap₂ refused (refused-number e) (refused-place e)
-
-by : {A B : Type 0} (x : Answer A) (rest : A → Answer B) (k p : ℕ) → (x then rest) ≡ refused k p → By x rest k p
-unfolding _then_
-by (given a) rest k p e = later a refl e
-by (refused l q) rest k p e = first (same l q k p e)
-
-stays : {A B : Type 0} (x : Answer A) (rest : A → Answer B) (k p : ℕ) → x ≡ refused k p → (x then rest) ≡ refused k p
-unfolding _then_
-stays (given a) rest k p e = given-refused e
-stays (refused l q) rest k p e = same l q k p e
-
-goes-on : {A B : Type 0} (x : Answer A) (rest : A → Answer B) (a : A) → x ≡ given a → (x then rest) ≡ rest a
-unfolding _then_
-goes-on x rest a e = rw e
-
-demanded : (t : Bool) (k l p : ℕ) → demand t k ≡ refused l p → (t ≡ false) × (k ≡ l) × (p ≡ 0)
-unfolding demand
-demanded true k l p e = given-refused e
-demanded false k l p e = (refl, refused-number e, sym (refused-place e))
-
-demand-true : (t : Bool) (k : ℕ) (u : Unit {0}) → demand t k ≡ given u → t ≡ true
-unfolding demand
-demand-true true k u e = refl
-demand-true false k u e = given-refused (sym e)
+use Rattle.checker.specs.Check.{_then_, sheetHeader, headerFor, recordsPart, recordPart, recordOf, partsFrom, soundAfter, recordsIn, Sheet, sheetIn, verdicts, failures, Totals, answerOf}
+use Rattle.checker.specs.ThenLaws.{By, first, later, by, stays, goes-on}
+use Rattle.checker.specs.CheckLaws.{header-fits, sound-read, Taken, none, next, sheet-whole}
+use Rattle.demands.specs.Table.{headSize, countOf, numberOf, fieldsOf, linesOf, idOf, HeaderSound, RecordSound, InOrder, Fits, Reached, Row, sheet-short, version, header-short, header-field, slender, sheet-length, output-short, kind, field, order, Accepted}
+use Rattle.demands.specs.FrontRows.{front-row, fits-read, slender-refused, length-refused, room-refused, front-given}
+use Rattle.demands.specs.FieldsRead.{recordsOf, records-read, header-given, number-read, part-length, record-sound, record-is, record-id-field, sound-id}
 
 module _ (s : List ℕ) where
   -- the bytes of its records
@@ -105,57 +73,8 @@ module _ (s : List ℕ) where
   -- ---- from a refusal to its row
 
   module _ (room : ℕ) where
-    -- the header is read, the sheet has its length and the output is long enough
-    fits-read : (h : Header) → HeaderFits s room h → Fits s room × (headerOf s ≡ h)
-    fits-read h f =
-        let r = header-sound s h (f .read) in
-        let c : countOf s ≡ h .count = ap (λ (g : Header). g .count) (r .1) in
-        (record { header = r .0; whole = omega (arith, f .whole, size-read s h (f .read)); enough = omega (arith, f .fits) }, r .1)
-
     within-sheet : (i : ℕ) → Fits s room → i < countOf s → headSize s + 16 * i + 16 ≤ length s
     within-sheet i f l = omega (arith, f .whole)
-
-    -- row 1, for the sheet and for its header
-    short-row : Under (length s) (versionField s) (versionIn s) → Row s room 1 0
-    short-row (under-first l) = sheet-short l
-    short-row (under-own e l) = go (decLt (length s) 12)
-      where
-        go : Dec (length s < 12) → Row s room 1 0
-        go (yes m) = sheet-short m
-        go (no m) = header-short (omega arith) (own-number (versionField s) e) l
-
-    -- rows 1 to 3
-    header-row : (k p : ℕ) → readHeader s ≡ refused k p → Row s room k p
-    header-row k p e = go (ℕ-discrete k 1) (ℕ-discrete k 2) (ℕ-discrete k 3)
-      where
-        at : (l : ℕ) → k ≡ l → readHeader s ≡ refused l p
-        at l f = e ∙ ap (λ (n : ℕ). refused n p) f
-
-        back : (l q : ℕ) → k ≡ l → p ≡ q → Row s room l q → Row s room k p
-        back l q f g r = subst (λ (n : ℕ). Row s room n p) (sym f) (subst (λ (n : ℕ). Row s room l n) (sym g) r)
-
-        go : Dec (k ≡ 1) → Dec (k ≡ 2) → Dec (k ≡ 3) → Row s room k p
-        go (yes f) b c = let r = header-read-1 s p .0 (at 1 f) in back 1 0 f (r .1) (short-row (r .0))
-        go (no a) (yes f) c = let r = header-read-2 s p .0 (at 2 f) in back 2 0 f (r .2) (version (r .0) (r .1))
-        go (no a) (no b) (yes f) = let r = header-read-3 s p .0 (at 3 f) in back 3 (r .1 .index + 2) f (r .1 .at ∙ omega arith) (header-field (r .1 .index) (r .0) (r .1 .fault))
-        go (no a) (no b) (no c) = absurd (header-read-others s k p a b c e)
-
-    -- rows 4 and 5
-    length-row : (k p : ℕ) (h : Header) → readHeader s ≡ given h → demand (eqb (length s) (sheetSize h)) 4 ≡ refused k p → Row s room k p
-    length-row k p h read e =
-        let d = demanded (eqb (length s) (sheetSize h)) 4 k p e in
-        let r = header-sound s h read in
-        let c : countOf s ≡ h .count = ap (λ (g : Header). g .count) (r .1) in
-        subst (λ (n : ℕ). Row s room n p) (d .1)
-        (subst (λ (n : ℕ). Row s room 4 n) (sym (d .2)) (sheet-length (r .0) (λ w. eqb-false (length s) (sheetSize h) (d .0) (omega (arith, w, size-read s h read)))))
-
-    room-row : (k p : ℕ) (h : Header) → readHeader s ≡ given h → length s ≡ sheetSize h → demand (leb (4 * h .count) room) 5 ≡ refused k p → Row s room k p
-    room-row k p h read whole e =
-        let d = demanded (leb (4 * h .count) room) 5 k p e in
-        let r = header-sound s h read in
-        let c : countOf s ≡ h .count = ap (λ (g : Header). g .count) (r .1) in
-        subst (λ (n : ℕ). Row s room n p) (d .1)
-        (subst (λ (n : ℕ). Row s room 5 n) (sym (d .2)) (output-short (r .0) (omega (arith, size-read s h read)) (omega (arith, leb-false (4 * h .count) room (d .0)))))
 
     -- rows 6 and 7
     record-row : (k p i : ℕ) → Reached s room i → recordOf kept i ≡ refused k p → Row s room k p
@@ -230,29 +149,6 @@ module _ (s : List ℕ) where
                 (ap (λ (n : ℕ). recordsIn (i + 1) n (partsFrom kept (i + 1) count)) (before-next i ∙ sym id) ∙ w)
             there (later rs w x) = given-refused x
 
-    -- the header with the lengths
-    front-row : (k p : ℕ) → headerFor s room ≡ refused k p → Row s room k p
-    unfolding headerFor
-    front-row k p e = go (by (readHeader s) _ k p e)
-      where
-        size : Header → Answer (Unit {0})
-        size h = demand (eqb (length s) (sheetSize h)) 4
-
-        lent : Header → Answer (Unit {0})
-        lent h = demand (leb (4 * h .count) room) 5
-
-        go : By (readHeader s) (λ h. size h then λ u. lent h then λ v. given h) k p → Row s room k p
-        go (first g) = header-row k p g
-        go (later h read g) = sized (by (size h) _ k p g)
-          where
-            sized : By (size h) (λ u. lent h then λ v. given h) k p → Row s room k p
-            sized (first w) = length-row k p h read w
-            sized (later u w x) = roomy (by (lent h) _ k p x)
-              where
-                roomy : By (lent h) (λ v. given h) k p → Row s room k p
-                roomy (first y) = room-row k p h read (eqb-true (length s) (sheetSize h) (demand-true (eqb (length s) (sheetSize h)) 4 u w)) y
-                roomy (later v y z) = given-refused z
-
     refused-row : (k p : ℕ) → answerOf s room ≡ refused k p → Row s room k p
     unfolding answerOf sheetIn
     refused-row k p e = go (by (sheetIn s room) _ k p e)
@@ -265,11 +161,11 @@ module _ (s : List ℕ) where
         go (first g) = whole (by (headerFor s room) _ k p g)
           where
             whole : By {B = Sheet} (headerFor s room) (λ h. records h then λ rs. given (record { header = h; records = rs })) k p → Row s room k p
-            whole (first w) = front-row k p w
+            whole (first w) = front-row s room k p w
             whole (later h w x) = inside (by (records h) _ k p x)
               where
                 fit : Fits s room × (headerOf s ≡ h)
-                fit = fits-read h (header-fits s room h w)
+                fit = fits-read s room h (header-fits s room h w)
 
                 inside : By {B = Sheet} (records h) (λ rs. given (record { header = h; records = rs })) k p → Row s room k p
                 inside (first y) =
@@ -285,22 +181,12 @@ module _ (s : List ℕ) where
     front-refused k p e = stays (sheetIn s room) _ k p (stays (headerFor s room) _ k p e)
 
     header-refused : (k p : ℕ) → readHeader s ≡ refused k p → answerOf s room ≡ refused k p
-    unfolding headerFor
-    header-refused k p e = front-refused k p (stays (readHeader s) _ k p e)
-
-    -- the header that the fields are takes as many bytes as its version
-    size-own : HeaderSound s → headSize s ≡ headerSize (headerOf s)
-    size-own f = size-read s (headerOf s) (header-given s f)
+    unfolding headerFor sheetHeader
+    header-refused k p e = front-refused k p (stays (sheetHeader s) _ k p (stays (readHeader s) _ k p e))
 
     -- the records of the sheet, as the table takes them
     own-records : HeaderSound s → recordsPart (headerOf s) s ≡ kept
     own-records f = sym (records-read s (headerOf s) (header-given s f))
-
-    front-given : Fits s room → headerFor s room ≡ given (headerOf s)
-    unfolding headerFor demand _then_
-    front-given f =
-        let whole : length s ≡ sheetSize (headerOf s) = omega (arith, f .whole, size-own (f .header)) in
-        rw (header-given s (f .header), eq-eqb (length s) (sheetSize (headerOf s)) whole, le-leb (4 * countOf s) room (f .enough))
 
     -- the records before record i are taken
     taken-to : (P : Answer (List Record) → Type 0) → ((r : Record) (x : Answer (List Record)) → P x → P (x then λ rs. given (r ∷ rs)))
@@ -328,19 +214,7 @@ module _ (s : List ℕ) where
         subst (λ (m : ℕ). recordsIn 0 0 (partsFrom kept 0 m) ≡ refused k p) n
         (taken-to (λ x. x ≡ refused k p) (λ r x u. stays x _ k p u) i (t .fits) (omega (arith, t .inside)) (t .before) (suc rest) here) in
         let own : recordsIn 0 0 (partsFrom (recordsPart h s) 0 (countOf s)) ≡ refused k p = ap (λ (b : List ℕ). recordsIn 0 0 (partsFrom b 0 (countOf s))) (own-records (t .fits .header)) ∙ all in
-        stays (sheetIn s room) _ k p (goes-on (headerFor s room) _ h (front-given (t .fits)) ∙ stays (recordsIn 0 0 (partsFrom (recordsPart h s) 0 (countOf s))) _ k p own)
-
-    length-refused : HeaderSound s → (length s ≡ headSize s + 16 * countOf s → ⊥) → headerFor s room ≡ refused 4 0
-    unfolding headerFor demand _then_
-    length-refused f n =
-        let other : length s ≡ sheetSize (headerOf s) → ⊥ = λ e. n (omega (arith, e, size-own f)) in
-        rw (header-given s f, ne-eqb (length s) (sheetSize (headerOf s)) other)
-
-    room-refused : HeaderSound s → length s ≡ headSize s + 16 * countOf s → room < 4 * countOf s → headerFor s room ≡ refused 5 0
-    unfolding headerFor demand _then_
-    room-refused f whole n =
-        let same : length s ≡ sheetSize (headerOf s) = omega (arith, whole, size-own f) in
-        rw (header-given s f, eq-eqb (length s) (sheetSize (headerOf s)) same, lt-leb (4 * countOf s) room n)
+        stays (sheetIn s room) _ k p (goes-on (headerFor s room) _ h (front-given s room (t .fits)) ∙ stays (recordsIn 0 0 (partsFrom (recordsPart h s) 0 (countOf s))) _ k p own)
 
     row-refused : (k p : ℕ) → Row s room k p → answerOf s room ≡ refused k p
     unfolding soundAfter
@@ -348,8 +222,9 @@ module _ (s : List ℕ) where
     row-refused k p (header-short l v m) = header-refused 1 0 (header-read-1 s 0 .1 (under-own (number-own (versionField s) v) m, refl))
     row-refused k p (version l n) = header-refused 2 0 (header-read-2 s 0 .1 (l, n, refl))
     row-refused k p (header-field f l c) = header-refused 3 (f + 2) (header-read-3 s (f + 2) .1 (l, record { index = f; fault = c; at = omega arith }))
-    row-refused k p (sheet-length f n) = front-refused 4 0 (length-refused f n)
-    row-refused k p (output-short f whole n) = front-refused 5 0 (room-refused f whole n)
+    row-refused k p (slender f z) = front-refused 9 0 (slender-refused s room f z)
+    row-refused k p (sheet-length f slim n) = front-refused 4 0 (length-refused s room f slim n)
+    row-refused k p (output-short f slim whole n) = front-refused 5 0 (room-refused s room f slim whole n)
     row-refused k p (kind i t c) =
         record-refused 6 i i t
         (stays (readRecord i (recordPart kept i)) _ 6 i
@@ -392,7 +267,7 @@ module _ (s : List ℕ) where
         let h = headerOf s in
         let got = records-taken a in
         let own : recordsIn 0 0 (partsFrom (recordsPart h s) 0 (countOf s)) ≡ given (got .0) = ap (λ (b : List ℕ). recordsIn 0 0 (partsFrom b 0 (countOf s))) (own-records (a .fits .header)) ∙ got .1 in
-        (record { header = h; records = got .0 }, goes-on (headerFor s room) _ h (front-given (a .fits)) ∙ goes-on (recordsIn 0 0 (partsFrom (recordsPart h s) 0 (countOf s))) _ (got .0) own, refl)
+        (record { header = h; records = got .0 }, goes-on (headerFor s room) _ h (front-given s room (a .fits)) ∙ goes-on (recordsIn 0 0 (partsFrom (recordsPart h s) 0 (countOf s))) _ (got .0) own, refl)
 
   -- the records of a sheet that is not turned away are within their values, and their ids rise
   taken-order : (i : ℕ) (rs : List Record) → InOrder s i → Taken kept i (idBefore i) rs → InOrder s (i + length rs)
@@ -407,7 +282,7 @@ module _ (s : List ℕ) where
   pub given-accepted : (room : ℕ) (t : Sheet) → sheetIn s room ≡ given t → Accepted s room × (headerOf s ≡ t .header)
   given-accepted room t e =
       let w = sheet-whole s room t e in
-      let f = fits-read room (t .header) (w .header) in
+      let f = fits-read s room (t .header) (w .header) in
       let n : 0 + length (t .records) ≡ countOf s = zero-add (length (t .records)) ∙ w .number ∙ ap (λ (h : Header). h .count) (sym (f .1)) in
       let records = subst (λ (b : List ℕ). Taken b 0 0 (t .records)) (sym (records-read s (t .header) (w .header .read))) (w .records) in
       let o = taken-order 0 (t .records) (record { sound = λ j l. absurd (omega arith); rising = λ j l. absurd (omega arith) }) records in

@@ -31,9 +31,9 @@ use Rattle.checker.specs.declared.Checked.the-variants.{Done, Refused as notDon
 use Rattle.checker.specs.Entry.{verdictLines, entryValues, entryFault, entryBytes, entryIn, readEntry}
 use Rattle.checker.specs.EntryLaws.{allowed-entry, bytes-read}
 use Rattle.checker.specs.Sound.{entry-sound}
-use Rattle.checker.specs.Check.{_then_, demand, headerFor, partsFrom, soundAfter, recordsIn, recordsPart, recordPart, Sheet, sheetIn, entryOf, verdicts, bytesOf, failures, Totals, toldChecked, answerOf, outputBy, outputOf}
+use Rattle.checker.specs.Check.{_then_, demand, sheetHeader, headerFor, partsFrom, soundAfter, recordsIn, recordsPart, recordPart, Sheet, sheetIn, entryOf, verdicts, bytesOf, failures, Totals, toldChecked, answerOf, outputBy, outputOf}
 use Rattle.checker.specs.CheckLaws.{Taken, none, next, sheet-whole, verdicts-count, answer-done}
-use Rattle.demands.specs.Table.{headSize, Row, sheet-short, version, header-short, header-field, sheet-length, output-short, kind, field, order, Accepted}
+use Rattle.demands.specs.Table.{headSize, Row, sheet-short, version, header-short, header-field, slender, sheet-length, output-short, kind, field, order, Accepted}
 use Rattle.demands.specs.Program.{Program, Meets, fourAt}
 use Rattle.demands.specs.Demands.{entryOn, failedFrom, Second, Demands}
 use Rattle.demands.specs.Empty.{ShutOut, OfVerdicts, LeavesAsLent, RefusesAll, PassesAll, NamesOne, PassesRest, ruleIn, failedIn, Miscounts, MakesUpCount, DropsSource}
@@ -50,8 +50,9 @@ row-told s room k p (sheet-short l) = refl
 row-told s room k p (version l n) = refl
 row-told s room k p (header-short l v m) = refl
 row-told s room k p (header-field f l c) = refl
-row-told s room k p (sheet-length h n) = refl
-row-told s room k p (output-short h w n) = refl
+row-told s room k p (slender h z) = refl
+row-told s room k p (sheet-length h slim n) = refl
+row-told s room k p (output-short h slim w n) = refl
 row-told s room k p (kind i t c) = refl
 row-told s room k p (field i f t c) = refl
 row-told s room k p (order i t a l) = refl
@@ -185,7 +186,7 @@ counting-is count s out n failed e = go (sheetIn s (length out)) e
 
 -- one that always says 1 failure says so of the example, where it leaves two
 pub counting-miscounts : Miscounts (counting (λ h. 1))
-unfolding readEntry entryIn entryFault sheetIn headerFor recordsIn partsFrom soundAfter _then_ demand readHeader readRecord recordIn verdicts entryOf bytesOf firstFrom leastIn ceilOf sea bottomPressure innerPressure deepPressure lineLoad K2 rule4 rule5 rule6 memberLine bottomNamed innerNamed
+unfolding readEntry entryIn entryFault sheetIn headerFor sheetHeader recordsIn partsFrom soundAfter _then_ demand readHeader readRecord recordIn verdicts entryOf bytesOf firstFrom leastIn ceilOf sea bottomPressure innerPressure deepPressure lineLoad K2 rule4 rule5 rule6 memberLine bottomNamed innerNamed
 counting-miscounts = (example, lent, 2, 1, refl, λ e. omega (arith, e))
 
 -- ---- and is shut out

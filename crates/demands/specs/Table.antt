@@ -21,6 +21,16 @@ headSize s = versionIn s .size
 abbrev pub countOf : List ℕ → ℕ
 countOf s = getD (headerFields s) 7 0
 
+-- L and H, the second and the fourth, and the depth, the second that version 2 has of its own; all in cm
+abbrev pub lengthOf : List ℕ → ℕ
+lengthOf s = getD (headerFields s) 1 0
+
+abbrev pub waveOf : List ℕ → ℕ
+waveOf s = getD (headerFields s) 3 0
+
+abbrev pub depthOf : List ℕ → ℕ
+depthOf s = getD (headerFields s) 10 0
+
 -- the number of 128 bits in the sixteen bytes of record i
 abbrev pub numberOf : List ℕ → ℕ → ℕ
 numberOf s i = pack (bytes 16) (take 16 (drop (headSize s + 16 * i) s))
@@ -46,6 +56,11 @@ pub record HeaderSound (s : List ℕ) : Type 0 where
   pub long : headSize s ≤ length s
   pub fields : Allowed (headerLines (versionIn s)) (headerFields s)
 
+-- length over depth beyond the limit of Ch 2 Sec 2 [2.1.3]: 35 at wave height 60, 25 from 120 on. Version 1 has no depth
+pub data TooSlender (s : List ℕ) : Type 0 where
+  at-60 : 2 ≤ versionField s → waveOf s ≡ 60 → 35 * depthOf s < lengthOf s → TooSlender s
+  from-120 : 2 ≤ versionField s → 120 ≤ waveOf s → 25 * depthOf s < lengthOf s → TooSlender s
+
 -- each field of record i is within its values
 abbrev pub RecordSound : List ℕ → ℕ → Type 0
 RecordSound s i = Allowed (linesOf s i) (fieldsOf s i)
@@ -55,9 +70,10 @@ pub record InOrder (s : List ℕ) (i : ℕ) : Type 0 where
   pub sound : (j : ℕ) → j < i → RecordSound s j
   pub rising : (j : ℕ) → suc j < i → idOf s j < idOf s (suc j)
 
--- rows 1 to 5 do not hold
+-- rows 1 to 5 and 9 do not hold
 pub record Fits (s : List ℕ) (room : ℕ) : Type 0 where
   pub header : HeaderSound s
+  pub slim : TooSlender s → ⊥
   pub whole : length s ≡ headSize s + 16 * countOf s
   pub enough : 4 * countOf s ≤ room
 
@@ -77,10 +93,12 @@ pub data Row (s : List ℕ) (room : ℕ) : (k p : ℕ) → Type 0 where
   header-short : 12 ≤ length s → within numbers (versionField s) ≡ true → length s < headSize s → Row s room 1 0
   -- 3: a later header field outside its values, the first such; place: field, version being 1
   header-field : (f : ℕ) → headSize s ≤ length s → FirstFault (suc f) (headerLines (versionIn s)) (headerFields s) → Row s room 3 (f + 2)
+  -- 9: the hull is too slender
+  slender : HeaderSound s → TooSlender s → Row s room 9 0
   -- 4: sheet length not its header's bytes + 16n
-  sheet-length : HeaderSound s → (length s ≡ headSize s + 16 * countOf s → ⊥) → Row s room 4 0
+  sheet-length : HeaderSound s → (TooSlender s → ⊥) → (length s ≡ headSize s + 16 * countOf s → ⊥) → Row s room 4 0
   -- 5: output under 4n bytes
-  output-short : HeaderSound s → length s ≡ headSize s + 16 * countOf s → room < 4 * countOf s → Row s room 5 0
+  output-short : HeaderSound s → (TooSlender s → ⊥) → length s ≡ headSize s + 16 * countOf s → room < 4 * countOf s → Row s room 5 0
   -- 6: kind not 1..8; place: record, from 0
   kind : (i : ℕ) → Reached s room i → within (from 1 8) (kindOf s i) ≡ false → Row s room 6 i
   -- 7: another field outside its values, the first such; place: 32 × record + field, kind being 1

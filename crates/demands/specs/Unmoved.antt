@@ -19,13 +19,15 @@ use Rattle.sheet.specs.Versions.{one, two, versionOf, needs}
 use Rattle.sheet.specs.Kinds.{isBottom}
 use Rattle.sheet.specs.Refusals.{Answer, given, refused, headerRefused}
 use Rattle.sheet.specs.RefusalLaws.{by-none, given-refused}
+use Rattle.sheet.specs.Slender.{beyondOwn, tooSlender}
 use Rattle.sheet.specs.Header.{headerSize, innerOf, versionField, readHeader}
 use Rattle.plating.specs.Rules.{R, K2, rule3, plateModulus, asked, asked1, asked2}
 use Rattle.verdict.specs.Verdict.{Rule, verdictOf}
 use Rattle.hull.specs.Hull.{bodyRules, sourceOf}
 use Rattle.checker.specs.declared.Entry.{Entry}
-use Rattle.checker.specs.Check.{_then_, demand, sheetSize, headerFor, partsFrom, recordsIn, Sheet, sheetIn, entryWith, entryOf, verdicts, bytesOf, failures, answerOf, outputBy, outputOf}
-use Rattle.checker.specs.CheckLaws.{sheet-whole}
+use Rattle.checker.specs.Check.{_then_, demand, sheetHeader, sheetSize, headerFor, partsFrom, recordsIn, Sheet, sheetIn, entryWith, entryOf, verdicts, bytesOf, failures, answerOf, outputBy, outputOf}
+use Rattle.checker.specs.ThenLaws.{stays}
+use Rattle.checker.specs.CheckLaws.{header-slim, slim-header, sheet-whole}
 use Rattle.demands.specs.Example.{example, lent}
 use Rattle.demands.specs.BeforeVersion2.{linesBefore, headerBefore, fieldsBefore, readBefore, sheetBefore, rulesBefore, entryBefore, verdictsBefore, answerBefore, writtenBefore, outputBefore}
 
@@ -77,6 +79,18 @@ module _ (s : List ℕ) (other : versionField s ≡ two .number → ⊥) where
       go true f = given-refused (sym f)
       go false f = by-none 2 0 3 (λ k. k) (faultFrom 1 linesBefore (fieldsBefore s)) (headerBefore (fieldsBefore s)) h f .1
 
+  -- so that its hull is never too slender, and the sheet's header is as it was
+  slim : (h : Header) → readHeader s ≡ given h → tooSlender h ≡ false
+  slim h e = ap (λ (o : Own). beyondOwn (h .length .0) (h .wave .0) o) (own-none h e)
+
+  header-unmoved : sheetHeader s ≡ readBefore s
+  unfolding sheetHeader
+  header-unmoved = go (readHeader s) refl ∙ read-unmoved
+    where
+      go : (x : Answer Header) → readHeader s ≡ x → sheetHeader s ≡ readHeader s
+      go (refused k p) e = stays (readHeader s) _ k p e ∙ sym e
+      go (given h) e = slim-header s h e (slim h e) ∙ sym e
+
   size-twelve : (h : Header) → readHeader s ≡ given h → headerSize h ≡ 12
   size-twelve h e = ap (λ (o : Own). versionOf o .size) (own-none h e)
 
@@ -100,14 +114,14 @@ module _ (s : List ℕ) (other : versionField s ≡ two .number → ⊥) where
     -- the sheet is taken or turned away as it was
     pub sheet-unmoved : sheetIn s room ≡ sheetBefore s room
     unfolding sheetIn headerFor sheetBefore _then_
-    sheet-unmoved = go (readHeader s) refl
+    sheet-unmoved = go (sheetHeader s) refl
       where
-        go : (x : Answer Header) → readHeader s ≡ x → sheetIn s room ≡ sheetBefore s room
-        go (refused k p) e = rw (e, sym read-unmoved ∙ e)
+        go : (x : Answer Header) → sheetHeader s ≡ x → sheetIn s room ≡ sheetBefore s room
+        go (refused k p) e = rw (e, sym header-unmoved ∙ e)
         go (given h) e =
             let now : sheetIn s room ≡ after (headerSize h) h = rw e (both-lengths (eqb (length s) (sheetSize h)) (leb (4 * h .count) room) h _) in
-            let once : sheetBefore s room ≡ after 12 h = rw (sym read-unmoved ∙ e) in
-            now ∙ ap (λ (k : ℕ). after k h) (size-twelve h e) ∙ sym once
+            let once : sheetBefore s room ≡ after 12 h = rw (sym header-unmoved ∙ e) in
+            now ∙ ap (λ (k : ℕ). after k h) (size-twelve h (header-slim s h e .0)) ∙ sym once
 
     -- and its verdicts are those that they were
     verdicts-unmoved : (t : Sheet) → sheetIn s room ≡ given t → verdicts t ≡ verdictsBefore t

@@ -18,7 +18,7 @@ use Rattle.sheet.specs.Header.{headerFault}
 use Rattle.sheet.specs.Record.{recordFault}
 use Rattle.numbers.specs.From.{recordFrom}
 use Rattle.checker.specs.Check.{_then_, demand, sheetSize, recordsPart, Sheet}
-use Rattle.checker.specs.CheckLaws.{then-given}
+use Rattle.checker.specs.ThenLaws.{then-given}
 use Rattle.checker.specs.Unjudged.{soundHeader}
 use Rattle.edit.specs.declared.Edited.the-variants.{Length, Refused as notEdited}
 use Rattle.keyed.specs.Keyed.{placeOf, hasOf}

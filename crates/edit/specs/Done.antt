@@ -14,7 +14,7 @@ use Rattle.sheet.specs.Refusals.{given, recordRefused}
 use Rattle.sheet.specs.RefusalLaws.{given-same, by-none}
 use Rattle.sheet.specs.Record.{recordFault}
 use Rattle.checker.specs.Check.{_then_, demand, Sheet}
-use Rattle.checker.specs.CheckLaws.{then-given, demand-given}
+use Rattle.checker.specs.ThenLaws.{then-given, demand-given}
 use Rattle.edit.specs.Edit.{sheetAt, highest, idOf, counting, replacing, inserting, removing, After, hasRoom, placing, putIn, removeIn}
 
 module _ (b : List ℕ) (len : ℕ) (t : Sheet) where

@@ -16,12 +16,14 @@ use Rattle.sheet.specs.declared.Raw.{Raw}
 use Rattle.sheet.specs.Refusals.{given}
 use Rattle.sheet.specs.RefusalLaws.{given-same}
 use Rattle.sheet.specs.Header.{headerSize, headerFault, readHeader}
+use Rattle.sheet.specs.Slender.{tooSlender}
 use Rattle.sheet.specs.HeaderLaws.{header-ranges}
 use Rattle.sheet.specs.HeaderBack.{header-read-fine}
 use Rattle.sheet.specs.Record.{readRecord}
 use Rattle.sheet.specs.RecordBack.{record-read-any, record-read-raw}
 use Rattle.checker.specs.Check.{_then_, demand, sheetSize, headerFor, recordsPart, partsFrom, soundAfter, recordsIn, Sheet, sheetIn}
-use Rattle.checker.specs.CheckLaws.{then-given, demand-given, header-fits, sound-read}
+use Rattle.checker.specs.ThenLaws.{then-given, demand-given}
+use Rattle.checker.specs.CheckLaws.{header-fits, sound-read}
 use Rattle.checker.specs.Unjudged.{room, soundSheet}
 use Rattle.keyed.specs.Keyed.{rises, placeOf, hasOf}
 use Rattle.keyed.specs.Places.{SameKeys, none, next, same-place, same-has}
@@ -92,6 +94,7 @@ pub record Taken (b : List ℕ) (len : ℕ) (t : Sheet) : Type 0 where
   pub fits : len ≤ length b
   pub whole : len ≡ sheetSize (t .header)
   pub read : readHeader (take len b) ≡ given (t .header)
+  pub slim : tooSlender (t .header) ≡ false
   pub sound : headerFault (t .header) ≡ 0
   pub few : t .header .count ≤ highest (t .header)
   pub number : length (t .records) ≡ t .header .count
@@ -127,6 +130,7 @@ taken-at b len t e =
           fits = fits;
           whole = size;
           read = hf .read;
+          slim = hf .slim;
           sound = fine;
           few = header-ranges h fine .count-high;
           number = sym (reads-length (partsFrom (recordsPart h (take len b)) 0 (h .count)) rs (r .0)) ∙ ap length same ∙ parts-length (recordsPart h b) 0 (h .count);

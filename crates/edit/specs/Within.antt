@@ -12,7 +12,7 @@ use Rattle.sheet.specs.Refusals.{Answer, given, refused}
 use Rattle.sheet.specs.RefusalLaws.{given-same, given-refused}
 use Rattle.numbers.specs.From.{recordFrom}
 use Rattle.checker.specs.Check.{demand, Sheet}
-use Rattle.checker.specs.CheckLaws.{then-given, demand-given}
+use Rattle.checker.specs.ThenLaws.{then-given, demand-given}
 use Rattle.edit.specs.declared.Edited.the-variants.{Length}
 use Rattle.edit.specs.Edit.{sheetAt, headerOf, After, putIn, putNumbersIn, removeIn, sizeBy, Edits}
 use Rattle.edit.specs.Done.{Put, replaces, inserts, put-done, remove-done}

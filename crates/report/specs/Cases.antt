@@ -6,12 +6,12 @@ use Rattle.decimal.specs.Decimal.{digitsIn, decimalOf}
 use Rattle.decimal.specs.Line.{moreOf, lineOf}
 use Rattle.sheet.specs.Refusals.{given}
 use Rattle.sheet.specs.Header.{readHeader}
-use Rattle.checker.specs.Check.{_then_, headerFor, sheetIn}
+use Rattle.checker.specs.Check.{_then_, sheetHeader, headerFor, sheetIn}
 use Rattle.report.specs.Text.{printed, linesText, textBy, textOf}
 
 -- a sheet of no bytes: `refused 1 0`
 pub nothing-text : textOf [] ≡ (114 ∷ 101 ∷ 102 ∷ 117 ∷ 115 ∷ 101 ∷ 100 ∷ 32 ∷ 49 ∷ 32 ∷ 48 ∷ 10 ∷ [])
-unfolding textOf printed textBy lineOf moreOf decimalOf digitsIn sheetIn headerFor readHeader _then_
+unfolding textOf printed textBy lineOf moreOf decimalOf digitsIn sheetIn headerFor sheetHeader readHeader _then_
 nothing-text = refl
 
 -- a verdict and the totals: `1000 6 100000 3`, `400 0`

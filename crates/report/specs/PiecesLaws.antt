@@ -8,7 +8,7 @@ use lib.ListN.{length, take, drop, length-append}
 use Rattle.sheet.specs.declared.Header.{Header}
 use Rattle.sheet.specs.declared.Record.{Record}
 use Rattle.sheet.specs.declared.Refusal.{Refusal}
-use Rattle.sheet.specs.declared.Refusal.the-variants.{SheetShort, Version, HeaderField, SheetLength, OutputShort, Kind, Field, Order, NoSuchId, NoRoom}
+use Rattle.sheet.specs.declared.Refusal.the-variants.{SheetShort, Version, HeaderField, TooSlender, SheetLength, OutputShort, Kind, Field, Order, NoSuchId, NoRoom}
 use Rattle.sheet.specs.Refusals.{Answer, given, refused, numberOf, placeOf}
 use Rattle.sheet.specs.RefusalLaws.{given-refused, refused-number, refused-place}
 use Rattle.checker.specs.declared.Entry.{Entry}
@@ -56,6 +56,7 @@ pub number-small : (r : Refusal) → numberOf r < 100
 number-small SheetShort = omega arith
 number-small Version = omega arith
 number-small (HeaderField p) = omega arith
+number-small TooSlender = omega arith
 number-small SheetLength = omega arith
 number-small OutputShort = omega arith
 number-small (Kind p) = omega arith

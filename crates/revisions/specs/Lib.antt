@@ -5,6 +5,8 @@ pub mod Touched
 pub mod BackAgain
 pub mod Verdicts
 pub mod Rows
+pub mod SheetRefusals
 pub mod RowLaws
+pub mod Slender
 pub mod Numbers
 pub mod Example

@@ -13,7 +13,8 @@ use Rattle.numbers.specs.Back.{record-from-numbers}
 use Rattle.checker.specs.Check.{_then_, Sheet}
 use Rattle.edit.specs.Edit.{sheetAt, headerOf, putIn, putNumbersIn}
 use Rattle.revisions.specs.Rows.{SheetRow}
-use Rattle.revisions.specs.RowLaws.{refused-as, sheet-row}
+use Rattle.checker.specs.ThenLaws.{refused-as}
+use Rattle.revisions.specs.RowLaws.{sheet-row}
 
 module _ (b : List ℕ) (len : ℕ) (ns : List ℕ) where
   -- of a sheet that is turned away, and of one that is not

@@ -2,7 +2,7 @@
 -- Assumes nothing.
 use Prim.Native.Nat.{ℕ, _+_, _-_, _*_, _≤_, _<_}
 use mathlib.Core.Path.{_≡_, sym, ap, ap₂, subst, _∙_}
-use mathlib.Core.Bool.{true}
+use mathlib.Core.Bool.{true, false}
 use mathlib.Core.List.{List, [], _∷_, _++_, append-assoc, append-nil}
 use native.Mathlib.Omega.{arith}
 use native.Mathlib.Nat.{zero-add}
@@ -13,11 +13,13 @@ use Rattle.sheet.specs.declared.Header.{Header}
 use Rattle.sheet.specs.declared.Record.{Record}
 use Rattle.sheet.specs.Refusals.{given}
 use Rattle.sheet.specs.Header.{headerSize, headerBytes, readHeader}
+use Rattle.sheet.specs.Slender.{tooSlender}
 use Rattle.sheet.specs.HeaderLaws.{header-ranges}
 use Rattle.sheet.specs.HeaderBack.{header-read-fine}
 use Rattle.sheet.specs.Record.{recordBytes}
 use Rattle.sheet.specs.HeaderFront.{header-prefix}
-use Rattle.checker.specs.Check.{_then_, demand, sheetSize, headerFor, recordsPart, part, partsFrom, recordsIn, Sheet, sheetIn}
+use Rattle.checker.specs.Check.{_then_, demand, sheetHeader, sheetSize, headerFor, recordsPart, part, partsFrom, recordsIn, Sheet, sheetIn}
+use Rattle.checker.specs.CheckLaws.{slim-header}
 use Rattle.checker.specs.Unjudged.{room, soundSheet}
 use Rattle.keyed.specs.Keyed.{rises}
 use Rattle.edit.specs.Edit.{sheetAt, start, idOf, replacing, inserting, removing}
@@ -26,8 +28,8 @@ use Rattle.edit.specs.Taken.{Reads, reads-taken, reads-append, reads-take, read
 
 -- ---- a sheet that is put together
 
-module _ (x : List ℕ) (ps : List (List ℕ)) (z : List ℕ) (h : Header) (rs : List Record) (sized : length x ≡ headerSize h) (wide : Wide ps) (read : readHeader x ≡ given h) (number : h .count ≡ length ps)
-    (each : Reads ps rs) (order : rises idOf 0 rs ≡ true) where
+module _ (x : List ℕ) (ps : List (List ℕ)) (z : List ℕ) (h : Header) (rs : List Record) (sized : length x ≡ headerSize h) (wide : Wide ps) (read : readHeader x ≡ given h) (slim : tooSlender h ≡ false)
+    (number : h .count ≡ length ps) (each : Reads ps rs) (order : rises idOf 0 rs ≡ true) where
   abbrev whole : List ℕ
   whole = x ++ (join ps ++ z)
 
@@ -37,8 +39,8 @@ module _ (x : List ℕ) (ps : List (List ℕ)) (z : List ℕ) (h : Header) (rs :
   front : take (sheetSize h) whole ≡ x ++ join ps
   front = ap (take (sheetSize h)) (sym (append-assoc x (join ps) z)) ∙ take-at (x ++ join ps) z (sheetSize h) long
 
-  header-read : readHeader (x ++ join ps) ≡ given h
-  header-read = header-prefix x (x ++ join ps) h read (take-append-le (headerSize h) x (join ps) (omega arith))
+  header-read : sheetHeader (x ++ join ps) ≡ given h
+  header-read = slim-header (x ++ join ps) h (header-prefix x (x ++ join ps) h read (take-append-le (headerSize h) x (join ps) (omega arith))) slim
 
   records-read : recordsIn 0 0 (partsFrom (recordsPart h (x ++ join ps)) 0 (h .count)) ≡ given rs
   records-read =
@@ -137,7 +139,7 @@ module _ (b : List ℕ) (len : ℕ) (t : Sheet) (k : Taken b len t) (i : ℕ) wh
 
     -- a sheet with records between those before record i and those from record j on
     module _ (j : ℕ) (later : j ≤ n) (x : List ℕ) (h : Header) (mid : List (List ℕ)) (new : List Record) (z : List ℕ) (sized : length x ≡ headerSize h) (read : readHeader x ≡ given h)
-        (wide : Wide mid) (each : Reads mid new) (number : h .count ≡ i + (length mid + (n - j))) (order : rises idOf 0 (take i (t .records) ++ (new ++ drop j (t .records))) ≡ true) where
+        (slim : tooSlender h ≡ false) (wide : Wide mid) (each : Reads mid new) (number : h .count ≡ i + (length mid + (n - j))) (order : rises idOf 0 (take i (t .records) ++ (new ++ drop j (t .records))) ≡ true) where
       abbrev all : List (List ℕ)
       all = partsFrom s 0 i ++ (mid ++ partsFrom s j (n - j))
 
@@ -157,6 +159,7 @@ module _ (b : List ℕ) (len : ℕ) (t : Sheet) (k : Taken b len t) (i : ℕ) wh
           put-together x all z h (take i (t .records) ++ (new ++ drop j (t .records))) sized
           (wide-append (partsFrom s 0 i) (mid ++ partsFrom s j (n - j)) before-wide (wide-append mid (partsFrom s j (n - j)) wide (from-wide j later)))
           read
+          slim
           all-length
           (reads-append (partsFrom s 0 i) (mid ++ partsFrom s j (n - j)) (take i (t .records)) (new ++ drop j (t .records)) before
           (reads-append mid (partsFrom s j (n - j)) new (drop j (t .records)) each (from j later)))

@@ -1,36 +1,34 @@
 -- When an edit is turned away: each refusal is given exactly when its case holds and none before it does.
 -- Assumes nothing.
-use Prim.Native.Nat.{ℕ, _+_, _*_, _≤_, _<_}
+use Prim.Native.Nat.{ℕ, _+_, _≤_, _<_}
 use mathlib.Core.Path.{_≡_, refl, sym, ap, ap₂, subst, _∙_}
 use mathlib.Core.Bool.{Bool, true, false, cond, _&&_}
-use mathlib.Core.List.{List, [], _∷_}
+use mathlib.Core.List.{List}
 use native.Mathlib.Omega.{arith}
 use native.Mathlib.Decide.{decLt, ℕ-discrete}
-use lib.ListN.{length, take, length-drop}
+use lib.ListN.{length, take}
 use lib.Seq.{length-take-le}
-use lib.Dec.{leb, ltb, eqb}
-use borrow.Author.Tests.{le-leb, lt-leb, le-ltb, leb-false, ltb-false}
+use lib.Dec.{leb, ltb}
+use borrow.Author.Tests.{le-leb, lt-leb, le-ltb, ltb-false}
 use Rattle.layout.specs.Line.{Allowed}
 use Rattle.sheet.specs.declared.Header.{Header}
 use Rattle.sheet.specs.declared.Record.{Record}
 use Rattle.sheet.specs.VersionLaws.{Under}
 use Rattle.sheet.specs.Refusals.{Answer, given, refused, recordRefused}
 use Rattle.sheet.specs.RefusalLaws.{given-refused, refused-number, refused-place}
-use Rattle.sheet.specs.Header.{headerSize, versionField, versionIn, readHeader}
-use Rattle.sheet.specs.HeaderLaws.{header-ranges}
-use Rattle.sheet.specs.HeaderBack.{header-read-fine}
-use Rattle.sheet.specs.HeaderExactly.{header-read-1, header-read-others}
-use Rattle.sheet.specs.Record.{recordFault, readRecord}
-use Rattle.sheet.specs.Exactly.{Exactly}
-use Rattle.sheet.specs.RecordExactly.{linesOf, valuesOf, record-read-1, record-read-others, record-fault-6, record-fault-7, record-fault-given, record-fault-others}
-use Rattle.checker.specs.Check.{_then_, demand, sheetSize, headerFor, recordsPart, partsFrom, soundAfter, recordsIn, Sheet, sheetIn}
-use Rattle.checker.specs.CheckLaws.{header-fits}
-use Rattle.checker.specs.Unjudged.{room, soundSheet}
+use Rattle.sheet.specs.Header.{versionField, versionIn, readHeader}
+use Rattle.sheet.specs.HeaderExactly.{header-read-1}
+use Rattle.sheet.specs.Record.{recordFault}
+use Rattle.sheet.specs.Exactly.{Exactly, exactly-then}
+use Rattle.sheet.specs.RecordExactly.{linesOf, valuesOf, record-fault-6, record-fault-7, record-fault-given, record-fault-others}
+use Rattle.checker.specs.Check.{_then_, demand, Sheet}
+use Rattle.checker.specs.ThenLaws.{refused-as}
+use Rattle.checker.specs.Unjudged.{soundSheet}
 use Rattle.keyed.specs.Keyed.{hasOf}
 use Rattle.keyed.specs.Places.{has-present, present-has}
 use Rattle.edit.specs.Edit.{sheetAt, highest, idOf, After, hasRoom, placing, putIn, removeIn}
-use Rattle.edit.specs.Parts.{Wide, parts-wide}
 use Rattle.edit.specs.Taken.{taken-at}
+use Rattle.revisions.specs.SheetRefusals.{under, headed-not}
 use Rattle.revisions.specs.Rows.{SheetRow, over, own, Full, buffer, count, PutRow, sheet, kind, field, no-room, RemoveRow, absent, Short, over-buffer, under-header}
 
 -- ---- the sheet's own
@@ -52,10 +50,6 @@ sheet-row b len k p = (forth (decLt (length b) len), back)
     back (own l e) = rw (le-leb len (length b) l) e
 
 -- ---- a put
-
--- the same refusal of something else
-pub refused-as : {A B : Type 0} {l q k p : ℕ} → _≡_ {A = Answer A} (refused l q) (refused k p) → _≡_ {A = Answer B} (refused l q) (refused k p)
-refused-as e = ap₂ refused (refused-number e) (refused-place e)
 
 never : (x : Bool) → x ≡ true → x ≡ false → ⊥
 never true e f = absurd (let z : _≡_ {A = ℕ} 0 1 = cc in omega arith)
@@ -153,71 +147,7 @@ module _ (b : List ℕ) (len : ℕ) (r : Record) (k p : ℕ) where
   pub put-refused-exactly : Exactly (putIn b len r ≡ refused k p) (PutRow b len r k p)
   put-refused-exactly = (forth, back)
 
--- ---- what is not given
-
--- an answer that is not refusal m
-abbrev Not : {A : Type 0} → ℕ → Answer A → Type 0
-Not m x = (p : ℕ) → x ≡ refused m p → ⊥
-
-then-not : {A B : Type 0} (m : ℕ) (x : Answer A) (next : A → Answer B) → Not m x → ((a : A) → x ≡ given a → Not m (next a)) → Not m (x then next)
-unfolding _then_
-then-not m (given a) next f g = g a refl
-then-not m (refused k q) next f g = λ p e. f p (refused-as e)
-
-demand-not : (m : ℕ) (t : Bool) (k : ℕ) → (t ≡ false → k ≡ m → ⊥) → Not m (demand t k)
-unfolding demand
-demand-not m true k n p e = given-refused e
-demand-not m false k n p e = n refl (refused-number e)
-
--- a number that no record of sixteen bytes is refused with
-records-not : (m : ℕ) → (m ≡ 8 → ⊥) → ((i : ℕ) (b : List ℕ) → 16 ≤ length b → Not m (readRecord i b)) → (i before : ℕ) (ps : List (List ℕ)) → Wide ps → Not m (recordsIn i before ps)
-unfolding recordsIn soundAfter
-records-not m n f i before [] w = λ p e. given-refused e
-records-not m n f i before (b ∷ ps) w =
-    then-not m (soundAfter i before b) _
-    (then-not m (readRecord i b) _ (f i b (omega (arith, w .0))) (λ r e. in-order r (ltb before (r .id))))
-    (λ r e. then-not m (recordsIn (i + 1) (r .id) ps) _ (records-not m n f (i + 1) (r .id) ps (w .1)) (λ rs g p h. given-refused h))
-  where
-    in-order : (r : Record) (t : Bool) → Not m (cond t (given r) (refused 8 i))
-    in-order r true p e = given-refused e
-    in-order r false p e = n (sym (refused-number e))
-
--- nor a sheet whose header is not
-sheet-not : (m : ℕ) (s : List ℕ) → (m ≡ 8 → ⊥) → ((i : ℕ) (b : List ℕ) → 16 ≤ length b → Not m (readRecord i b)) → Not m (headerFor s room) → Not m (soundSheet s)
-unfolding soundSheet sheetIn
-sheet-not m s n f g =
-    then-not m (headerFor s room) _ g
-    (λ h e. then-not m (recordsIn 0 0 (partsFrom (recordsPart h s) 0 (h .count))) _
-    (records-not m n f 0 0 (partsFrom (recordsPart h s) 0 (h .count))
-    (parts-wide (recordsPart h s) 0 (h .count) (omega (arith, header-fits s room h e .whole, length-drop (headerSize h) s))))
-    (λ rs u p v. given-refused v))
-
-header-not : (m : ℕ) (s : List ℕ) → (m ≡ 4 → ⊥) → Not m (readHeader s) → ((h : Header) → readHeader s ≡ given h → leb (4 * h .count) room ≡ false → m ≡ 5 → ⊥) → Not m (headerFor s room)
-unfolding headerFor
-header-not m s n f g =
-    then-not m (readHeader s) _ f
-    (λ h e. then-not m (demand (eqb (length s) (sheetSize h)) 4) _ (demand-not m _ 4 (λ x z. n (sym z)))
-    (λ u w. then-not m (demand (leb (4 * h .count) room) 5) _ (demand-not m _ 5 (λ x z. g h e x (sym z))) (λ v y p q. given-refused q)))
-
--- a sheet whose header is read is not refused with 1
-headed-not : (s : List ℕ) (g : Header) → readHeader s ≡ given g → Not 1 (soundSheet s)
-headed-not s g read =
-    sheet-not 1 s (λ z. omega arith) (λ i b m p e. omega (arith, record-read-1 i b p .0 e .0))
-    (header-not 1 s (λ z. omega arith) (λ p e. given-refused (sym read ∙ e)) (λ h e x z. omega arith))
-
--- and 5 is never given: the table's own is taken without it
-pub never-5 : (s : List ℕ) → Not 5 (soundSheet s)
-never-5 s =
-    sheet-not 5 s (λ z. omega arith) (λ i b m p. record-read-others i b 5 p (λ z. omega arith) (λ z. omega arith) (λ z. omega arith))
-    (header-not 5 s (λ z. omega arith) (λ p. header-read-others s 5 p (λ z. omega arith) (λ z. omega arith) (λ z. omega arith))
-    (λ h e x z. omega (arith, leb-false (4 * h .count) room x, header-ranges h (header-read-fine s h e) .count-few)))
-
 -- ---- 1
-
--- what turns the header away turns the sheet away
-under : (s : List ℕ) (k p : ℕ) → readHeader s ≡ refused k p → soundSheet s ≡ refused k p
-unfolding soundSheet sheetIn headerFor _then_
-under s k p e = rw e
 
 one-row : (b : List ℕ) (len p : ℕ) → Exactly (SheetRow b len 1 p) (Short b len × (p ≡ 0))
 one-row b len p = (from-row, λ h. to-row (h .0) (h .1))
@@ -251,15 +181,19 @@ one-row b len p = (from-row, λ h. to-row (h .0) (h .1))
         go (yes l) = over l refl d
         go (no l) = let n : len ≤ length b = omega arith in own n (under s 1 p (header-read-1 s p .1 (again n m, d)))
 
+-- a number that only a sheet is refused with
+pub put-by-sheet : (b : List ℕ) (len : ℕ) (r : Record) (m p : ℕ) → (m ≡ 6 → ⊥) → (m ≡ 7 → ⊥) → (m ≡ 11 → ⊥) → Exactly (putIn b len r ≡ refused m p) (SheetRow b len m p)
+put-by-sheet b len r m p x y z = (λ e. by-row (put-refused-exactly b len r m p .0 e), λ h. put-refused-exactly b len r m p .1 (sheet h))
+  where
+    by-row : PutRow b len r m p → SheetRow b len m p
+    by-row (sheet s) = s
+    by-row (kind t f e c d) = absurd (x c)
+    by-row (field t f e c) = absurd (y c)
+    by-row (no-room t f a n l c d) = absurd (z c)
+
 -- 1 exactly when the stated length is over the buffer or under the header, for a put and for a removal
 pub put-1 : (b : List ℕ) (len : ℕ) (r : Record) (p : ℕ) → Exactly (putIn b len r ≡ refused 1 p) (Short b len × (p ≡ 0))
-put-1 b len r p = (λ e. by-row (put-refused-exactly b len r 1 p .0 e), λ h. put-refused-exactly b len r 1 p .1 (sheet (one-row b len p .1 h)))
-  where
-    by-row : PutRow b len r 1 p → Short b len × (p ≡ 0)
-    by-row (sheet s) = one-row b len p .0 s
-    by-row (kind t f e c d) = absurd (omega arith)
-    by-row (field t f e c) = absurd (omega arith)
-    by-row (no-room t f a n l c d) = absurd (omega arith)
+put-1 b len r p = exactly-then (put-by-sheet b len r 1 p (λ z. omega arith) (λ z. omega arith) (λ z. omega arith)) (one-row b len p)
 
 -- ---- a removal
 
@@ -294,9 +228,12 @@ module _ (b : List ℕ) (len id k p : ℕ) where
   pub remove-refused-exactly : Exactly (removeIn b len id ≡ refused k p) (RemoveRow b len id k p)
   remove-refused-exactly = (there-forth, there-back)
 
-pub remove-1 : (b : List ℕ) (len id p : ℕ) → Exactly (removeIn b len id ≡ refused 1 p) (Short b len × (p ≡ 0))
-remove-1 b len id p = (λ e. by-row (remove-refused-exactly b len id 1 p .0 e), λ h. remove-refused-exactly b len id 1 p .1 (sheet (one-row b len p .1 h)))
+pub remove-by-sheet : (b : List ℕ) (len id m p : ℕ) → (m ≡ 10 → ⊥) → Exactly (removeIn b len id ≡ refused m p) (SheetRow b len m p)
+remove-by-sheet b len id m p x = (λ e. by-row (remove-refused-exactly b len id m p .0 e), λ h. remove-refused-exactly b len id m p .1 (sheet h))
   where
-    by-row : RemoveRow b len id 1 p → Short b len × (p ≡ 0)
-    by-row (sheet s) = one-row b len p .0 s
-    by-row (absent t f n c d) = absurd (omega arith)
+    by-row : RemoveRow b len id m p → SheetRow b len m p
+    by-row (sheet s) = s
+    by-row (absent t f n c d) = absurd (x c)
+
+pub remove-1 : (b : List ℕ) (len id p : ℕ) → Exactly (removeIn b len id ≡ refused 1 p) (Short b len × (p ≡ 0))
+remove-1 b len id p = exactly-then (remove-by-sheet b len id 1 p (λ z. omega arith)) (one-row b len p)

@@ -1,7 +1,7 @@
 -- When an edit is turned away: the cases, over the table's own rows on the sheet and the lines of the new record's fields.
 use Prim.Native.Nat.{ℕ, _+_, _*_, _≤_, _<_}
 use mathlib.Core.Path.{_≡_}
-use mathlib.Core.Bool.{false}
+use mathlib.Core.Bool.{true, false}
 use mathlib.Core.List.{List}
 use lib.ListN.{length, take}
 use Rattle.keyed.specs.Places.{Present}
@@ -9,7 +9,8 @@ use Rattle.layout.specs.Line.{Allowed}
 use Rattle.sheet.specs.declared.Header.{Header}
 use Rattle.sheet.specs.declared.Record.{Record}
 use Rattle.sheet.specs.VersionLaws.{Under}
-use Rattle.sheet.specs.Header.{versionField, versionIn}
+use Rattle.sheet.specs.Header.{versionField, versionIn, readHeader}
+use Rattle.sheet.specs.Slender.{tooSlender}
 use Rattle.sheet.specs.Refusals.{given, refused}
 use Rattle.sheet.specs.Exactly.{LaterFault}
 use Rattle.sheet.specs.RecordExactly.{belongs, linesOf, valuesOf}
@@ -48,3 +49,10 @@ pub data RemoveRow (b : List ℕ) (len id k p : ℕ) : Type 0 where
 pub data Short (b : List ℕ) (len : ℕ) : Type 0 where
   over-buffer : length b < len → Short b len
   under-header : Under len (versionField (take len b)) (versionIn (take len b)) → Short b len
+
+-- the header is read and its hull is too slender
+pub record Slender (b : List ℕ) (len : ℕ) : Type 0 where
+  pub fits : len ≤ length b
+  pub header : Header
+  pub read : readHeader (take len b) ≡ given header
+  pub slender : tooSlender header ≡ true

@@ -19,7 +19,8 @@ use Rattle.sheet.specs.RecordBack.{record-read-any}
 use Rattle.framing.specs.Rules.{memberLine}
 use Rattle.checker.specs.Entry.{entryBytes}
 use Rattle.checker.specs.Check.{_then_, demand, headerFor, recordsPart, recordPart, recordOf, partsFrom, Sheet, sheetIn, entryOf, outputOf}
-use Rattle.checker.specs.CheckLaws.{then-given, sheet-whole, verdict-at}
+use Rattle.checker.specs.ThenLaws.{then-given}
+use Rattle.checker.specs.CheckLaws.{slim-header, sheet-whole, verdict-at}
 use Rattle.checker.specs.Unjudged.{room, soundSheet}
 use Rattle.keyed.specs.Keyed.{Edit, put, out, listAfter}
 use Rattle.keyed.specs.Places.{At, put-keeps, out-keeps}
@@ -45,7 +46,7 @@ unfolding sheetIn headerFor _then_ demand
 with-room s x y t e l =
     let w = sheet-whole s x t e .header in
     let h = t .header in
-    let same : sheetIn s y ≡ sheetIn s x = rw (w .read, le-leb (4 * h .count) y l, le-leb (4 * h .count) x (w .fits)) in
+    let same : sheetIn s y ≡ sheetIn s x = rw (slim-header s h (w .read) (w .slim), le-leb (4 * h .count) y l, le-leb (4 * h .count) x (w .fits)) in
     same ∙ e
 
 -- ---- records by their places

@@ -4,6 +4,7 @@ pub mod Lines
 pub mod Refusals
 pub mod Writes
 pub mod Header
+pub mod Slender
 pub mod Record
 pub mod Ranges
 pub mod RefusalLaws

@@ -2,6 +2,7 @@
 -- Assumes nothing.
 use Prim.Native.Nat.{ℕ}
 use mathlib.Core.Path.{_≡_, sym, ap, ap₂, _∙_}
+use mathlib.Core.Bool.{Bool}
 use mathlib.Core.List.{List}
 use Rattle.sheet.specs.declared.Header.{Header}
 use Rattle.sheet.specs.declared.Version.{Version as Told}
@@ -15,6 +16,7 @@ use Rattle.sheet.specs.Refusals.{given, numberOf, placeOf, toldOutcome, 
 use Rattle.sheet.specs.RefusalLaws.{outcome-only, header-only, record-only}
 use Rattle.sheet.specs.Versions.{Version, IsVersion}
 use Rattle.sheet.specs.Header.{headerSize, innerModulus, headerFault, readHeader, writeHeader}
+use Rattle.sheet.specs.Slender.{tooSlender}
 use Rattle.layout.specs.Bytes.{readOf}
 use Rattle.sheet.specs.RecordLaws.{rawAt}
 use Rattle.sheet.specs.Record.{recordFault, readRecord, writeRecord}
@@ -45,6 +47,9 @@ size-only h a b p q = p ∙ sym q
 
 pub inner-modulus-only : (h : Header) (a b : ℕ) → a ≡ innerModulus h → b ≡ innerModulus h → a ≡ b
 inner-modulus-only h a b p q = p ∙ sym q
+
+pub too-slender-only : (h : Header) (a b : Bool) → a ≡ tooSlender h → b ≡ tooSlender h → a ≡ b
+too-slender-only h a b p q = p ∙ sym q
 
 -- `read_record_as`; `read_record` at i = 0
 pub read-record-only : (i : ℕ) (s : List ℕ) (a b : RecordRead) → toldRecord a ≡ readRecord i s → toldRecord b ≡ readRecord i s → a ≡ b

@@ -9,7 +9,7 @@ use borrow.Author.Tests.{eq-eqb, ne-eqb, eqb-true, eqb-false}
 use Rattle.sheet.specs.declared.Header.{Header}
 use Rattle.sheet.specs.declared.Record.{Record}
 use Rattle.sheet.specs.declared.Refusal.{Refusal}
-use Rattle.sheet.specs.declared.Refusal.the-variants.{SheetShort, Version, HeaderField, SheetLength, OutputShort, Kind, Field, Order, NoSuchId, NoRoom}
+use Rattle.sheet.specs.declared.Refusal.the-variants.{SheetShort, Version, HeaderField, TooSlender, SheetLength, OutputShort, Kind, Field, Order, NoSuchId, NoRoom}
 use Rattle.sheet.specs.declared.Outcome.{Outcome}
 use Rattle.sheet.specs.declared.Outcome.the-variants.{Fine, Refused as notFine}
 use Rattle.sheet.specs.declared.HeaderRead.{HeaderRead}
@@ -24,13 +24,15 @@ refusalOf k p =
     cond (eqb k 1) SheetShort
     (cond (eqb k 2) Version
     (cond (eqb k 3) (HeaderField p)
+    (cond (eqb k 9) TooSlender
     (cond (eqb k 4) SheetLength
-    (cond (eqb k 5) OutputShort (cond (eqb k 6) (Kind p) (cond (eqb k 7) (Field p) (cond (eqb k 8) (Order p) (cond (eqb k 10) NoSuchId NoRoom))))))))
+    (cond (eqb k 5) OutputShort (cond (eqb k 6) (Kind p) (cond (eqb k 7) (Field p) (cond (eqb k 8) (Order p) (cond (eqb k 10) NoSuchId NoRoom)))))))))
 
 back : (r : Refusal) → refusalOf (numberOf r) (placeOf r) ≡ r
 back SheetShort = refl
 back Version = refl
 back (HeaderField p) = refl
+back TooSlender = refl
 back SheetLength = refl
 back OutputShort = refl
 back (Kind p) = refl

@@ -6,7 +6,7 @@ use lib.Dec.{eqb}
 use Rattle.sheet.specs.declared.Header.{Header}
 use Rattle.sheet.specs.declared.Record.{Record}
 use Rattle.sheet.specs.declared.Refusal.{Refusal}
-use Rattle.sheet.specs.declared.Refusal.the-variants.{SheetShort, Version, HeaderField, SheetLength, OutputShort, Kind, Field, Order, NoSuchId, NoRoom}
+use Rattle.sheet.specs.declared.Refusal.the-variants.{SheetShort, Version, HeaderField, TooSlender, SheetLength, OutputShort, Kind, Field, Order, NoSuchId, NoRoom}
 use Rattle.sheet.specs.declared.Outcome.{Outcome}
 use Rattle.sheet.specs.declared.Outcome.the-variants.{Fine, Refused as notFine}
 use Rattle.sheet.specs.declared.HeaderRead.{HeaderRead}
@@ -24,6 +24,7 @@ abbrev pub numberOf : Refusal → ℕ
 numberOf SheetShort = 1
 numberOf Version = 2
 numberOf (HeaderField p) = 3
+numberOf TooSlender = 9
 numberOf SheetLength = 4
 numberOf OutputShort = 5
 numberOf (Kind p) = 6
@@ -37,6 +38,7 @@ abbrev pub placeOf : Refusal → ℕ
 placeOf SheetShort = 0
 placeOf Version = 0
 placeOf (HeaderField p) = p
+placeOf TooSlender = 0
 placeOf SheetLength = 0
 placeOf OutputShort = 0
 placeOf (Kind p) = p

@@ -10,6 +10,7 @@ ghost use mathlib.Core.Path.{_≡_};
 ghost use Rattle.sheet.specs.Refusals.{numberOf, placeOf};
 ghost use Rattle.sheet.specs.Versions.{IsVersion, versionOf};
 ghost use Rattle.sheet.specs.Header.{headerSize, innerModulus};
+ghost use Rattle.sheet.specs.Slender.{longestOf, beyondOf, tooSlender};
 
 // A header: what every version holds, and what its own version holds besides.
 pub struct Header {
@@ -94,6 +95,36 @@ impl Header {
             Own::Two(section) => section.inner_modulus,
         }
     }
+
+    // Whether the hull is longer for its depth than its waves allow; version 1, which has no depth, never says so.
+    pub fn too_slender(self) -> bool
+        ensures { λ r. ⌜ r ≡ tooSlender self ⌝ }
+    {
+        let length = self.length;
+        let wave = self.wave;
+        let own = self.own;
+        match own {
+            Own::One => false,
+            Own::Two(section) => beyond(length, section.depth, wave),
+        }
+    }
+}
+
+// The greatest length of a hull of this depth; without waves it is not asked.
+fn longest(depth: Span, wave: Span) -> u32
+    ensures { λ r. ⌜ r ≡ longestOf (depth .0) (wave .0) ⌝ }
+{
+    let d = depth.0 as u32;
+    if wave.0 == 60 { 35 * d } else { 25 * d }
+}
+
+fn beyond(length: Span, depth: Span, wave: Span) -> bool
+    ensures { λ r. ⌜ r ≡ beyondOf (length .0) (depth .0) (wave .0) ⌝ }
+{
+    if wave.0 == 0 {
+        return false;
+    }
+    longest(depth, wave) < length.0 as u32
 }
 
 // What a record of kind 1 to 4 carries.
@@ -159,6 +190,7 @@ pub enum Refusal {
     SheetShort,
     Version,
     HeaderField(u32),
+    TooSlender,
     SheetLength,
     OutputShort,
     Kind(u32),
@@ -177,6 +209,7 @@ impl Refusal {
             Refusal::SheetShort => 1,
             Refusal::Version => 2,
             Refusal::HeaderField(_) => 3,
+            Refusal::TooSlender => 9,
             Refusal::SheetLength => 4,
             Refusal::OutputShort => 5,
             Refusal::Kind(_) => 6,
@@ -195,6 +228,7 @@ impl Refusal {
             Refusal::SheetShort => 0,
             Refusal::Version => 0,
             Refusal::HeaderField(place) => place,
+            Refusal::TooSlender => 0,
             Refusal::SheetLength => 0,
             Refusal::OutputShort => 0,
             Refusal::Kind(place) => place,

@@ -17,7 +17,7 @@ use Rattle.sheet.specs.Record.{recordFault}
 use Rattle.numbers.specs.From.{recordOfNumbers, recordNumbersFault, recordFrom}
 use Rattle.numbers.specs.Back.{record-numbers-same}
 use Rattle.checker.specs.Check.{_then_, demand, Sheet, sheetIn}
-use Rattle.checker.specs.CheckLaws.{then-given}
+use Rattle.checker.specs.ThenLaws.{then-given}
 use Rattle.checker.specs.Bounds.{Refusable, sheet-told}
 use Rattle.checker.specs.Unjudged.{room, soundSheet}
 use Rattle.keyed.specs.Keyed.{placeOf, hasOf}

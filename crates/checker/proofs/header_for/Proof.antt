@@ -1,43 +1,54 @@
 -- `checker::header_for` meets its contract.
 -- Assumes nothing.
 use borrow.Author.Needs.{needs}
-use mathlib.Core.Path.{sym, ap, _∙_}
+use mathlib.Core.Path.{_≡_, sym, ap, _∙_}
 use native.Mathlib.Omega.{arith}
 use denote.Ref.{now}
 use Rattle.sheet.specs.Refusals.{given, toldHeader}
 use Rattle.sheet.specs.VersionLaws.{regular}
-use Rattle.checker.proofs.Faults.{header-refused, header-length, header-room, header-good}
+use Rattle.sheet.specs.Header.{headerSize, readHeader}
+use Rattle.sheet.specs.Slender.{tooSlender}
+use Rattle.checker.proofs.Faults.{header-refused, header-slender, header-length, header-room, header-good}
 use Rattle.checker.proofs.header_for.Statement.{statement}
 use Rattle.checker.proofs.header_for.Tie as tie
 
+-- once the header is read, and the code knows its bytes and whether its hull is slender
+module _ (c : tie.After-too-slender) where
+  abbrev at-read : tie.After-read2
+  at-read = c .before .before .before .before
+
+  abbrev at-header : tie.After-read-header
+  at-header = at-read .before .before
+
+  read : given (at-read .read2 .given .0 .0) ≡ readHeader (now (at-header .before .before .args .sheet))
+  read = sym (ap toldHeader (at-read .read2 .given .1)) ∙ at-header .read-header .ensures
+
+  sized : c .before .size .result ≡ headerSize (at-read .read2 .given .0 .0)
+  sized = c .before .size .ensures
+
+  told : c .too-slender .result ≡ tooSlender (at-read .read2 .given .0 .0)
+  told = c .too-slender .ensures
+
 returns : tie.Need-returns
-returns c =
-    let at-size = c .before in
-    let at-read = at-size .before .before .before in
-    let at-header = at-read .before .before in
-    header-length (now (at-header .before .before .args .sheet)) _ _ (sym (ap toldHeader (at-read .read2 .given .1)) ∙ at-header .read-header .ensures)
-    (λ e. c .if1 .taken (omega (arith, e, at-size .size .ensures)))
+returns c = let at = c .before in header-slender _ _ _ (read at) (sym (told at) ∙ c .if1 .taken)
 
 returns-2 : tie.Need-returns-2
-returns-2 c =
-    let at-size = c .before .before in
-    let at-read = at-size .before .before .before in
-    let at-header = at-read .before .before in
-    header-room (now (at-header .before .before .args .sheet)) _ _ (sym (ap toldHeader (at-read .read2 .given .1)) ∙ at-header .read-header .ensures)
-    (omega (arith, c .before .if1 .left, at-size .size .ensures)) (c .if2 .taken)
+returns-2 c = let at = c .before .before in header-length _ _ _ (read at) (sym (told at) ∙ c .before .if1 .left) (λ e. c .if2 .taken (omega (arith, e, sized at)))
 
 returns-3 : tie.Need-returns-3
 returns-3 c =
-    let at-header = c .before .before .before in
-    header-refused (now (at-header .before .before .args .sheet)) _ _ _ (sym (ap toldHeader (c .before .read .given .1)) ∙ at-header .read-header .ensures)
+    let at = c .before .before .before in
+    header-room _ _ _ (read at) (sym (told at) ∙ c .before .before .if1 .left) (omega (arith, c .before .if2 .left, sized at)) (c .if3 .taken)
 
 returns-4 : tie.Need-returns-4
 returns-4 c =
-    let at-size = c .before .before in
-    let at-read = at-size .before .before .before in
-    let at-header = at-read .before .before in
-    header-good (now (at-header .before .before .args .sheet)) _ _ (sym (ap toldHeader (at-read .read2 .given .1)) ∙ at-header .read-header .ensures)
-    (omega (arith, c .before .if1 .left, at-size .size .ensures)) (c .if2 .left)
+    let at-header = c .before .before .before in
+    header-refused (now (at-header .before .before .args .sheet)) _ _ _ (sym (ap toldHeader (c .before .read .given .1)) ∙ at-header .read-header .ensures)
+
+returns-5 : tie.Need-returns-5
+returns-5 c =
+    let at = c .before .before .before in
+    header-good _ _ _ (read at) (sym (told at) ∙ c .before .before .if1 .left) (omega (arith, c .before .if2 .left, sized at)) (c .if3 .left)
 
 pub header-for-spec : {M : Type 1} → statement M
 header-for-spec =
@@ -48,10 +59,12 @@ header-for-spec =
     (λ c. search needs)
     (λ c. search needs)
     (λ c κs. search needs)
-    (λ c. search needs)
-    (λ c. omega (arith, c .size .ensures, regular (c .before .before .before .read2 .given .0 .0 .own) .short))
+    (λ c κs. search needs)
     returns
     (λ c. search needs)
+    (λ c. omega (arith, c .before .before .size .ensures, regular (at-read (c .before) .read2 .given .0 .0 .own) .short))
     returns-2
+    (λ c. search needs)
     returns-3
-    returns-4)
+    returns-4
+    returns-5)

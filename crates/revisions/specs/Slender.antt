@@ -1,0 +1,65 @@
+-- Hulls that are too slender: an edit is refused by 9 exactly there, and no edit, done or refused, changes whether a hull is.
+-- Assumes nothing.
+use Prim.Native.Nat.{ℕ}
+use mathlib.Core.Path.{_≡_, refl, sym, _∙_}
+use mathlib.Core.List.{List, [], _∷_}
+use native.Mathlib.Omega.{arith}
+use lib.ListN.{take}
+use Rattle.sheet.specs.declared.Record.{Record}
+use Rattle.sheet.specs.Refusals.{Answer, given, refused}
+use Rattle.sheet.specs.RefusalLaws.{given-refused}
+use Rattle.sheet.specs.Exactly.{Exactly, exactly-then}
+use Rattle.checker.specs.Check.{Sheet}
+use Rattle.checker.specs.ThenLaws.{then-given}
+use Rattle.keyed.specs.Keyed.{Edit, put, out}
+use Rattle.edit.specs.Edit.{sheetAt, idOf, After, putIn, removeIn}
+use Rattle.revisions.specs.SheetRefusals.{sheet-9}
+use Rattle.revisions.specs.Sequences.{editIn, afterBy, afterAll, one-edit}
+use Rattle.revisions.specs.Rows.{SheetRow, over, own, Slender}
+use Rattle.revisions.specs.RowLaws.{sheet-row, put-by-sheet, remove-by-sheet}
+
+-- ---- an edit is refused by 9 exactly where the hull is too slender
+
+pub nine-row : (b : List ℕ) (len p : ℕ) → Exactly (SheetRow b len 9 p) (Slender b len × (p ≡ 0))
+nine-row b len p = (from-row, λ z. own (z .0 .fits) (sheet-9 (take len b) p .1 (z .0 .header, z .0 .read, z .0 .slender, z .1)))
+  where
+    from-row : SheetRow b len 9 p → Slender b len × (p ≡ 0)
+    from-row (over l c d) = absurd (omega arith)
+    from-row (own l e) = let z = sheet-9 (take len b) p .0 e in (record { fits = l; header = z .0; read = z .1; slender = z .2 }, z .3)
+
+pub put-9 : (b : List ℕ) (len : ℕ) (r : Record) (p : ℕ) → Exactly (putIn b len r ≡ refused 9 p) (Slender b len × (p ≡ 0))
+put-9 b len r p = exactly-then (put-by-sheet b len r 9 p (λ z. omega arith) (λ z. omega arith) (λ z. omega arith)) (nine-row b len p)
+
+pub remove-9 : (b : List ℕ) (len id p : ℕ) → Exactly (removeIn b len id ≡ refused 9 p) (Slender b len × (p ≡ 0))
+remove-9 b len id p = exactly-then (remove-by-sheet b len id 9 p (λ z. omega arith)) (nine-row b len p)
+
+-- ---- and no edit changes whether it is
+
+-- the sheet in a buffer is one of a hull that is too slender
+abbrev pub IsSlender : After → Type 0
+IsSlender a = Slender (a .bytes) (a .size)
+
+-- then it is turned away
+turned-away : (a : After) (t : Sheet) → sheetAt (a .bytes) (a .size) ≡ given t → IsSlender a → ⊥
+turned-away a t e z = given-refused (sym e ∙ sheet-row (a .bytes) (a .size) 9 0 .1 (nine-row (a .bytes) (a .size) 0 .1 (z, refl)))
+
+-- an edit that is done finds a sheet that is not
+found : (e : Edit idOf) (a x : After) → editIn e a ≡ given x → (t : Sheet) × (sheetAt (a .bytes) (a .size) ≡ given t)
+unfolding putIn removeIn
+found (put r) a x e = let f = then-given (sheetAt (a .bytes) (a .size)) _ x e in (f .0, f .1)
+found (out id) a x e = let f = then-given (sheetAt (a .bytes) (a .size)) _ x e in (f .0, f .1)
+
+pub one-keeps : (e : Edit idOf) (a : After) → Exactly (IsSlender a) (IsSlender (afterBy (editIn e a) a))
+one-keeps e a = go (editIn e a) refl
+  where
+    go : (x : Answer After) → editIn e a ≡ x → Exactly (IsSlender a) (IsSlender (afterBy x a))
+    go (refused k p) f = (λ z. z, λ z. z)
+    go (given x) f =
+        let t = found e a x f in
+        (λ z. absurd (turned-away a (t .0) (t .1) z), λ z. absurd (turned-away x _ (one-edit a (t .0) (t .1) e x f) z))
+
+-- nor do edits in turn
+pub edits-keep : (es : List (Edit idOf)) (a : After) → Exactly (IsSlender a) (IsSlender (afterAll es a))
+unfolding afterAll
+edits-keep [] a = (λ z. z, λ z. z)
+edits-keep (e ∷ es) a = exactly-then (one-keeps e a) (edits-keep es (afterBy (editIn e a) a))
