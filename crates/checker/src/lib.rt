@@ -136,11 +136,12 @@ fn header_for(sheet: &[u8], room: usize) -> HeaderRead
         HeaderRead::Good(h) => {
             let n = h.count as usize;
             let size = h.size();
+            let whole = size + RECORD * n;
             let slender = h.too_slender();
             if slender {
                 return HeaderRead::Refused(Refusal::TooSlender);
             }
-            if sheet.len() != size + RECORD * n {
+            if sheet.len() != whole {
                 return HeaderRead::Refused(Refusal::SheetLength);
             }
             if room < VERDICT * n {

@@ -1,9 +1,12 @@
 -- `checker::header_for` meets its contract.
 -- Assumes nothing.
 use borrow.Author.Needs.{needs}
+use Prim.Native.Nat.{ℕ}
 use mathlib.Core.Path.{_≡_, sym, ap, _∙_}
+use mathlib.Core.List.{List}
 use native.Mathlib.Omega.{arith}
 use denote.Ref.{now}
+use Rattle.sheet.specs.declared.Header.{Header}
 use Rattle.sheet.specs.Refusals.{given, toldHeader}
 use Rattle.sheet.specs.VersionLaws.{regular}
 use Rattle.sheet.specs.Header.{headerSize, readHeader}
@@ -20,25 +23,36 @@ module _ (c : tie.After-too-slender) where
   abbrev at-header : tie.After-read-header
   at-header = at-read .before .before
 
-  read : given (at-read .read2 .given .0 .0) ≡ readHeader (now (at-header .before .before .args .sheet))
+  abbrev h : Header
+  h = at-read .read2 .given .0 .0
+
+  abbrev s : List ℕ
+  s = now (at-header .before .before .args .sheet)
+
+  abbrev room : ℕ
+  room = at-header .before .before .args .room
+
+  read : given h ≡ readHeader s
   read = sym (ap toldHeader (at-read .read2 .given .1)) ∙ at-header .read-header .ensures
 
-  sized : c .before .size .result ≡ headerSize (at-read .read2 .given .0 .0)
+  sized : c .before .size .result ≡ headerSize h
   sized = c .before .size .ensures
 
-  told : c .too-slender .result ≡ tooSlender (at-read .read2 .given .0 .0)
-  told = c .too-slender .ensures
+  told : tooSlender h ≡ c .too-slender .result
+  told = sym (c .too-slender .ensures)
 
 returns : tie.Need-returns
-returns c = let at = c .before in header-slender _ _ _ (read at) (sym (told at) ∙ c .if1 .taken)
+returns c = let at = c .before in header-slender (s at) (room at) (h at) (read at) (told at ∙ c .if1 .taken)
 
 returns-2 : tie.Need-returns-2
-returns-2 c = let at = c .before .before in header-length _ _ _ (read at) (sym (told at) ∙ c .before .if1 .left) (λ e. c .if2 .taken (omega (arith, e, sized at)))
+returns-2 c =
+    let at = c .before .before in
+    header-length (s at) (room at) (h at) (read at) (told at ∙ c .before .if1 .left) (λ e. c .if2 .taken (omega (arith, e, sized at)))
 
 returns-3 : tie.Need-returns-3
 returns-3 c =
     let at = c .before .before .before in
-    header-room _ _ _ (read at) (sym (told at) ∙ c .before .before .if1 .left) (omega (arith, c .before .if2 .left, sized at)) (c .if3 .taken)
+    header-room (s at) (room at) (h at) (read at) (told at ∙ c .before .before .if1 .left) (omega (arith, c .before .if2 .left, sized at)) (c .if3 .taken)
 
 returns-4 : tie.Need-returns-4
 returns-4 c =
@@ -48,7 +62,7 @@ returns-4 c =
 returns-5 : tie.Need-returns-5
 returns-5 c =
     let at = c .before .before .before in
-    header-good _ _ _ (read at) (sym (told at) ∙ c .before .before .if1 .left) (omega (arith, c .before .if2 .left, sized at)) (c .if3 .left)
+    header-good (s at) (room at) (h at) (read at) (told at ∙ c .before .before .if1 .left) (omega (arith, c .before .if2 .left, sized at)) (c .if3 .left)
 
 pub header-for-spec : {M : Type 1} → statement M
 header-for-spec =
@@ -59,10 +73,10 @@ header-for-spec =
     (λ c. search needs)
     (λ c. search needs)
     (λ c κs. search needs)
+    (λ c. search needs)
+    (λ c. omega (arith, c .size .ensures, regular (c .before .before .before .read2 .given .0 .0 .own) .short))
     (λ c κs. search needs)
     returns
-    (λ c. search needs)
-    (λ c. omega (arith, c .before .before .size .ensures, regular (at-read (c .before) .read2 .given .0 .0 .own) .short))
     returns-2
     (λ c. search needs)
     returns-3
