@@ -11,6 +11,7 @@ use Rattle.sheet.specs.declared.Record.{Record}
 use Rattle.sheet.specs.declared.Refusal.{Refusal}
 use Rattle.sheet.specs.Refusals.{Answer, given, refused, told}
 use Rattle.sheet.specs.RefusalLaws.{given-refused, refused-number, refused-place, given-same}
+use Rattle.sheet.specs.Versions.{mostRecords}
 use Rattle.sheet.specs.Header.{headerSize}
 use Rattle.sheet.specs.HeaderLaws.{header-ranges}
 use Rattle.sheet.specs.HeaderBack.{header-read-fine}
@@ -28,8 +29,8 @@ module _ (s : List ℕ) (room : ℕ) where
   at-header k p e = rw (sym e)
 
   module _ (h : Header) (read : given h ≡ headerFor s room) where
-    -- there are 400 verdicts at most
-    pub few : 4 * h .count ≤ 1600
+    -- the draft has room for the verdicts of every sheet
+    pub few : 4 * h .count ≤ 4 * mostRecords
     few = omega (arith, header-ranges h (header-read-fine s h (header-fits s room h (sym read) .read)) .count-few)
 
     -- the pass can start on a draft that has room for them

@@ -13,7 +13,7 @@ use Rattle.layout.specs.Line.{Line, faultFrom}
 use Rattle.layout.specs.LineLaws.{fault-first}
 use Rattle.sheet.specs.declared.Header.{Header}
 use Rattle.sheet.specs.declared.Record.{Record}
-use Rattle.sheet.specs.Versions.{needs}
+use Rattle.sheet.specs.Versions.{mostRecords, needs}
 use Rattle.sheet.specs.VersionLaws.{regular-at}
 use Rattle.sheet.specs.Lines.{headerLines, plateWidths, memberWidths}
 use Rattle.sheet.specs.Refusals.{Answer, given, refused}
@@ -31,11 +31,11 @@ use Rattle.checker.specs.declared.Entry.{Entry}
 use Rattle.checker.specs.Check.{_then_, demand, sheetHeader, sheetSize, headerFor, recordsPart, recordPart, partsFrom, soundAfter, recordsIn, Sheet, sheetIn, entryOf, verdicts, failures}
 use Rattle.checker.specs.CheckLaws.{header-fits, sheet-whole}
 
--- a number of the table, and a place within a sheet of 400 records
+-- a number of the table, and a place within a sheet of the most records
 pub record Row (number place : ℕ) : Type 0 where
   pub some : 1 ≤ number
   pub last : number ≤ 9
-  pub inside : place < 12800
+  pub inside : place < 32 * mostRecords
 
 -- every refusal is one
 abbrev pub Refusable : {A : Type 0} → Answer A → Type 0
@@ -59,7 +59,7 @@ fault-told {A} c f a p q = go (which (c .first) (c .at) (c .later) (c .place) f 
     go (later z w) = subst (λ (t : Answer A). Refusable t) (sym w) q
 
 -- a row from its three parts
-pub row : (k p : ℕ) → 1 ≤ k → k ≤ 9 → p < 12800 → Row k p
+pub row : (k p : ℕ) → 1 ≤ k → k ≤ 9 → p < 32 * mostRecords → Row k p
 row k p a b c = record { some = a; last = b; inside = c }
 
 pub by-test : {A : Type 0} (t : Bool) (k p : ℕ) (x : Answer A) → Row k p → Refusable x → Refusable (cond t (refused k p) x)
@@ -99,7 +99,7 @@ record-most n = go (plateIn n)
     go true = omega (arith, most (plateLinesOf vs) vs refl)
     go false = omega (arith, most (memberLinesOf ws) ws refl)
 
-pub record-told : (i : ℕ) (s : List ℕ) → i < 400 → Refusable (readRecord i s)
+pub record-told : (i : ℕ) (s : List ℕ) → i < mostRecords → Refusable (readRecord i s)
 unfolding readRecord
 record-told i s l =
     let n = pack (bytes 16) (take 16 s) in
@@ -108,7 +108,7 @@ record-told i s l =
     (subst (λ (t : Answer Record). Refusable t) (sym (record-by-fields i n))
     (fault-told (recordCases i) f (recordAt n) (row 6 i (omega arith) (omega arith) (omega arith)) (row 7 (32 * i + f) (omega arith) (omega arith) (omega (arith, record-most n)))))
 
-sound-told : (i before : ℕ) (b : List ℕ) → i < 400 → Refusable (soundAfter i before b)
+sound-told : (i before : ℕ) (b : List ℕ) → i < mostRecords → Refusable (soundAfter i before b)
 unfolding soundAfter
 sound-told i before b l =
     then-told (readRecord i b) (λ r. cond (ltb before (r .id)) (given r) (refused 8 i)) (record-told i b l) (λ r e. go r (ltb before (r .id)))
@@ -117,7 +117,7 @@ sound-told i before b l =
     go r true = tt
     go r false = row 8 i (omega arith) (omega arith) (omega arith)
 
-records-told : (s : List ℕ) (count i before : ℕ) → i + count ≤ 400 → Refusable (recordsIn i before (partsFrom s i count))
+records-told : (s : List ℕ) (count i before : ℕ) → i + count ≤ mostRecords → Refusable (recordsIn i before (partsFrom s i count))
 unfolding recordsIn partsFrom
 records-told s zero i before l = tt
 records-told s (suc count) i before l =
@@ -138,7 +138,7 @@ header-told s space =
     (λ h e. then-told (demand (eqb (length s) (sheetSize h)) 4) (λ u. demand (leb (4 * h .count) space) 5 then λ v. given h) (demand-told (eqb (length s) (sheetSize h)) 4 (row 4 0 (omega arith) (omega arith) (omega arith)))
     (λ u q. then-told (demand (leb (4 * h .count) space) 5) (λ v. given h) (demand-told (leb (4 * h .count) space) 5 (row 5 0 (omega arith) (omega arith) (omega arith))) (λ v w. tt)))
 
-pub count-most : (s : List ℕ) (h : Header) → readHeader s ≡ given h → h .count ≤ 400
+pub count-most : (s : List ℕ) (h : Header) → readHeader s ≡ given h → h .count ≤ mostRecords
 count-most s h e = header-ranges h (header-read-fine s h e) .count-few
 
 -- the number and the place of a refusal, whatever the sheet
@@ -161,8 +161,8 @@ failures-most (e ∷ es) = go (eqb (e .rule) 0) (failures-most es)
 -- the counts of a sheet that is not turned away, in an output of so many bytes
 pub record Counts (space : ℕ) (t : Sheet) : Type 0 where
   pub inside : 4 * t .header .count ≤ space
-  pub records : t .header .count ≤ 400
-  pub failed : failures (verdicts t) ≤ 400
+  pub records : t .header .count ≤ mostRecords
+  pub failed : failures (verdicts t) ≤ mostRecords
 
 pub sheet-counts : (s : List ℕ) (space : ℕ) (t : Sheet) → sheetIn s space ≡ given t → Counts space t
 unfolding verdicts

@@ -1,13 +1,13 @@
 -- The laws of the whole sheet: what is known of a sheet that is not turned away.
 -- Assumes nothing.
-use Prim.Native.Nat.{ℕ, zero, suc, _+_, _*_, _≤_, _<_}
+use Prim.Native.Nat.{ℕ, zero, suc, _+_, _-_, _*_, _≤_, _<_}
 use mathlib.Core.Path.{_≡_, refl, sym, ap, subst, _∙_}
 use mathlib.Core.Bool.{Bool, true, false, not, cond}
 use mathlib.Core.List.{List, [], _∷_, _++_, map, append-nil}
 use native.Mathlib.Omega.{arith}
 use native.Mathlib.Nat.{add-zero}
 use lib.ListN.{length, take, drop, length-map}
-use lib.Seq.{drop-at}
+use lib.Seq.{drop-at, drop-drop}
 use lib.Dec.{leb, ltb, eqb}
 use borrow.Author.Tests.{ltb-true, leb-true, eqb-true}
 use Rattle.sheet.specs.declared.Header.{Header}
@@ -24,6 +24,13 @@ use Rattle.checker.specs.ThenLaws.{then-given, demand-given}
 use Rattle.checker.specs.Check.{_then_, demand, sheetHeader, sheetSize, headerFor, recordsPart, recordPart, recordOf, partsFrom, soundAfter, recordsIn, Sheet, sheetIn, entryOf, verdicts, bytesOf, failures, Totals, answerOf, outputBy, outputOf}
 use Rattle.sheet.specs.RecordBack.{record-read-fine}
 use Rattle.checker.specs.Sound.{entry-sound}
+
+-- the sixteen bytes of record i; and of record i among the bytes after the first k
+pub part-taken : (b : List ℕ) (i : ℕ) → recordPart b i ≡ take 16 (drop (16 * i) b)
+part-taken b i = let e : 16 * i + 16 - 16 * i ≡ 16 = omega arith in ap (λ (n : ℕ). take n (drop (16 * i) b)) e
+
+pub part-past : (k : ℕ) (s : List ℕ) (i : ℕ) → recordPart (drop k s) i ≡ take 16 (drop (k + 16 * i) s)
+part-past k s i = part-taken (drop k s) i ∙ ap (take 16) (drop-drop (16 * i) k s)
 
 -- ---- refusals 1 to 5 and 9 do not arise
 

@@ -1,12 +1,12 @@
 -- The fields of a sheet's bytes, and what is read of them: the header and the records that they are.
 -- Assumes nothing.
-use Prim.Native.Nat.{ℕ, _+_, _-_, _*_, _≤_}
+use Prim.Native.Nat.{ℕ, _+_, _*_, _≤_}
 use mathlib.Core.Path.{_≡_, refl, sym, ap, subst, _∙_}
 use mathlib.Core.Bool.{Bool, true, false, cond, _||_}
 use mathlib.Core.List.{List, _++_}
 use native.Mathlib.Omega.{arith}
 use lib.ListN.{length, getD, take, drop, length-drop}
-use lib.Seq.{length-take-le, take-take, drop-drop}
+use lib.Seq.{length-take-le, take-take}
 use lib.Dec.{ltb, eqb}
 use borrow.Author.Tests.{lt-ltb, ltb-true, ne-eqb, eqb-true}
 use Rattle.quantity.specs.Range.{within, from}
@@ -28,6 +28,7 @@ use Rattle.sheet.specs.Record.{plateRecord, memberRecord, plateLinesOf, memberL
 use Rattle.sheet.specs.RecordLaws.{recordAt}
 use Rattle.sheet.specs.RecordExactly.{numberIn, linesAt, fieldsAt, record-read-given}
 use Rattle.checker.specs.Check.{recordsPart, recordPart, recordOf}
+use Rattle.checker.specs.CheckLaws.{part-past}
 use Rattle.demands.specs.Table.{headSize, lengthOf, waveOf, depthOf, numberOf, kindOf, idOf, HeaderSound, TooSlender, at-60, from-120, RecordSound}
 
 -- the bytes of all records: those after the header's
@@ -121,9 +122,7 @@ module _ (s : List ℕ) (f : HeaderSound s) where
 -- the sixteen bytes of record i, among the bytes of all records, as they are read
 module _ (s b : List ℕ) (all : recordsOf s ≡ b) (i : ℕ) where
   part-is : recordPart b i ≡ take 16 (drop (headSize s + 16 * i) s)
-  part-is =
-      let k : 16 * i + 16 - 16 * i ≡ 16 = omega arith in
-      ap (λ (n : ℕ). take n (drop (16 * i) b)) k ∙ ap (λ (l : List ℕ). take 16 (drop (16 * i) l)) (sym all) ∙ ap (take 16) (drop-drop (16 * i) (headSize s) s)
+  part-is = ap (λ (l : List ℕ). recordPart l i) (sym all) ∙ part-past (headSize s) s i
 
   pub number-read : numberIn (recordPart b i) ≡ numberOf s i
   number-read = ap numberIn part-is ∙ ap (pack (bytes 16)) (take-take 16 16 (drop (headSize s + 16 * i) s) (omega arith))

@@ -20,7 +20,7 @@ use Rattle.sheet.specs.HeaderExactly.{header-read-1, header-read-2, header-read
 use Rattle.checker.specs.Check.{_then_, demand, sheetHeader, sheetSize, headerFor}
 use Rattle.checker.specs.ThenLaws.{By, first, later, by, demanded, demand-given}
 use Rattle.checker.specs.CheckLaws.{header-slim, slim-header, HeaderFits}
-use Rattle.demands.specs.Table.{headSize, countOf, HeaderSound, TooSlender, Fits, Row, sheet-short, version, header-short, header-field, slender, sheet-length, output-short}
+use Rattle.demands.specs.Table.{headSize, countOf, sheetEnd, HeaderSound, TooSlender, Fits, Row, sheet-short, version, header-short, header-field, slender, sheet-length, output-short}
 use Rattle.demands.specs.FieldsRead.{size-read, header-sound, header-given, slender-read, slim-read}
 
 module _ (s : List ℕ) (room : ℕ) where
@@ -154,13 +154,13 @@ module _ (s : List ℕ) (room : ℕ) where
       own-header : sheetHeader s ≡ given (headerOf s)
       own-header = slim-header s (headerOf s) (header-given s f) (slim-read s f slim)
 
-      pub length-refused : (length s ≡ headSize s + 16 * countOf s → ⊥) → headerFor s room ≡ refused 4 0
+      pub length-refused : (length s ≡ sheetEnd s → ⊥) → headerFor s room ≡ refused 4 0
       unfolding headerFor demand _then_
       length-refused n =
           let other : length s ≡ sheetSize (headerOf s) → ⊥ = λ e. n (omega (arith, e, size-own)) in
           rw (own-header, ne-eqb (length s) (sheetSize (headerOf s)) other)
 
-      pub room-refused : length s ≡ headSize s + 16 * countOf s → room < 4 * countOf s → headerFor s room ≡ refused 5 0
+      pub room-refused : length s ≡ sheetEnd s → room < 4 * countOf s → headerFor s room ≡ refused 5 0
       unfolding headerFor demand _then_
       room-refused whole n =
           let same : length s ≡ sheetSize (headerOf s) = omega (arith, whole, size-own) in

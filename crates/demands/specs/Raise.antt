@@ -1,5 +1,5 @@
 -- Another number in place of a scantling, on a sheet of bytes; and raising a scantling to the number that a program names for it.
-use Prim.Native.Nat.{ℕ, zero, suc, _+_, _*_, _≤_}
+use Prim.Native.Nat.{ℕ, zero, suc, _+_, _≤_}
 use mathlib.Core.Bool.{Bool, false, cond}
 use mathlib.Core.List.{List, [], _∷_, _++_}
 use lib.ListN.{take, drop}
@@ -18,7 +18,7 @@ use Rattle.hull.specs.Hull.{rulesOf}
 use Rattle.hull.specs.Raising.{raised}
 use Rattle.checker.specs.declared.Entry.{Entry}
 use Rattle.checker.specs.Entry.{readEntry}
-use Rattle.demands.specs.Table.{headSize, numberOf}
+use Rattle.demands.specs.Table.{recordStart, numberOf}
 use Rattle.demands.specs.Program.{Program, fourAt}
 
 -- the header that the sheet's fields are
@@ -28,10 +28,6 @@ theHeader s = headerOf s
 -- record i of the sheet, as its fields are
 abbrev pub theRecord : List ℕ → ℕ → Record
 theRecord s i = recordAt (numberOf s i)
-
--- where record i begins
-abbrev pub recordStart : List ℕ → ℕ → ℕ
-recordStart s i = headSize s + 16 * i
 
 -- the sheet with these bytes in place of record i's
 unfoldable pub replaced : (i : ℕ) → List ℕ → List ℕ → List ℕ

@@ -15,7 +15,8 @@ use Rattle.sheet.specs.Header.{headerSize, readHeader}
 use Rattle.sheet.specs.HeaderFront.{header-prefix}
 use Rattle.sheet.specs.Record.{readRecord, recordFault, recordBytes}
 use Rattle.sheet.specs.OwnBytes.{record-bytes-length, record-bytes-read}
-use Rattle.checker.specs.Check.{recordPart, recordOf}
+use Rattle.checker.specs.Check.{recordOf}
+use Rattle.checker.specs.CheckLaws.{part-past}
 use Rattle.demands.specs.Table.{headSize}
 use Rattle.demands.specs.Raise.{replaced}
 
@@ -24,10 +25,6 @@ use Rattle.demands.specs.Raise.{replaced}
 -- a list in three parts, the middle one sixteen long
 abbrev three : List ℕ → List ℕ → List ℕ → List ℕ
 three p b q = p ++ (b ++ q)
-
--- the sixteen bytes of record j, among those after the first k
-just : (k j : ℕ) (s : List ℕ) → recordPart (drop k s) j ≡ take 16 (drop (k + 16 * j) s)
-just k j s = let e : 16 * j + 16 - 16 * j ≡ 16 = omega arith in ap (λ (n : ℕ). take n (drop (16 * j) (drop k s))) e ∙ ap (take 16) (drop-drop (16 * j) k s)
 
 module _ (p b q : List ℕ) (m : ℕ) (lp : length p ≡ m) (lb : length b ≡ 16) where
   -- the middle part
@@ -96,12 +93,12 @@ module _ (s : List ℕ) (k : ℕ) (sized : headSize s ≡ k) (i : ℕ) (r : Reco
   pub replaced-record : recordOf (drop k new) i ≡ given r
   replaced-record =
       ap (readRecord i)
-      (just k i new ∙ ap (λ (t : List ℕ). take 16 (drop from t)) new-is ∙ in-middle (take from s) (recordBytes r) (drop (from + 16) s) from start-length (record-bytes-length r))
+      (part-past k new i ∙ ap (λ (t : List ℕ). take 16 (drop from t)) new-is ∙ in-middle (take from s) (recordBytes r) (drop (from + 16) s) from start-length (record-bytes-length r))
       ∙ record-bytes-read i r z
 
   -- and every other record is read as before
   pub replaced-others : (j : ℕ) → (j ≡ i → ⊥) → recordOf (drop k new) j ≡ recordOf (drop k s) j
-  replaced-others j n = ap (readRecord j) (just k j new ∙ ap (λ (t : List ℕ). take 16 (drop (k + 16 * j) t)) new-is ∙ go (decLt j i) ∙ sym (just k j s))
+  replaced-others j n = ap (readRecord j) (part-past k new j ∙ ap (λ (t : List ℕ). take 16 (drop (k + 16 * j) t)) new-is ∙ go (decLt j i) ∙ sym (part-past k s j))
     where
       go : Dec (j < i) → take 16 (drop (k + 16 * j) bytes-of) ≡ take 16 (drop (k + 16 * j) s)
       go (yes h) =

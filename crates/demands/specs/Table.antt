@@ -31,9 +31,16 @@ waveOf s = getD (headerFields s) 3 0
 abbrev pub depthOf : List ℕ → ℕ
 depthOf s = getD (headerFields s) 10 0
 
+-- where record i begins, and where the sheet ends
+abbrev pub recordStart : List ℕ → ℕ → ℕ
+recordStart s i = headSize s + 16 * i
+
+abbrev pub sheetEnd : List ℕ → ℕ
+sheetEnd s = recordStart s (countOf s)
+
 -- the number of 128 bits in the sixteen bytes of record i
 abbrev pub numberOf : List ℕ → ℕ → ℕ
-numberOf s i = pack (bytes 16) (take 16 (drop (headSize s + 16 * i) s))
+numberOf s i = pack (bytes 16) (take 16 (drop (recordStart s i) s))
 
 -- its kind, the first field of a plate and of a member
 abbrev pub kindOf : List ℕ → ℕ → ℕ
@@ -74,7 +81,7 @@ pub record InOrder (s : List ℕ) (i : ℕ) : Type 0 where
 pub record Fits (s : List ℕ) (room : ℕ) : Type 0 where
   pub header : HeaderSound s
   pub slim : TooSlender s → ⊥
-  pub whole : length s ≡ headSize s + 16 * countOf s
+  pub whole : length s ≡ sheetEnd s
   pub enough : 4 * countOf s ≤ room
 
 -- nor do rows 6 to 8 for any record before record i, which is one of the n
@@ -96,9 +103,9 @@ pub data Row (s : List ℕ) (room : ℕ) : (k p : ℕ) → Type 0 where
   -- 9: the hull is too slender
   slender : HeaderSound s → TooSlender s → Row s room 9 0
   -- 4: sheet length not its header's bytes + 16n
-  sheet-length : HeaderSound s → (TooSlender s → ⊥) → (length s ≡ headSize s + 16 * countOf s → ⊥) → Row s room 4 0
+  sheet-length : HeaderSound s → (TooSlender s → ⊥) → (length s ≡ sheetEnd s → ⊥) → Row s room 4 0
   -- 5: output under 4n bytes
-  output-short : HeaderSound s → (TooSlender s → ⊥) → length s ≡ headSize s + 16 * countOf s → room < 4 * countOf s → Row s room 5 0
+  output-short : HeaderSound s → (TooSlender s → ⊥) → length s ≡ sheetEnd s → room < 4 * countOf s → Row s room 5 0
   -- 6: kind not 1..8; place: record, from 0
   kind : (i : ℕ) → Reached s room i → within (from 1 8) (kindOf s i) ≡ false → Row s room 6 i
   -- 7: another field outside its values, the first such; place: 32 × record + field, kind being 1

@@ -1,4 +1,4 @@
--- Records of sixteen bytes each, one after another, and cut out of the bytes of all of them.
+-- Records of part-taken bytes each, one after another, and cut out of the bytes of all of them.
 -- Assumes nothing.
 use Prim.Native.Nat.{ℕ, zero, suc, _+_, _-_, _*_, _≤_}
 use mathlib.Core.Path.{_≡_, refl, sym, ap, ap₂, _∙_}
@@ -9,6 +9,7 @@ use lib.ListN.{length, take, drop, length-append, length-drop}
 use lib.Seq.{take-at, drop-at, drop-drop, length-take-le, take-take, take-add}
 use Rattle.layout.specs.BytesLaws.{drop-take}
 use Rattle.checker.specs.Check.{part, recordPart, partsFrom}
+use Rattle.checker.specs.CheckLaws.{part-taken}
 
 -- where record i begins among the bytes of all records
 abbrev pub begin : ℕ → ℕ
@@ -19,7 +20,7 @@ unfoldable pub join : List (List ℕ) → List ℕ
 join [] = []
 join (p ∷ ps) = p ++ join ps
 
--- every record has sixteen bytes
+-- every record has part-taken bytes
 abbrev pub Wide : List (List ℕ) → Type 0
 Wide [] = Unit {0}
 Wide (p ∷ ps) = (length p ≡ 16) × Wide ps
@@ -42,10 +43,6 @@ wide-append (p ∷ ps) qs u v = (u .0, wide-append ps qs (u .1) v)
 
 -- ---- records cut out
 
--- record i, by how many bytes it has
-sixteen : (s : List ℕ) (i : ℕ) → recordPart s i ≡ take 16 (drop (begin i) s)
-sixteen s i = let e : begin i + 16 - begin i ≡ 16 = omega arith in ap (λ (k : ℕ). take k (drop (begin i) s)) e
-
 pub parts-length : (s : List ℕ) (i m : ℕ) → length (partsFrom s i m) ≡ m
 unfolding partsFrom
 parts-length s i zero = refl
@@ -55,7 +52,7 @@ pub parts-wide : (s : List ℕ) (i m : ℕ) → begin (i + m) ≤ length s → W
 unfolding partsFrom
 parts-wide s i zero l = tt
 parts-wide s i (suc m) l = (
-  ap length (sixteen s i) ∙ length-take-le 16 (drop (begin i) s) (omega (arith, length-drop (begin i) s)),
+  ap length (part-taken s i) ∙ length-take-le 16 (drop (begin i) s) (omega (arith, length-drop (begin i) s)),
   parts-wide s (i + 1) m (omega arith),
 )
 
@@ -80,7 +77,7 @@ cut s i (suc m) l =
     let x = drop (begin i) s in
     ap (λ (k : ℕ). take k x) e
     ∙ take-add 16 (16 * m) x
-    ∙ ap₂ (λ (a b : List ℕ). a ++ b) (sym (sixteen s i))
+    ∙ ap₂ (λ (a b : List ℕ). a ++ b) (sym (part-taken s i))
     (ap (take (16 * m)) (drop-drop 16 (begin i) s ∙ ap (λ (k : ℕ). drop k s) g) ∙ ap (λ (k : ℕ). take k (drop (begin (i + 1)) s)) (sym f) ∙ cut s (i + 1) m (omega arith))
 
 -- ---- records joined and cut out again
@@ -95,7 +92,7 @@ joined ps z w = go [] ps 0 refl w
     go x (q ∷ qs) i l u =
         let whole = x ++ (q ++ join qs ++ z) in
         let again : x ++ q ++ (join qs ++ z) ≡ whole = append-assoc x q (join qs ++ z) ∙ ap (_++_ x) (sym (append-assoc q (join qs) z)) in
-        let here : recordPart whole i ≡ q = sixteen whole i ∙ ap (take 16) (drop-at x (q ++ join qs ++ z) (begin i) l) ∙ ap (take 16) (append-assoc q (join qs) z) ∙ take-at q (join qs ++ z) 16 (u .0) in
+        let here : recordPart whole i ≡ q = part-taken whole i ∙ ap (take 16) (drop-at x (q ++ join qs ++ z) (begin i) l) ∙ ap (take 16) (append-assoc q (join qs) z) ∙ take-at q (join qs ++ z) 16 (u .0) in
         let rest = go (x ++ q) qs (i + 1) (omega (arith, length-append x q, u .0)) (u .1) in
         ap₂ (λ (a : List ℕ) (b : List (List ℕ)). a ∷ b) here (ap (λ (s : List ℕ). partsFrom s (i + 1) (length qs)) (sym again) ∙ rest)
 
@@ -104,7 +101,7 @@ pub parts-within : (s : List ℕ) (len i m : ℕ) → begin (i + m) ≤ len → 
 unfolding partsFrom
 parts-within s len i zero l = refl
 parts-within s len i (suc m) l =
-    ap₂ (λ (a : List ℕ) (b : List (List ℕ)). a ∷ b) (sixteen (take len s) i ∙ inside ∙ sym (sixteen s i)) (parts-within s len (i + 1) m (omega arith))
+    ap₂ (λ (a : List ℕ) (b : List (List ℕ)). a ∷ b) (part-taken (take len s) i ∙ inside ∙ sym (part-taken s i)) (parts-within s len (i + 1) m (omega arith))
   where
     inside : take 16 (drop (begin i) (take len s)) ≡ take 16 (drop (begin i) s)
     inside =

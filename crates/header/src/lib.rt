@@ -25,6 +25,9 @@ ghost use Rattle.sheet.specs.Writes.{Writes};
 // How many bytes hold what every version has.
 const FIRST: usize = 12;
 
+// ZB and ZDB are from 1 to this.
+const MODULUS_HIGH: u32 = 100000000;
+
 const P3: u64 = 8;
 
 const P7: u64 = 128;
@@ -73,7 +76,7 @@ fn own_fault(own: Own, rest: u32) -> u8
         Own::Two(section) => {
             let f = layout::fault_unless(rest, 0, 0, 12, 0);
             let f = layout::fault_unless(section.depth.0 as u32, 100, 1000, 11, f);
-            layout::fault_unless(section.inner_modulus, 1, 100000000, 10, f)
+            layout::fault_unless(section.inner_modulus, 1, MODULUS_HIGH, 10, f)
         }
     }
 }
@@ -87,7 +90,7 @@ fn fault(h: Header, spare: u32, rest: u32) -> u8
     let f = own_fault(own, rest);
     let f = layout::fault_unless(spare, 0, 0, 9, f);
     let f = layout::fault_unless(h.count as u32, 0, version.most as u32, 8, f);
-    let f = layout::fault_unless(h.bottom_modulus, 1, 100000000, 7, f);
+    let f = layout::fault_unless(h.bottom_modulus, 1, MODULUS_HIGH, 7, f);
     let f = layout::fault_unless(h.moment, 0, 1000000, 6, f);
     let f = wave_fault(h.wave.0, 4, f);
     let f = layout::fault_unless(h.draught.0 as u32, 1, 1000, 3, f);

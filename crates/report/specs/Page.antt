@@ -6,6 +6,7 @@ use mathlib.Core.List.{List, _++_}
 use lib.ListN.{length, replicate}
 use lib.Dec.{leb}
 use Rattle.decimal.specs.Put.{putOn}
+use Rattle.sheet.specs.Versions.{mostRecords}
 use Rattle.sheet.specs.Refusals.{Answer, given, refused, told}
 use Rattle.report.specs.declared.Page.{Page}
 use Rattle.report.specs.declared.Told.{Told}
@@ -16,9 +17,9 @@ use Rattle.report.specs.Text.{textOf}
 abbrev pub longestLine : ℕ
 longestLine = 16
 
--- that of the longest text: 400 such lines, and one of 8 bytes
+-- that of the longest text: such a line for each of the most records, and one of 8 bytes
 abbrev pub longest : ℕ
-longest = 400 * longestLine + 8
+longest = mostRecords * longestLine + 8
 
 -- so many bytes of 0
 abbrev pub blank : ℕ → List ℕ

@@ -3,6 +3,7 @@ use Prim.Native.Nat.{ℕ, zero, suc, _+_, _*_, _≤_}
 use mathlib.Core.List.{List, [], _∷_, _++_}
 use lib.ListN.{length}
 use Rattle.sheet.specs.declared.Refusal.{Refusal}
+use Rattle.sheet.specs.Versions.{mostRecords}
 use Rattle.sheet.specs.Refusals.{Answer, given, refused, numberOf, placeOf}
 use Rattle.checker.specs.declared.Entry.{Entry}
 use Rattle.checker.specs.declared.Checked.{Checked}
@@ -38,7 +39,7 @@ checkedText (notDone r) out = refusalText r
 
 -- the counts that a check can answer, and the verdicts are in its output
 abbrev pub Counted : Checked → List ℕ → Type 0
-Counted (Done n failed) out = (4 * n ≤ length out) × (n ≤ 400) × (failed ≤ 400)
+Counted (Done n failed) out = (4 * n ≤ length out) × (n ≤ mostRecords) × (failed ≤ mostRecords)
 Counted (notDone r) out = Unit
 
 -- and the longest text has room

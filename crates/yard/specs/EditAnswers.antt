@@ -49,8 +49,8 @@ unfolding demand
 demand-rowed true k l m = tt
 demand-rowed false k l m = record { some = l; last = m; inside = omega arith }
 
--- 6 and 7 on a record that is not in the sheet yet, and so may be record 400
-record-rowed : {A : Type 0} (i f : ℕ) (x : Answer A) → i ≤ 400 → f ≤ 13 → Rowed x → Rowed (recordRefused i f x)
+-- 6 and 7 on a record that is not in the sheet yet, and so may be one more than the most
+record-rowed : {A : Type 0} (i f : ℕ) (x : Answer A) → i ≤ mostRecords → f ≤ 13 → Rowed x → Rowed (recordRefused i f x)
 record-rowed i f x l m r = go (eqb f 0) (eqb f 1)
   where
     go : (s t : Bool) → Rowed (cond s x (cond t (refused 6 i) (refused 7 (32 * i + f))))

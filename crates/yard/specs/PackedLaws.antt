@@ -3,7 +3,7 @@
 use Prim.Native.Nat.{ℕ, _+_, _*_, _≤_, _<_}
 use mathlib.Core.Path.{_≡_, refl, ap, ap₂}
 use native.Mathlib.Omega.{arith}
-use Rattle.sheet.specs.Versions.{longestSheet}
+use Rattle.sheet.specs.Versions.{mostRecords, longestSheet}
 use Rattle.sheet.specs.Refusals.{Answer, given, refused}
 use Rattle.checker.specs.Check.{Totals}
 use Rattle.yard.specs.Packed.{numberUnit, packed, fine}
@@ -19,11 +19,11 @@ abbrev pub Answered : Answer Totals → Type 0
 Answered (given t) = (t .n < 16777216) × (t .failed < 65536)
 Answered (refused k p) = Told {A = Totals} (refused k p)
 
--- and those of an edit's: the place is at most the last field of record 400, and no sheet is longer than the longest
+-- and those of an edit's: the place is at most the last field of one more record than the most, and no sheet is longer than the longest
 pub record EditRow (number place : ℕ) : Type 0 where
   pub some : 1 ≤ number
   pub last : number ≤ 11
-  pub inside : place ≤ 12813
+  pub inside : place ≤ 32 * mostRecords + 13
 
 abbrev pub Resized : Answer ℕ → Type 0
 Resized (given n) = n ≤ longestSheet

@@ -7,6 +7,7 @@ use mathlib.Core.List.{List, [], _∷_, _++_}
 use native.Mathlib.Omega.{arith}
 use denote.Ref.{now}
 use lib.ListN.{length, length-append}
+use Rattle.sheet.specs.Versions.{mostRecords}
 use Rattle.checker.specs.declared.Checked.{Checked}
 use Rattle.decimal.specs.Laid.{Laid}
 use Rattle.decimal.specs.LaidLaws.{second-fits, laid-both}
@@ -39,7 +40,7 @@ module _ (c : tie.After-checked2) where
   abbrev first : List ℕ
   first = verdictsText (now (start .args .out)) 0 n
 
-  counted : (4 * n ≤ length (now (start .args .out))) × (n ≤ 400) × (c .checked2 .given .0 .1 .0 ≤ 400)
+  counted : (4 * n ≤ length (now (start .args .out))) × (n ≤ mostRecords) × (c .checked2 .given .0 .1 .0 ≤ mostRecords)
   counted = subst (λ (x : Checked). Counted x (now (start .args .out))) (c .checked2 .given .1) (start .pre .counted)
 
   split : checkedText (start .args .checked) (now (start .args .out)) ≡ first ++ totals
