@@ -1,11 +1,19 @@
 -- Hulls that are too slender: an edit is refused by 9 exactly there, and no edit, done or refused, changes whether a hull is.
 -- Assumes nothing.
 use Prim.Native.Nat.{ℕ}
-use mathlib.Core.Path.{_≡_, refl, sym, _∙_}
+use mathlib.Core.Path.{_≡_, refl, sym, ap, _∙_}
+use mathlib.Core.Bool.{true}
 use mathlib.Core.List.{List, [], _∷_}
 use native.Mathlib.Omega.{arith}
 use lib.ListN.{take}
+use Rattle.layout.specs.LineLaws.{clash}
+use Rattle.sheet.specs.declared.Own.{Own}
+use Rattle.sheet.specs.declared.Own.the-variants.{One, Two}
 use Rattle.sheet.specs.declared.Record.{Record}
+use Rattle.sheet.specs.Versions.{Version, numbered, versionOf}
+use Rattle.sheet.specs.Header.{versionField}
+use Rattle.sheet.specs.HeaderBack.{read-holds}
+use Rattle.sheet.specs.Slender.{beyondOwn}
 use Rattle.sheet.specs.Refusals.{Answer, given, refused}
 use Rattle.sheet.specs.RefusalLaws.{given-refused}
 use Rattle.sheet.specs.Exactly.{Exactly, exactly-then}
@@ -32,6 +40,16 @@ put-9 b len r p = exactly-then (put-by-sheet b len r 9 p (λ z. omega arith) (λ
 
 pub remove-9 : (b : List ℕ) (len id p : ℕ) → Exactly (removeIn b len id ≡ refused 9 p) (Slender b len × (p ≡ 0))
 remove-9 b len id p = exactly-then (remove-by-sheet b len id 9 p (λ z. omega arith)) (nine-row b len p)
+
+-- which a sheet of version 1 never is
+pub never-in-version-1 : (b : List ℕ) (len : ℕ) → versionField (take len b) ≡ 1 → Slender b len → ⊥
+never-in-version-1 b len v z =
+    let first : numbered (versionField (take len b)) .number ≡ 1 = rw v in
+    go (z .header .own) (ap (λ (x : Version). x .number) (sym (read-holds (take len b) (z .header) (z .read) .version)) ∙ first) (z .slender)
+  where
+    go : (o : Own) → versionOf o .number ≡ 1 → beyondOwn (z .header .length .0) (z .header .wave .0) o ≡ true → ⊥
+    go One e f = clash f refl
+    go (Two s) e f = omega arith
 
 -- ---- and no edit changes whether it is
 
