@@ -8,6 +8,7 @@ pub const T_HIGHEST: i128 = 4000;
 pub const W_HIGHEST: i128 = 100_000;
 pub const A_HIGHEST: i128 = 16_000;
 pub const ID_HIGHEST: i128 = 1000;
+pub const WAVE_HEIGHTS: [i128; 3] = [0, 60, 120];
 
 #[derive(Clone, Debug, PartialEq, Eq)]
 pub enum Allowed {
@@ -54,7 +55,7 @@ pub fn in_header(header: &Form, name: &str) -> Allowed {
         "version" => only(version.number),
         "L" => Between(4000, 13_500),
         "D0" => Between(1, 1000),
-        "H" => Among(&[0, 60, 120]),
+        "H" => Among(&WAVE_HEIGHTS),
         "runs" => Between(0, 1),
         "M" => Between(0, 1_000_000),
         "ZB" | "ZDB" => Between(1, 100_000_000),

@@ -218,52 +218,53 @@ fn number_1_when_the_stated_length_is_under_the_header() {
     }
 }
 
-/// The table's own on the sheet, for both edits, before anything is said of the
-/// new record, of an id that is not there or of the room. Of 5 nothing is said.
-#[test]
-fn the_sheet_is_turned_away_first() {
-    let changed = |index: usize, field: (&str, i128)| {
-        let mut all = records(&[10, 20, 30]);
-        all[index] = with(&all[index], &[field]);
-        sheet(&vessel_v(), &all)
-    };
-    let header = |field: (&str, i128)| sheet(&with(&vessel_v(), &[field]), &records(&[10]));
-    let header_2 = |field: (&str, i128)| sheet(&with(&vessel_v2(), &[field]), &records(&[10]));
-    let mut long = v(&[10, 20]);
-    long.push(0);
-    let faults = [
-        (header(("version", 3)), (2, 0)),
-        (header_2(("version", 0)), (2, 0)),
-        (header(("L", 3999)), (3, 2)),
-        (header(("zero", 1)), (3, 9)),
-        (header_2(("zero", 4)), (3, 9)),
-        (header_2(("ZDB", 0)), (3, 10)),
-        (header_2(("depth", 99)), (3, 11)),
-        (header_2(("last_zero", 1)), (3, 12)),
-        (long, (4, 0)),
-        (header_2(("n", 1))[..28].to_vec(), (4, 0)),
-        (v(&[10, 20])[..28].to_vec(), (4, 0)),
-        (changed(2, ("kind", 9)), (6, 2)),
-        (changed(1, ("T", 0)), (7, 32 + 6)),
-        (changed(2, ("zero", 1)), (7, 64 + 12)),
-        (changed(1, ("id", 10)), (8, 1)),
-        (changed(2, ("id", 20)), (8, 2)),
-    ];
-    let edits = [
+/// Whatever the edit and the room, the sheet is turned away with this.
+#[track_caller]
+fn is_turned_away(sheet: &[u8], refusal: (usize, usize)) {
+    for edit in [
         put(&with_id(&plate(2), 10)),
         put(&with_id(&plate(2), 999)),
         Edit::Put([u32::MAX; 13]),
         Edit::Put([1; 13]),
         Edit::Remove(10),
         Edit::Remove(999),
-    ];
-    for (bytes, refusal) in faults {
-        for edit in &edits {
-            for room in [0, 16] {
-                assert_eq!(refused(&lend(&bytes, room), edit), Some(refusal));
-            }
+    ] {
+        for room in [0, 16] {
+            assert_eq!(refused(&lend(sheet, room), &edit), Some(refusal));
         }
     }
+}
+
+/// The vessel with three records, one field of one of them changed.
+fn changed(v: &Form, index: usize, field: (&str, i128)) -> Vec<u8> {
+    let mut all = records(&[10, 20, 30]);
+    all[index] = with(&all[index], &[field]);
+    sheet(v, &all)
+}
+
+/// The table's own on the sheet, for both edits, before anything is said of the
+/// new record, of an id that is not there or of the room. Of 5 nothing is said.
+#[test]
+fn the_sheet_is_turned_away_first() {
+    let header = |field: (&str, i128)| sheet(&with(&vessel_v(), &[field]), &records(&[10]));
+    let header_2 = |field: (&str, i128)| sheet(&with(&vessel_v2(), &[field]), &records(&[10]));
+    is_turned_away(&header(("version", 3)), (2, 0));
+    is_turned_away(&header_2(("version", 0)), (2, 0));
+    is_turned_away(&header(("L", 3999)), (3, 2));
+    is_turned_away(&header(("zero", 1)), (3, 9));
+    is_turned_away(&header_2(("zero", 4)), (3, 9));
+    is_turned_away(&header_2(("ZDB", 0)), (3, 10));
+    is_turned_away(&header_2(("depth", 99)), (3, 11));
+    is_turned_away(&header_2(("last_zero", 1)), (3, 12));
+    is_turned_away(&[v(&[10, 20]), vec![0]].concat(), (4, 0));
+    is_turned_away(&header_2(("n", 1))[..28], (4, 0));
+    is_turned_away(&v(&[10, 20])[..28], (4, 0));
+    let v = vessel_v();
+    is_turned_away(&changed(&v, 2, ("kind", 9)), (6, 2));
+    is_turned_away(&changed(&v, 1, ("T", 0)), (7, 32 + 6));
+    is_turned_away(&changed(&v, 2, ("zero", 1)), (7, 64 + 12));
+    is_turned_away(&changed(&v, 1, ("id", 10)), (8, 1));
+    is_turned_away(&changed(&v, 2, ("id", 20)), (8, 2));
 }
 
 /// Bytes past the stated length are no part of the sheet.
@@ -427,68 +428,102 @@ fn the_new_record_is_turned_away_before_the_room() {
     assert_eq!(refused(&lent, &put(&with_id(&plate(2), 5))), Some((11, 0)));
 }
 
-/// Beside a map of packed records: after any edits the sheet holds what the map
-/// holds, and a sheet that passed every refusal still does.
+/// A sheet beside a map of its packed records.
+struct Mapped {
+    buffer: Vec<u8>,
+    length: usize,
+    version: &'static Version,
+    map: BTreeMap<u32, Vec<u8>>,
+}
+
+impl Mapped {
+    /// None where the sheet is turned away.
+    fn of(lent: Lent) -> Option<Mapped> {
+        let Lent { buffer, length } = lent;
+        let (header, _) = read_sheet(&buffer, length).ok()?;
+        let version = header.version();
+        let mut map = BTreeMap::new();
+        for record in buffer[version.bytes..length].chunks(RECORD_BYTES) {
+            let id = u32::from(record[0] & 0xf) << 6 | u32::from(record[1] >> 2);
+            map.insert(id, record.to_vec());
+        }
+        Some(Mapped {
+            buffer,
+            length,
+            version,
+            map,
+        })
+    }
+
+    /// Does the edit on both and says what it does; nothing where it is refused.
+    fn edit(&mut self, change: &Edit) -> Option<&'static str> {
+        let before = self.buffer.clone();
+        let Ok(length) = edit(&mut self.buffer, self.length, change) else {
+            assert_eq!(self.buffer, before);
+            return None;
+        };
+        let does = change_map(&mut self.map, change);
+        self.holds_the_map(length);
+        self.moves_only_its_own(&before, length);
+        self.length = length;
+        Some(does)
+    }
+
+    fn holds_the_map(&self, length: usize) {
+        let header = self.version.bytes;
+        let records: Vec<Vec<u8>> = self.map.values().cloned().collect();
+        assert_eq!(length, header + RECORD_BYTES * records.len());
+        assert_eq!(self.buffer[header..length], records.concat());
+        let (read, _) = read_sheet(&self.buffer, length).expect("still sound");
+        assert_eq!(read.n as usize, records.len());
+    }
+
+    /// Of the header only the count's nine bits differ, of the rest only the bytes
+    /// that the longer of the two sheets takes.
+    fn moves_only_its_own(&self, before: &[u8], length: usize) {
+        let (buffer, header) = (&self.buffer, self.version.bytes);
+        assert_eq!(buffer[..10], before[..10]);
+        assert_eq!(buffer[10] & 0xf0, before[10] & 0xf0);
+        assert_eq!(buffer[11] & 7, before[11] & 7);
+        assert_eq!(buffer[12..header], before[12..header]);
+        let longer = self.length.max(length);
+        assert_eq!(buffer[longer..], before[longer..]);
+        assert!(buffer[length..longer].iter().all(|byte| *byte == 0));
+    }
+}
+
+fn change_map(map: &mut BTreeMap<u32, Vec<u8>>, change: &Edit) -> &'static str {
+    match change {
+        Edit::Put(numbers) => {
+            let form = if numbers[0] <= 4 { plate(1) } else { member(5) };
+            let layout = form.layout;
+            let values = numbers.map(i128::from)[..layout.len()].to_vec();
+            let packed = Form { layout, values }.pack();
+            match map.insert(numbers[1], packed) {
+                Some(_) => "replaces",
+                None => "inserts",
+            }
+        }
+        Edit::Remove(id) => {
+            map.remove(id).expect("it is there");
+            "removes"
+        }
+    }
+}
+
+/// After any edits the sheet holds what the map holds, and a sheet that passed every
+/// refusal still does.
 #[test]
 fn any_edits_leave_what_a_plain_map_holds() {
     let mut done = BTreeMap::new();
     for (lent, edits) in edit_cases(12).take(1000) {
-        let Lent { mut buffer, length } = lent;
-        let mut length = length;
-        if read_sheet(&buffer, length).is_err() {
+        let Some(mut mapped) = Mapped::of(lent) else {
             continue;
-        }
-        let version = i128::from(buffer[0] >> 4);
-        let header_bytes = Version::numbered(version).expect("sound").bytes;
-        let header = buffer[..header_bytes].to_vec();
-        let mut map: BTreeMap<u32, Vec<u8>> = BTreeMap::new();
-        for record in buffer[header_bytes..length].chunks(RECORD_BYTES) {
-            let id = u32::from(record[0] & 0xf) << 6 | u32::from(record[1] >> 2);
-            map.insert(id, record.to_vec());
-        }
+        };
         for change in edits {
-            let before = buffer.clone();
-            let outcome = edit(&mut buffer, length, &change);
-            let Ok(new_length) = outcome else {
-                assert_eq!(buffer, before);
-                continue;
-            };
-            let does = match &change {
-                Edit::Put(numbers) => {
-                    let values = numbers.map(i128::from);
-                    let fields = if numbers[0] <= 4 { 12 } else { 13 };
-                    let form = if numbers[0] <= 4 { plate(1) } else { member(5) };
-                    let layout = form.layout;
-                    let values = values[..fields].to_vec();
-                    let packed = Form { layout, values }.pack();
-                    match map.insert(numbers[1], packed) {
-                        Some(_) => "replaces",
-                        None => "inserts",
-                    }
-                }
-                Edit::Remove(id) => {
-                    map.remove(id).expect("it is there");
-                    "removes"
-                }
-            };
-            *done.entry((version, does)).or_insert(0) += 1;
-            assert_eq!(new_length, header_bytes + RECORD_BYTES * map.len());
-            assert_eq!(
-                buffer[header_bytes..new_length],
-                map.values().cloned().collect::<Vec<_>>().concat()
-            );
-            let (read, _) = read_sheet(&buffer, new_length).expect("still sound");
-            assert_eq!(read.n as usize, map.len());
-            // Of the header only the count's nine bits differ, of the rest only
-            // the bytes that the longer of the two sheets takes.
-            assert_eq!(buffer[..10], header[..10]);
-            assert_eq!(buffer[10] & 0xf0, header[10] & 0xf0);
-            assert_eq!(buffer[11] & 7, header[11] & 7);
-            assert_eq!(buffer[12..header_bytes], header[12..]);
-            let longer = length.max(new_length);
-            assert_eq!(buffer[longer..], before[longer..]);
-            assert!(buffer[new_length..longer].iter().all(|byte| *byte == 0));
-            length = new_length;
+            if let Some(does) = mapped.edit(&change) {
+                *done.entry((mapped.version.number, does)).or_insert(0) += 1;
+            }
         }
     }
     assert_eq!(done.len(), 3 * VERSIONS.len());

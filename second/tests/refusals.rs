@@ -308,65 +308,73 @@ fn the_first_of_several_faulty_fields_is_named() {
     assert_eq!(refusal(&sheet(&vessel_v(), &[record])), Some((7, place)));
 }
 
-/// One sheet with every fault at once, mended one by one from the top of the table.
-fn in_the_order_of_the_table(v: &Form) {
-    let mut header = with(v, &[("version", 3), ("L", 0), ("n", 3)]);
-    let mut records = [
-        with(&plate(2), &[("kind", 9), ("id", 0)]),
-        with(&plate(2), &[("id", 9), ("T", 0)]),
-        with(&plate(2), &[("kind", 0), ("id", 9), ("zero", 1)]),
-    ];
-    let mut extra = vec![0];
-    let packed = |header: &Form, records: &[Form], extra: &[u8]| -> Vec<u8> {
-        let parts = records.iter().flat_map(Form::pack);
-        header
-            .pack()
-            .into_iter()
-            .chain(parts)
-            .chain(extra.iter().copied())
-            .collect()
-    };
-    assert_eq!(
-        refusal(&packed(&header, &records, &extra)[..11]),
-        Some((1, 0))
-    );
-    assert_eq!(refusal(&packed(&header, &records, &extra)), Some((2, 0)));
-    header.set("version", v.get("version"));
-    assert_eq!(
-        refusal(&packed(&header, &records, &extra)[..header_bytes(v) - 1]),
-        Some((1, 0))
-    );
-    assert_eq!(refusal(&packed(&header, &records, &extra)), Some((3, 2)));
-    header.set("L", 4000);
-    assert_eq!(refusal(&packed(&header, &records, &extra)), Some((4, 0)));
-    extra.clear();
-    let sheet = packed(&header, &records, &extra);
-    assert_eq!(check(&sheet, &mut [0; 11]), Err(Refusal::new(5, 0)));
-    assert_eq!(refusal(&sheet), Some((6, 0)));
-    records[0].set("kind", 2);
-    assert_eq!(refusal(&packed(&header, &records, &extra)), Some((7, 2)));
-    records[0].set("id", 9);
-    // Record 1 is finished (7, then 8) before record 2's kind is looked at.
-    assert_eq!(
-        refusal(&packed(&header, &records, &extra)),
-        Some((7, 32 + 6))
-    );
-    records[1].set("T", 1);
-    assert_eq!(refusal(&packed(&header, &records, &extra)), Some((8, 1)));
-    records[1].set("id", 10);
-    assert_eq!(refusal(&packed(&header, &records, &extra)), Some((6, 2)));
-    records[2].set("kind", 4);
-    assert_eq!(
-        refusal(&packed(&header, &records, &extra)),
-        Some((7, 64 + 12))
-    );
-    records[2].set("zero", 0);
-    assert_eq!(refusal(&packed(&header, &records, &extra)), Some((8, 2)));
-    records[2].set("id", 11);
-    assert_eq!(refusal(&packed(&header, &records, &extra)), None);
+/// A sheet with every fault at once, to be mended one by one from the top of the table.
+struct Spoilt {
+    header: Form,
+    records: [Form; 3],
+    extra: Vec<u8>,
+}
+
+impl Spoilt {
+    fn new(v: &Form) -> Spoilt {
+        Spoilt {
+            header: with(v, &[("version", 3), ("L", 0), ("n", 3)]),
+            records: [
+                with(&plate(2), &[("kind", 9), ("id", 0)]),
+                with(&plate(2), &[("id", 9), ("T", 0)]),
+                with(&plate(2), &[("kind", 0), ("id", 9), ("zero", 1)]),
+            ],
+            extra: vec![0],
+        }
+    }
+
+    fn bytes(&self) -> Vec<u8> {
+        let records = self.records.iter().flat_map(Form::pack).collect();
+        [self.header.pack(), records, self.extra.clone()].concat()
+    }
+
+    #[track_caller]
+    fn is_refused_by(&self, number: usize, place: usize) {
+        assert_eq!(refusal(&self.bytes()), Some((number, place)));
+    }
+}
+
+fn header_and_length_in_order(spoilt: &mut Spoilt, v: &Form) {
+    assert_eq!(refusal(&spoilt.bytes()[..11]), Some((1, 0)));
+    spoilt.is_refused_by(2, 0);
+    spoilt.header.set("version", v.get("version"));
+    let cut = header_bytes(v) - 1;
+    assert_eq!(refusal(&spoilt.bytes()[..cut]), Some((1, 0)));
+    spoilt.is_refused_by(3, 2);
+    spoilt.header.set("L", 4000);
+    spoilt.is_refused_by(4, 0);
+    spoilt.extra.clear();
+    let short = check(&spoilt.bytes(), &mut [0; 11]);
+    assert_eq!(short, Err(Refusal::new(5, 0)));
+}
+
+/// Record 1 is finished (7, then 8) before record 2's kind is looked at.
+fn records_in_order(spoilt: &mut Spoilt) {
+    for (number, place, record, mended) in [
+        (6, 0, 0, ("kind", 2)),
+        (7, 2, 0, ("id", 9)),
+        (7, 32 + 6, 1, ("T", 1)),
+        (8, 1, 1, ("id", 10)),
+        (6, 2, 2, ("kind", 4)),
+        (7, 64 + 12, 2, ("zero", 0)),
+        (8, 2, 2, ("id", 11)),
+    ] {
+        spoilt.is_refused_by(number, place);
+        spoilt.records[record].fill(&[mended]);
+    }
+    assert_eq!(refusal(&spoilt.bytes()), None);
 }
 
 #[test]
 fn the_order_of_the_table() {
-    vessels().iter().for_each(in_the_order_of_the_table);
+    for v in vessels() {
+        let mut spoilt = Spoilt::new(&v);
+        header_and_length_in_order(&mut spoilt, &v);
+        records_in_order(&mut spoilt);
+    }
 }

@@ -2,6 +2,7 @@
 
 use super::chance::Chance;
 use crate::form::Form;
+use crate::limits::WAVE_HEIGHTS;
 use crate::version::Version;
 
 /// A header that no check turns away; its count is still to be filled in.
@@ -11,7 +12,7 @@ pub fn header(chance: &mut Chance, version: &Version) -> Form {
         ("version", version.number),
         ("L", length(chance)),
         ("D0", draught(chance)),
-        ("H", *chance.of(&[0, 60, 120])),
+        ("H", *chance.of(&WAVE_HEIGHTS)),
         ("runs", *chance.of(&[0, 0, 1])),
         ("M", M),
         ("ZB", ZB),
@@ -53,42 +54,42 @@ fn moment_and_modulus(chance: &mut Chance) -> (i128, i128) {
     match chance.below(9) {
         // No hull girder stress: rules 1 and 2 decide alone.
         0 => (0, chance.between(1, 100_000_000)),
-        1 => {
-            let R = chance.between(1, 30_000);
-            aimed_at(chance, R)
-        }
         // R with a whole root, or 210,000 - R with one: rule 3 at equality.
-        2 => {
+        1 => {
             let R = *chance.of(&[
                 2500, 10_000, 40_000, 90_000, 160_000, 120_000, 170_000, 200_000,
             ]);
             (R, 1_000_000)
         }
-        3 => {
-            let R = chance.between(30_000, 120_000);
-            aimed_at(chance, R)
-        }
-        // With some K this R lies right at the strict test of kind 1 or kind 2.
-        4 => {
-            let KR = *chance.of(&[121_000_000_000 / 1156, 625_000_000_000 / 6084]);
-            let R = KR / chance.between(500, 1000) + chance.between(0, 1);
-            aimed_at(chance, R)
-        }
-        // The last few R that any thickness meets, and the first that none does.
-        5 => {
-            let R = 210_000 + chance.between(-12, 3) * *chance.of(&[1, 1, 1, 20]);
-            aimed_at(chance, R)
-        }
         // So much stress that it shows even with K2 at its cap.
-        6 => (
+        2 => (
             chance.between(100_000, 1_000_000),
             chance.between(3000, 300_000),
         ),
-        7 => (chance.between(0, 1_000_000), chance.between(1, 10_000_000)),
-        _ => {
+        3 => (chance.between(0, 1_000_000), chance.between(1, 10_000_000)),
+        4 => {
             let M = *chance.of(&[0, 1, 999_999, 1_000_000]);
             (M, *chance.of(&[1, 2, 3, 99_999_999, 100_000_000]))
         }
+        _ => {
+            let R = stress(chance);
+            aimed_at(chance, R)
+        }
+    }
+}
+
+/// R to aim at: little, much, or where rule 3 turns.
+fn stress(chance: &mut Chance) -> i128 {
+    match chance.below(4) {
+        0 => chance.between(1, 30_000),
+        1 => chance.between(30_000, 120_000),
+        // With some K this R lies right at the strict test of kind 1 or kind 2.
+        2 => {
+            let KR = *chance.of(&[121_000_000_000 / 1156, 625_000_000_000 / 6084]);
+            KR / chance.between(500, 1000) + chance.between(0, 1)
+        }
+        // The last few R that any thickness meets, and the first that none does.
+        _ => 210_000 + chance.between(-12, 3) * *chance.of(&[1, 1, 1, 20]),
     }
 }
 

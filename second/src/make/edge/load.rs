@@ -5,7 +5,7 @@
 use super::quiet::{quiet_header, quiet_member, quiet_plate};
 use super::side::Side::{self, Meets, Misses};
 use crate::form::Form;
-use crate::limits::{T_HIGHEST, W_HIGHEST};
+use crate::limits::{T_HIGHEST, WAVE_HEIGHTS, W_HIGHEST};
 use crate::loads::{line_load, member_pressure, plate_pressure};
 use crate::make::chance::Chance;
 use crate::sheet::{Header, Record};
@@ -26,7 +26,7 @@ pub enum Load {
 /// no spacing takes q just past a whole number there.
 pub fn aims(side: Side) -> Vec<(Load, &'static [i128])> {
     let mut aims: Vec<(Load, &[i128])> = Vec::new();
-    for H in [0, 60, 120] {
+    for H in WAVE_HEIGHTS {
         aims.push((Load::Below(H), &[1, 2, 5]));
         if H > 0 || side == Meets {
             aims.push((Load::Above(H), &[5]));
@@ -123,8 +123,7 @@ const STEELS_AND_SPACINGS: usize = 50_000;
 fn member(chance: &mut Chance, header: &Form, kind: i128, z: i128, side: Side) -> Option<Form> {
     let mut member = quiet_member(kind);
     let S = chance.between(100, 4000);
-    member.set("S", S);
-    member.set("z", z);
+    member.fill(&[("S", S), ("z", z)]);
     let Record::Member(data) = Record::of(&member) else {
         return None;
     };
@@ -151,14 +150,12 @@ fn member(chance: &mut Chance, header: &Form, kind: i128, z: i128, side: Side) -
     if met(q) == met(q_beside) || !(1..=W_HIGHEST).contains(&W) {
         return None;
     }
-    for (name, value) in [
+    member.fill(&[
         ("W", W),
         ("l", l),
         ("beta_b", beta_b),
         ("eta", eta),
         ("sigma1", sigma1),
-    ] {
-        member.set(name, value);
-    }
+    ]);
     Some(member)
 }
