@@ -6,6 +6,7 @@ use crate::loads::pressure;
 use crate::refusal::Refusal;
 use crate::rules::demands;
 use crate::sheet::{read_header, read_record, Header, Record};
+use crate::slender::is_too_slender;
 
 /// What a check that isn't refused gives.
 #[derive(Clone, Copy, Debug, PartialEq, Eq)]
@@ -65,6 +66,9 @@ pub fn judge(header: &Header, record: &Record) -> Verdict {
 /// Reads the whole sheet or refuses it; the steps stand in the order of the table.
 pub fn read_all(sheet: &[u8], output_bytes: usize) -> Result<(Header, Vec<Record>), Refusal> {
     let header = read_header(sheet)?;
+    if is_too_slender(&header) {
+        return Err(Refusal::new(9, 0));
+    }
     let version = header.version();
     if sheet.len() != version.sheet_bytes(header.n) {
         return Err(Refusal::new(4, 0));
@@ -72,9 +76,14 @@ pub fn read_all(sheet: &[u8], output_bytes: usize) -> Result<(Header, Vec<Record
     if output_bytes < VERDICT_BYTES * header.n as usize {
         return Err(Refusal::new(5, 0));
     }
+    let records = read_records(&sheet[version.bytes..])?;
+    Ok((header, records))
+}
+
+/// Reads the records that are there whole: refusals 6, 7 and 8.
+pub fn read_records(bytes: &[u8]) -> Result<Vec<Record>, Refusal> {
     let mut records: Vec<Record> = Vec::new();
-    let places = sheet[version.bytes..].chunks(RECORD_BYTES);
-    for (index, bytes) in places.enumerate() {
+    for (index, bytes) in bytes.chunks_exact(RECORD_BYTES).enumerate() {
         let record = read_record(bytes, index)?;
         if let Some(before) = records.last() {
             if record.id() <= before.id() {
@@ -83,7 +92,7 @@ pub fn read_all(sheet: &[u8], output_bytes: usize) -> Result<(Header, Vec<Record
         }
         records.push(record);
     }
-    Ok((header, records))
+    Ok(records)
 }
 
 /// Checks a sheet and writes one verdict per record into `output`. All records

@@ -1,8 +1,10 @@
 //! The cases of a header that a run of sheets must hold, each by itself: cut short,
 //! of a version that is not there, with a field at an end of its values or past it,
-//! and on sheets as long as another version's, as the longest, and a byte longer.
+//! on sheets as long as another version's, as the longest, and a byte longer, and those
+//! of length over depth (`hull_case`).
 
 use crate::form::Form;
+use crate::hull_case::{self, HullCase};
 use crate::limits::{in_header, Allowed};
 use crate::refusal::Refusal;
 use crate::version::{Version, SHORTEST_HEADER, VERSIONS};
@@ -24,9 +26,11 @@ pub enum HeaderCase {
     Behind { version: i128, bytes: usize },
     /// As many records as there may be, and a byte past them or not.
     Full { version: i128, past: bool },
+    /// Of its length over its depth.
+    Hull { version: i128, hull: HullCase },
 }
 
-use HeaderCase::{Behind, Cut, Field, Full, Unknown};
+use HeaderCase::{Behind, Cut, Field, Full, Hull, Unknown};
 
 /// Every case that must come up.
 pub fn all() -> BTreeSet<HeaderCase> {
@@ -66,6 +70,9 @@ fn of_version(known: &Version) -> Vec<HeaderCase> {
     }
     for past in [false, true] {
         cases.push(Full { version, past });
+    }
+    for hull in hull_case::all(known) {
+        cases.push(Hull { version, hull });
     }
     cases
 }
@@ -117,7 +124,7 @@ fn found_in_header(sheet: &[u8], refusal: Option<Refusal>) -> Vec<HeaderCase> {
         value: header.values[field - 1],
     };
     let full = |past| Full { version, past };
-    match refusal {
+    let mut cases: Vec<HeaderCase> = match refusal {
         None => {
             let fields = (1..=header.values.len()).map(at);
             let full = (n == known.n_highest).then_some(full(false));
@@ -133,5 +140,8 @@ fn found_in_header(sheet: &[u8], refusal: Option<Refusal>) -> Vec<HeaderCase> {
             full.into_iter().chain(behind).collect()
         }
         Some(_) => Vec::new(),
-    }
+    };
+    let hull = hull_case::found(known, &header, sheet, refusal);
+    cases.extend(hull.map(|hull| Hull { version, hull }));
+    cases
 }

@@ -35,7 +35,7 @@ fn make_stream(out: &mut impl Write, seed: u64, count: usize) -> io::Result<()> 
     Ok(())
 }
 
-/// What the scarce rows say, and whether that is nothing.
+/// What there is to complain of, and whether that is nothing.
 fn verdict(mut complaints: Vec<String>, broken: bool) -> ExitCode {
     if broken {
         complaints.push("the stream is broken".to_string());
@@ -53,7 +53,7 @@ fn verdict(mut complaints: Vec<String>, broken: bool) -> ExitCode {
 fn tally_stream(out: &mut impl Write) -> io::Result<ExitCode> {
     let tally = Tally::of(&standard_input()?);
     write!(out, "{}", tally.table())?;
-    Ok(verdict(tally.scarce_rows(), tally.broken))
+    Ok(verdict(tally.complaints(), tally.broken))
 }
 
 fn answer_edits(out: &mut impl Write) -> io::Result<()> {
@@ -81,7 +81,7 @@ fn make_edits(out: &mut impl Write, seed: u64, count: usize) -> io::Result<()> {
 fn tally_edits(out: &mut impl Write) -> io::Result<ExitCode> {
     let tally = EditTally::of(&standard_input()?);
     write!(out, "{}", tally.table())?;
-    Ok(verdict(tally.scarce_rows(), tally.broken))
+    Ok(verdict(tally.complaints(), tally.broken))
 }
 
 fn usage() -> ExitCode {

@@ -8,6 +8,7 @@ mod edge;
 mod edits;
 mod faults;
 mod headers;
+mod hulls;
 mod record;
 mod spoil;
 mod tie;
@@ -68,12 +69,12 @@ fn one(chance: &mut Chance, edges: &mut Edges, headers: &mut Headers) -> Vec<u8>
         5..7 => longer_than_any(chance),
         7..10 => full_with_a_fault_at_its_end(chance),
         10..30 => sound(chance, 0).bytes(),
-        30..100 => noise(chance),
-        100..250 => field_to_an_end(chance),
-        250..450 => spoilt_as_draft(chance),
-        450..550 => spoilt_as_bytes(chance),
-        550..600 => edges.sheet(chance).bytes(),
-        600..660 => headers.sheet(chance),
+        30..80 => noise(chance),
+        80..230 => field_to_an_end(chance),
+        230..445 => spoilt_as_draft(chance),
+        445..525 => spoilt_as_bytes(chance),
+        525..575 => edges.sheet(chance).bytes(),
+        575..665 => headers.sheet(chance),
         _ => {
             let n = chance.between(1, 12);
             sound(chance, n).bytes()

@@ -93,6 +93,14 @@ impl Header {
         }
     }
 
+    /// None in a version without it.
+    pub fn depth(&self) -> Option<i128> {
+        match self.own {
+            Own::Version1 => None,
+            Own::Version2 { depth, .. } => Some(depth),
+        }
+    }
+
     /// The form it was taken from.
     pub fn form(&self) -> Form {
         let version = self.version();

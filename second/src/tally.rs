@@ -5,7 +5,8 @@
 mod moduli;
 
 use crate::check::{read_all, Verdict};
-use crate::header_case::{all, found, HeaderCase};
+use crate::header_case::HeaderCase::{self, Hull};
+use crate::header_case::{all, found};
 use crate::loads::{plate_loads, CARGO, SEA};
 use crate::print::verdicts;
 use crate::refusal::Refusal;
@@ -24,9 +25,12 @@ const SHARE: usize = HUNDREDS / VERSIONS.len();
 /// Each case of a header, or of a plate at an edge, comes up at least so often.
 pub const EACH: usize = 5;
 
-/// The refusals that a sheet of either version must meet with. 1 and 2 come up by
-/// their cases: of a short or unknown header there is no version.
-const IN_EACH_VERSION: [usize; 5] = [3, 4, 6, 7, 8];
+/// The refusals that sheets of each version must meet with, in the order of the table.
+/// 1 and 2 come up by their cases: of a short or unknown header there is no version.
+const BY_VERSION: [usize; 6] = [3, TOO_SLENDER, 4, 6, 7, 8];
+
+/// This one only in versions with a depth, and in others never.
+const TOO_SLENDER: usize = 9;
 
 #[derive(Default)]
 pub struct Tally {
@@ -43,7 +47,7 @@ pub struct Tally {
     /// By the source of the load that ballast is as great as.
     pub ties: [usize; 4],
     /// By refusal number (row 0 unused).
-    pub refusals: [usize; 9],
+    pub refusals: [usize; 10],
     /// By version and refusal number; those with number 0 are judged.
     pub by_version: BTreeMap<(i128, usize), usize>,
     pub moduli: Moduli,
@@ -170,12 +174,12 @@ impl Tally {
     }
 
     fn refusal_lines(&self) -> impl Iterator<Item = String> + '_ {
-        (1..=8).map(|number| format!("refusal {number}        {:>8}", self.refusals[number]))
+        (1..=9).map(|number| format!("refusal {number}        {:>8}", self.refusals[number]))
     }
 
     fn version_line(&self, version: &Version) -> String {
         let of = |number| self.of_version(version.number, number);
-        let refused = IN_EACH_VERSION.map(|number| format!("{number}: {}", of(number)));
+        let refused = BY_VERSION.map(|number| format!("{number}: {}", of(number)));
         format!(
             "version {}: judged {}, refused by {}",
             version.number,
@@ -186,10 +190,12 @@ impl Tally {
 
     fn case_line(&self) -> String {
         let cases = all();
+        let hulls = cases.iter().filter(|case| matches!(case, Hull { .. }));
         let least = cases.iter().map(|case| self.of_case(case)).min();
         format!(
-            "cases of a header {}, each at least {} times",
+            "cases of a header {}, {} of them of length over depth, each at least {} times",
             cases.len(),
+            hulls.count(),
             least.unwrap_or(0)
         )
     }
@@ -216,7 +222,7 @@ impl Tally {
             let name = format!("ballast as great as source {source}");
             rows.push((name, self.ties[source as usize]));
         }
-        for number in [1, 2, 3, 4, 6, 7, 8] {
+        for number in [1, 2, 3, 4, 6, 7, 8, TOO_SLENDER] {
             rows.push((format!("refusal {number}"), self.refusals[number]));
         }
         for kind in 1..=4 {
@@ -230,17 +236,26 @@ impl Tally {
     /// The rows that must come up in each version.
     fn rows_by_version(&self) -> Vec<(String, usize)> {
         let mut rows = Vec::new();
-        for Version { number, .. } in VERSIONS {
-            let of = |refusal| self.of_version(*number, refusal);
-            rows.push((format!("version {number} judged"), of(0)));
-            for refusal in IN_EACH_VERSION {
-                rows.push((
-                    format!("version {number} refused by {refusal}"),
-                    of(refusal),
-                ));
-            }
+        for version in VERSIONS {
+            let judged = self.of_version(version.number, 0);
+            rows.push((format!("version {} judged", version.number), judged));
+            let refusals = BY_VERSION.into_iter();
+            let arising = refusals.filter(|number| *number != TOO_SLENDER || version.has_depth());
+            rows.extend(arising.map(|number| self.refused_row(version, number)));
         }
         rows
+    }
+
+    fn refused_row(&self, version: &Version, refusal: usize) -> (String, usize) {
+        let name = format!("version {} refused by {refusal}", version.number);
+        (name, self.of_version(version.number, refusal))
+    }
+
+    /// The rows that must not come up at all.
+    fn rows_to_stay_empty(&self) -> Vec<(String, usize)> {
+        let versions = VERSIONS.iter().filter(|version| !version.has_depth());
+        let rows = versions.map(|version| self.refused_row(version, TOO_SLENDER));
+        rows.collect()
     }
 
     /// The cases that come up one by one: a header's, and plates at the edge of rule 3
@@ -258,15 +273,18 @@ impl Tally {
         headers.chain(plates).collect()
     }
 
-    /// The rows that do not come up often enough.
-    pub fn scarce_rows(&self) -> Vec<String> {
+    /// The rows that do not come up often enough, and those that come up and must not.
+    pub fn complaints(&self) -> Vec<String> {
         let under = |rows: Vec<(String, usize)>, least| {
             let scarce = rows.into_iter().filter(move |row| row.1 < least);
             scarce.map(|(name, count)| format!("{name}: only {count}"))
         };
+        let to_stay_empty = self.rows_to_stay_empty().into_iter();
+        let there = to_stay_empty.filter(|row| row.1 > 0);
         under(self.rows(), HUNDREDS)
             .chain(under(self.rows_by_version(), SHARE))
             .chain(under(self.cases(), EACH))
+            .chain(there.map(|(name, count)| format!("{name}: {count} and not none")))
             .collect()
     }
 }

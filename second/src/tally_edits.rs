@@ -15,11 +15,12 @@ pub const ENOUGH: usize = 30;
 const SHARE: usize = ENOUGH / VERSIONS.len();
 
 /// The rows that must come up in each version, in the order of the table.
-pub const IN_EACH_VERSION: [&str; 13] = [
+pub const BY_VERSION: [&str; 14] = [
     "replaced",
     "inserted",
     "removed",
     "3 on the sheet",
+    TOO_SLENDER,
     "4 on the sheet",
     "6 on the sheet",
     "7 on the sheet",
@@ -30,6 +31,9 @@ pub const IN_EACH_VERSION: [&str; 13] = [
     "11 for the buffer",
     "11 for the count",
 ];
+
+/// This one only in versions with a depth, and in others never.
+const TOO_SLENDER: &str = "9 on the sheet";
 
 /// The rows that must come up whatever the version: it is not looked at, not known, or
 /// has a longer header than the others.
@@ -94,7 +98,7 @@ impl EditTally {
             "  in version         {}",
             heads.collect::<String>()
         ));
-        for name in IN_EACH_VERSION.iter().chain(&[BOTH]) {
+        for name in BY_VERSION.iter().chain(&[BOTH]) {
             let counts = versions
                 .clone()
                 .map(|version| format!("{:>8}", self.row(name, version)));
@@ -103,18 +107,27 @@ impl EditTally {
         lines.join("\n") + "\n"
     }
 
-    pub fn scarce_rows(&self) -> Vec<String> {
+    /// The rows that do not come up often enough, and those that come up and must not.
+    pub fn complaints(&self) -> Vec<String> {
         let in_any = IN_ANY_VERSION.iter().filter_map(|name| {
             let count = self.row(name, 0);
             (count < ENOUGH).then(|| format!("{name}: only {count}"))
         });
-        let in_each = VERSIONS.iter().flat_map(|Version { number, .. }| {
-            IN_EACH_VERSION.iter().filter_map(move |name| {
-                let count = self.row(name, *number);
-                (count < SHARE).then(|| format!("{name} in version {number}: only {count}"))
-            })
+        let by_version = VERSIONS.iter().flat_map(|version| {
+            let names = BY_VERSION.iter();
+            names.filter_map(|name| self.complaint(name, version))
         });
-        in_any.chain(in_each).collect()
+        in_any.chain(by_version).collect()
+    }
+
+    fn complaint(&self, name: &str, version: &Version) -> Option<String> {
+        let count = self.row(name, version.number);
+        let row = format!("{name} in version {}", version.number);
+        if name == TOO_SLENDER && !version.has_depth() {
+            (count > 0).then(|| format!("{row}: {count} and not none"))
+        } else {
+            (count < SHARE).then(|| format!("{row}: only {count}"))
+        }
     }
 }
 

@@ -67,6 +67,11 @@ impl Version {
         found.expect("a header's form")
     }
 
+    /// Only a hull whose depth is known can be too slender.
+    pub fn has_depth(&self) -> bool {
+        self.layout.iter().any(|field| field.0 == "depth")
+    }
+
     /// How long a sheet of so many records is.
     pub fn sheet_bytes(&self, n: i128) -> usize {
         self.bytes + RECORD_BYTES * n as usize

@@ -3,12 +3,14 @@
 mod common;
 
 use common::{numbers, plate, sheet, vessel_v};
+use second::check::read_records;
 use second::edit::{read_sheet, Edit};
 use second::edit_stream::{answer, framed, parts, Lent, Part};
-use second::form::MEMBER;
+use second::form::{MEMBER, RECORD_BYTES};
 use second::make::edit_cases;
 use second::refusal::Refusal;
-use second::tally_edits::{EditTally, BOTH, IN_ANY_VERSION, IN_EACH_VERSION};
+use second::sheet::read_header;
+use second::tally_edits::{EditTally, BOTH, BY_VERSION, IN_ANY_VERSION};
 use std::collections::BTreeSet;
 
 /// Each part in a word: the size of a case's buffer, an edit's id, or a break.
@@ -119,12 +121,50 @@ fn three_thousand_cases_bring_up_every_row() {
     let tally = EditTally::of(&stream(7, 3000));
     assert_eq!(tally.cases, 3000);
     assert!(!tally.broken);
-    assert_eq!(tally.scarce_rows(), Vec::<String>::new());
+    assert_eq!(tally.complaints(), Vec::<String>::new());
     let in_any = IN_ANY_VERSION.iter().map(|row| tally.row(row, 0));
-    let in_each = IN_EACH_VERSION.iter().chain(&[BOTH]);
-    let in_each = in_each.flat_map(|row| [1, 2].map(|version| tally.row(row, version)));
-    assert_eq!(tally.edits, in_any.chain(in_each).sum());
-    assert!(!EditTally::of(&stream(7, 60)).scarce_rows().is_empty());
+    let by_version = BY_VERSION.iter().chain(&[BOTH]);
+    let by_version = by_version.flat_map(|row| [1, 2].map(|version| tally.row(row, version)));
+    assert_eq!(tally.edits, in_any.chain(by_version).sum());
+    assert!(!EditTally::of(&stream(7, 60)).complaints().is_empty());
+}
+
+/// A hull without a depth is never too slender, one with a depth often enough.
+#[test]
+fn the_tally_complains_of_9_by_version() {
+    let mut tally = EditTally::default();
+    for version in [1, 2] {
+        tally
+            .rows
+            .insert(("9 on the sheet".to_string(), version), 14);
+    }
+    let complaints = tally.complaints();
+    for complaint in [
+        "9 on the sheet in version 1: 14 and not none",
+        "9 on the sheet in version 2: only 14",
+    ] {
+        assert!(complaints.contains(&complaint.to_string()));
+    }
+}
+
+/// Put and removed, with room for a record and without, and with a sound rest or one
+/// that is at fault as well.
+#[test]
+fn slender_hulls_are_edited_in_every_way() {
+    let mut ways: BTreeSet<(bool, bool, bool)> = BTreeSet::new();
+    for (Lent { buffer, length }, edits) in edit_cases(20_210_301).take(3000) {
+        if read_sheet(&buffer, length) != Err(Refusal::new(9, 0)) {
+            continue;
+        }
+        let header = read_header(&buffer[..length]).expect("9 comes after 3");
+        let version = header.version();
+        let sound = length == version.sheet_bytes(header.n)
+            && read_records(&buffer[version.bytes..length]).is_ok();
+        let room = length + RECORD_BYTES <= buffer.len();
+        let puts = |edit: &Edit| matches!(edit, Edit::Put(_));
+        ways.extend(edits.iter().map(|edit| (puts(edit), room, sound)));
+    }
+    assert_eq!(ways.len(), 8, "{ways:?}");
 }
 
 /// Every field of every kind is named on a new record, for a number just past

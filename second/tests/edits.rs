@@ -2,7 +2,9 @@
 
 mod common;
 
-use common::{header_bytes, member, numbers, plate, sheet, vessel_v, vessel_v2, vessels, with};
+use common::{
+    header_bytes, hull, member, numbers, plate, sheet, vessel_v, vessel_v2, vessels, with,
+};
 use second::edit::{edit, read_sheet, Edit};
 use second::edit_stream::Lent;
 use second::form::{Form, RECORD_BYTES};
@@ -256,6 +258,7 @@ fn the_sheet_is_turned_away_first() {
     is_turned_away(&header_2(("ZDB", 0)), (3, 10));
     is_turned_away(&header_2(("depth", 99)), (3, 11));
     is_turned_away(&header_2(("last_zero", 1)), (3, 12));
+    is_turned_away(&header_2(("depth", 228)), (9, 0));
     is_turned_away(&[v(&[10, 20]), vec![0]].concat(), (4, 0));
     is_turned_away(&header_2(("n", 1))[..28], (4, 0));
     is_turned_away(&v(&[10, 20])[..28], (4, 0));
@@ -265,6 +268,40 @@ fn the_sheet_is_turned_away_first() {
     is_turned_away(&changed(&v, 2, ("zero", 1)), (7, 64 + 12));
     is_turned_away(&changed(&v, 1, ("id", 10)), (8, 1));
     is_turned_away(&changed(&v, 2, ("id", 20)), (8, 2));
+}
+
+/// With a fault behind the header too, and after a fault in it.
+#[test]
+fn a_slender_hull_is_turned_away_between_3_and_4() {
+    for slender in [hull(10_501, 60, 300), hull(7501, 120, 300)] {
+        let whole = sheet(&slender, &records(&[10, 20, 30]));
+        is_turned_away(&whole, (9, 0));
+        is_turned_away(&whole[..40], (9, 0));
+        is_turned_away(&[whole, vec![0; 16]].concat(), (9, 0));
+        for fault in [("kind", 9), ("T", 0), ("id", 10)] {
+            is_turned_away(&changed(&slender, 1, fault), (9, 0));
+        }
+        let faulty = with(&slender, &[("last_zero", 1)]);
+        is_turned_away(&sheet(&faulty, &records(&[10])), (3, 12));
+    }
+}
+
+/// No edit moves L, the wave height or the depth: at the limit a hull stays at it.
+#[test]
+fn an_edit_keeps_a_hull_as_slender_as_it_was() {
+    for v in [
+        hull(10_500, 60, 300),
+        hull(7500, 120, 300),
+        hull(13_500, 0, 100),
+    ] {
+        let mut lent = lend(&sheet(&v, &records(&[10, 20])), 16);
+        assert_eq!(lent.edit(&put(&with_id(&plate(2), 15))), Ok(68));
+        assert_eq!(lent.edit(&put(&with_id(&member(8), 10))), Ok(68));
+        for (id, length) in [(15, 52), (20, 36), (10, 20)] {
+            assert_eq!(lent.edit(&Edit::Remove(id)), Ok(length));
+        }
+        assert_eq!(lent.buffer[..20], v.pack());
+    }
 }
 
 /// Bytes past the stated length are no part of the sheet.

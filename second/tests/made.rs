@@ -5,12 +5,17 @@
 
 mod common;
 
-use common::{plate, sheet, vessel_v2, with};
+use common::{hull, plate, sheet, vessel_v, vessel_v2, with};
 use second::header_case::{all, found, HeaderCase};
+use second::hull_case::{FaultsBehind, HullCase};
 use second::make::sheets;
 use second::print::verdicts;
 use second::stream::framed;
 use second::tally::Tally;
+use std::sync::LazyLock;
+
+/// What a short run brings up, counted once for all tests.
+static SHORT_RUN: LazyLock<Tally> = LazyLock::new(|| Tally::of(&stream(7, 3000)));
 
 fn stream(seed: u64, count: usize) -> Vec<u8> {
     sheets(seed)
@@ -27,31 +32,31 @@ fn the_seed_decides() {
 
 #[test]
 fn a_short_run_brings_up_every_row() {
-    let tally = Tally::of(&stream(7, 600));
-    assert_eq!(tally.sheets, 600);
+    let tally = &SHORT_RUN;
+    assert_eq!(tally.sheets, 3000);
     assert!(!tally.broken);
-    // 20,000 sheets bring up 200; 600 bring up 6.
-    assert!(tally.passes >= 6);
+    // 20,000 sheets bring up 200; 3,000 bring up 30.
+    assert!(tally.passes >= 30);
     for rule in 1..=6 {
-        assert!(tally.with_number[rule] >= 6, "rule {rule}");
+        assert!(tally.with_number[rule] >= 30, "rule {rule}");
     }
     for rule in [2, 3, 5, 6] {
-        assert!(tally.without[rule] >= 6, "rule {rule} without a number");
+        assert!(tally.without[rule] >= 30, "rule {rule} without a number");
     }
     for source in 0..4 {
-        assert!(tally.on_passes[source] >= 6, "source {source} on a pass");
-        assert!(tally.on_failures[source] >= 6, "source {source}");
+        assert!(tally.on_passes[source] >= 30, "source {source} on a pass");
+        assert!(tally.on_failures[source] >= 30, "source {source}");
     }
     // Ballast as great as the sea, at or below the draught alone, and as the cargo.
-    assert!(tally.ties[0] >= 6 && tally.ties[3] >= 6);
+    assert!(tally.ties[0] >= 30 && tally.ties[3] >= 30);
     assert_eq!(tally.ties[1..3], [0, 0]);
-    for number in [1, 2, 3, 4, 6, 7, 8] {
-        assert!(tally.refusals[number] >= 6, "refusal {number}");
+    for number in [1, 2, 3, 4, 6, 7, 8, 9] {
+        assert!(tally.refusals[number] >= 30, "refusal {number}");
     }
     assert_eq!(tally.refusals[5], 0);
     for kind in 1..=4 {
-        assert!(tally.moduli.passes_by_own[kind] >= 6, "kind {kind} passes");
-        assert!(tally.moduli.fails_by_own[kind] >= 6, "kind {kind} fails");
+        assert!(tally.moduli.passes_by_own[kind] >= 30, "kind {kind} passes");
+        assert!(tally.moduli.fails_by_own[kind] >= 30, "kind {kind} fails");
     }
 }
 
@@ -59,26 +64,36 @@ fn a_short_run_brings_up_every_row() {
 /// by 3, as it has more fields.
 #[test]
 fn the_versions_are_even() {
-    let tally = Tally::of(&stream(9, 3000));
+    let tally = &SHORT_RUN;
     let of = |number| [1, 2].map(|version| tally.by_version[&(version, number)]);
     let [one, two] = of(0);
     assert!(one.abs_diff(two) < (one + two) / 10, "{one} {two}");
     for number in [3, 4, 6, 7, 8] {
         assert!(of(number).iter().all(|count| *count >= 15), "{number}");
     }
+    // Only a hull with a depth can be too slender.
+    assert!(tally.by_version[&(2, 9)] >= 15);
+    assert!(!tally.by_version.contains_key(&(1, 9)));
 }
 
-/// 3,000 sheets bring up each case of a header once; a short run does not, and the
-/// tally says so.
+#[test]
+fn the_tally_complains_of_9_without_a_depth() {
+    let mut tally = Tally::default();
+    let complaint = "version 1 refused by 9: 1 and not none".to_string();
+    assert!(!tally.complaints().contains(&complaint));
+    tally.by_version.insert((1, 9), 1);
+    assert!(tally.complaints().contains(&complaint));
+}
+
+/// 3,000 sheets bring up each case of a header once; 60 do not, and the tally says so.
 #[test]
 fn every_case_of_a_header_comes_up() {
-    let tally = Tally::of(&stream(7, 3000));
     for case in all() {
-        assert!(tally.headers.contains_key(&case), "{case:?}");
+        assert!(SHORT_RUN.headers.contains_key(&case), "{case:?}");
     }
-    let scarce = Tally::of(&stream(7, 60)).scarce_rows();
+    let complaints = Tally::of(&stream(7, 60)).complaints();
     let unseen = "Cut { version: 2, bytes: 19 }: only 0".to_string();
-    assert!(scarce.contains(&unseen), "{scarce:?}");
+    assert!(complaints.contains(&unseen), "{complaints:?}");
 }
 
 /// Kind 4 with S 1000 and no load: T2 >= 15.21 R, so that 780 meets R 40,000 exactly and
@@ -115,7 +130,10 @@ fn the_cases_of_a_header() {
     let fields = 2 * (4 + 4 + 8 + 2 + 3 + 4 + 3 + 3) + 4 + 4 + 27;
     // As long as the other version's, as the longest, and a byte longer.
     let lengths = 2 + 2 + 2;
-    assert_eq!(cases.len(), first + fields + lengths);
+    // Wave heights, limits, at and beside them, faults behind; each field but runs at
+    // fault first; wave heights and ends of L in version 1.
+    let hulls = 3 * 2 * 3 * 4 + 10 + 3 * 2;
+    assert_eq!(cases.len(), first + fields + lengths + hulls);
     let field = |version, field, value| HeaderCase::Field {
         version,
         field,
@@ -154,4 +172,53 @@ fn cases_are_told_by_the_sheet() {
         let unknown = HeaderCase::Unknown { version: 7, short };
         assert_eq!(told(&sheet[..bytes]), [unknown]);
     }
+}
+
+/// The cases of length over depth that a sheet is.
+fn hulls(sheet: &[u8]) -> Vec<HullCase> {
+    let cases = found(sheet, verdicts(sheet).err()).into_iter();
+    let hulls = cases.filter_map(|case| match case {
+        HeaderCase::Hull { hull, .. } => Some(hull),
+        _ => None,
+    });
+    hulls.collect()
+}
+
+/// What is at fault behind the header is told even where 9 comes first.
+#[test]
+fn hulls_at_a_limit_are_told() {
+    for H in [0, 60, 120] {
+        for (times, more) in [(35, -1), (35, 1), (25, 0), (25, 1)] {
+            let v = hull(200 * times + more, H, 200);
+            let with_faults = |wrong_length, faulty_record| {
+                let behind = FaultsBehind {
+                    wrong_length,
+                    faulty_record,
+                };
+                [HullCase::AtLimit {
+                    H,
+                    times,
+                    more,
+                    behind,
+                }]
+            };
+            let sound = sheet(&v, &[plate(2)]);
+            assert_eq!(hulls(&sound), with_faults(false, false));
+            assert_eq!(hulls(&sound[..35]), with_faults(true, false));
+            let faulty = sheet(&v, &[with(&plate(2), &[("T", 0)])]);
+            assert_eq!(hulls(&faulty), with_faults(false, true));
+            let longer = [faulty, vec![0; 16]].concat();
+            assert_eq!(hulls(&longer), with_faults(true, true));
+        }
+    }
+}
+
+#[test]
+fn other_hulls_are_told() {
+    assert_eq!(hulls(&hull(7002, 60, 200).pack()), []);
+    let depth_first = HullCase::FieldFirst { field: 11 };
+    assert_eq!(hulls(&hull(7001, 60, 99).pack()), [depth_first]);
+    assert_eq!(hulls(&hull(5000, 60, 1001).pack()), []);
+    let no_depth = HullCase::NoDepth { H: 60, L: 8000 };
+    assert_eq!(hulls(&vessel_v().pack()), [no_depth]);
 }

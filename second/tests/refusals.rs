@@ -1,14 +1,17 @@
 //! "When the sheet is turned away": every number, every place, and the order.
 
+#![allow(non_snake_case)]
+
 mod common;
 
-use common::{header_bytes, member, plate, sheet, vessel_v, vessel_v2, vessels, with};
+use common::{header_bytes, hull, member, plate, sheet, vessel_v, vessel_v2, vessels, with};
 use second::check::check;
 use second::form::{field_number, Form};
 use second::limits::in_record;
 use second::make::sheets;
 use second::print::answer;
 use second::refusal::Refusal;
+use second::sheet::{read_header, Header};
 use std::slice;
 
 fn refusal(sheet: &[u8]) -> Option<(usize, usize)> {
@@ -92,7 +95,9 @@ fn number_3_each_header_field() {
 
 #[test]
 fn number_3_each_field_of_version_2() {
-    let at = |name, value| refusal(&sheet(&with(&vessel_v2(), &[(name, value)]), &[]));
+    // In still water, where the least depth is enough.
+    let still = with(&vessel_v2(), &[("H", 0)]);
+    let at = |name, value| refusal(&sheet(&with(&still, &[(name, value)]), &[]));
     for (name, lowest, highest, place) in [("ZDB", 1, 100_000_000, 10), ("depth", 100, 1000, 11)] {
         assert_eq!(at(name, lowest - 1), Some((3, place)));
         assert_eq!(at(name, lowest), None);
@@ -114,6 +119,91 @@ fn number_3_each_field_of_version_2() {
             _ => (3, 10),
         };
         assert_eq!(refusal(&bytes), Some(expected), "bit {bit}");
+    }
+}
+
+/// At the limit of its wave height, a centimetre to either side, and at the ends of L.
+#[test]
+fn number_9_too_slender() {
+    let at = |L, H, depth| refusal(&sheet(&hull(L, H, depth), &[plate(2)]));
+    for (H, limit) in [(60, 35), (120, 25)] {
+        for depth in [161, 300, 385] {
+            let L = limit * depth;
+            let found = [L - 1, L, L + 1].map(|L| at(L, H, depth));
+            assert_eq!(found, [None, None, Some((9, 0))], "{H} {depth}");
+        }
+    }
+    for (L, H, least) in [
+        (4000, 60, 115),
+        (13_500, 60, 386),
+        (4000, 120, 160),
+        (13_500, 120, 540),
+    ] {
+        let found = [least - 1, least].map(|depth| at(L, H, depth));
+        assert_eq!(found, [Some((9, 0)), None], "{L} {H}");
+    }
+}
+
+/// Each limit in waves of its own height alone, and none in still water or without a
+/// depth.
+#[test]
+fn number_9_by_wave_height_and_version() {
+    let at = |L, H| refusal(&sheet(&hull(L, H, 300), &[]));
+    let found = |L| [0, 60, 120].map(|H| at(L, H));
+    let slender = Some((9, 0));
+    assert_eq!(found(7500), [None; 3]);
+    assert_eq!(found(7501), [None, None, slender]);
+    assert_eq!(found(10_500), [None, None, slender]);
+    assert_eq!(found(10_501), [None, slender, slender]);
+    assert_eq!(refusal(&hull(13_500, 0, 100).pack()), None);
+    for H in [0, 60, 120] {
+        for L in [4000, 13_500] {
+            let v = with(&vessel_v(), &[("L", L), ("H", H)]);
+            assert_eq!(refusal(&sheet(&v, &[plate(2)])), None);
+        }
+    }
+}
+
+/// 3 goes before, whichever the field, and 4 to 8 behind.
+#[test]
+fn number_9_has_its_place_in_the_order() {
+    let slender = hull(13_500, 120, 100);
+    for (name, value) in [
+        ("L", 13_501),
+        ("D0", 0),
+        ("H", 121),
+        ("M", 1_000_001),
+        ("ZB", 0),
+        ("n", 401),
+        ("zero", 1),
+        ("ZDB", 0),
+        ("depth", 99),
+        ("last_zero", 1),
+    ] {
+        let place = field_number(slender.layout, name);
+        let faulty = with(&slender, &[(name, value)]);
+        assert_eq!(refusal(&faulty.pack()), Some((3, place)));
+    }
+    let whole = sheet(&slender, &numbered(&[plate(2), plate(2)]));
+    let longer = [whole.clone(), vec![0; 17]].concat();
+    for length in 20..longer.len() {
+        assert_eq!(refusal(&longer[..length]), Some((9, 0)), "{length} bytes");
+    }
+    assert_eq!(refusal(&whole[..19]), Some((1, 0)));
+    assert_eq!(check(&whole, &mut []), Err(Refusal::new(9, 0)));
+    for fault in [("kind", 9), ("T", 0), ("id", 1)] {
+        let records = [plate(2), with(&plate(2), &[("id", 2), fault])];
+        assert_eq!(refusal(&sheet(&slender, &records)), Some((9, 0)));
+    }
+}
+
+/// On sheets: a header alone is read as it stands.
+#[test]
+fn number_9_is_not_of_a_header_alone() {
+    for slender in [hull(13_500, 120, 100), hull(4000, 60, 114)] {
+        let header = read_header(&slender.pack());
+        assert_eq!(header, Ok(Header::of(&slender)));
+        assert_eq!(answer(&slender.pack()), "refused 9 0\n");
     }
 }
 
@@ -347,6 +437,11 @@ fn header_and_length_in_order(spoilt: &mut Spoilt, v: &Form) {
     assert_eq!(refusal(&spoilt.bytes()[..cut]), Some((1, 0)));
     spoilt.is_refused_by(3, 2);
     spoilt.header.set("L", 4000);
+    if v.has("depth") {
+        spoilt.header.set("depth", 114);
+        spoilt.is_refused_by(9, 0);
+        spoilt.header.set("depth", 115);
+    }
     spoilt.is_refused_by(4, 0);
     spoilt.extra.clear();
     let short = check(&spoilt.bytes(), &mut [0; 11]);

@@ -4,10 +4,11 @@
 use super::chance::Chance;
 use super::draft::Draft;
 use super::faults::Faults;
-use super::spoil;
 use super::whole::{noise, sound, sound_in};
+use super::{spoil, vessel};
 use crate::edit::Edit;
 use crate::edit_stream::{Lent, LARGEST_BUFFER};
+use crate::hull_case::FaultsBehind;
 use crate::limits::ID_HIGHEST;
 use crate::version::{Version, SHORTEST_HEADER, VERSIONS};
 use std::collections::BTreeSet;
@@ -25,9 +26,10 @@ pub fn case(chance: &mut Chance, faults: &mut Faults) -> (Lent, Vec<Edit>) {
     let ground = match chance.below(1000) {
         0 => in_the_largest_buffer(chance),
         1..21 => full(chance),
-        21..270 => spoilt(chance),
-        270..350 => with_a_wrong_length(chance),
-        350..370 => only_noise(chance),
+        21..250 => spoilt(chance),
+        250..330 => with_a_wrong_length(chance),
+        330..350 => only_noise(chance),
+        350..380 => too_slender(chance),
         _ => small(chance),
     };
     let edits = edits(chance, faults, &ground);
@@ -105,6 +107,27 @@ fn spoilt(chance: &mut Chance) -> Ground {
     if chance.one_in(6) {
         spoil::bytes(chance, &mut bytes);
     }
+    let more = room(chance);
+    Ground {
+        lent: lend(chance, bytes, more),
+        draft,
+        edits: few(chance),
+    }
+}
+
+/// A hull that is too slender; half of them have more at fault behind the header.
+fn too_slender(chance: &mut Chance) -> Ground {
+    let versions = VERSIONS.iter().filter(|version| version.has_depth());
+    let version = *chance.of(&versions.collect::<Vec<_>>());
+    let n = chance.between(3, 6);
+    let draft = sound_in(chance, version, n);
+    let mut slender = draft.clone();
+    vessel::make_slender(chance, &mut slender.header);
+    let faults = FaultsBehind {
+        wrong_length: chance.one_in(3),
+        faulty_record: chance.one_in(3),
+    };
+    let bytes = spoil::behind_the_header(chance, slender, faults);
     let more = room(chance);
     Ground {
         lent: lend(chance, bytes, more),

@@ -3,9 +3,10 @@
 
 use super::chance::Chance;
 use super::draft::Draft;
+use super::hulls;
 use super::whole::{sound, sound_in};
 use crate::header_case::all;
-use crate::header_case::HeaderCase::{self, Behind, Cut, Field, Full, Unknown};
+use crate::header_case::HeaderCase::{self, Behind, Cut, Field, Full, Hull, Unknown};
 use crate::version::{Version, SHORTEST_HEADER, VERSIONS};
 
 pub struct Headers {
@@ -48,6 +49,7 @@ fn made(chance: &mut Chance, case: HeaderCase) -> Vec<u8> {
         } => with_field(chance, known(version), field, value),
         Behind { version, bytes } => behind(chance, known(version), bytes),
         Full { version, past } => full(chance, known(version), past),
+        Hull { version, hull } => hulls::sheet(chance, known(version), hull),
     }
 }
 
@@ -71,12 +73,19 @@ fn unknown(chance: &mut Chance, version: i128, short: bool) -> Vec<u8> {
     sheet
 }
 
+/// Whatever the value, the hull is not too slender: it is deep, or in still water.
 fn with_field(chance: &mut Chance, version: &Version, field: usize, value: i128) -> Vec<u8> {
-    let mut draft = match version.layout[field - 1].0 {
+    let name = version.layout[field - 1].0;
+    let mut draft = match name {
         "n" => sound_in(chance, version, value.min(version.n_highest)),
         _ => few_records(chance, version),
     };
     draft.header.values[field - 1] = value;
+    match name {
+        "L" | "H" if version.has_depth() => draft.header.set("depth", 1000),
+        "depth" => draft.header.set("H", 0),
+        _ => {}
+    }
     draft.bytes()
 }
 

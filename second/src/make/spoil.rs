@@ -3,8 +3,10 @@
 
 use super::chance::Chance;
 use super::draft::Draft;
+use super::vessel;
 use crate::form::{record_layout, Form};
-use crate::limits::{in_header, in_record, Allowed};
+use crate::hull_case::FaultsBehind;
+use crate::limits::{in_header, in_record, Allowed, T_HIGHEST};
 use crate::version::{Version, VERSIONS};
 
 /// Values the kind field can hold and no record has.
@@ -62,7 +64,7 @@ pub fn draft(chance: &mut Chance, draft: &mut Draft) {
         return;
     };
     let last = draft.records.len() - 1;
-    match chance.below(8) {
+    match chance.below(9) {
         0 => draft.records.swap(index, last),
         1 => draft.records.reverse(),
         2 => {
@@ -76,6 +78,7 @@ pub fn draft(chance: &mut Chance, draft: &mut Draft) {
         6 => draft
             .header
             .set("version", *chance.of(&[0, 1, 2, 3, 8, 9, 15])),
+        7 if draft.header.has("depth") => vessel::make_slender(chance, &mut draft.header),
         _ => field_to_an_end(chance, draft),
     }
 }
@@ -89,6 +92,30 @@ pub fn last_record(chance: &mut Chance, draft: &mut Draft) {
         0 => spoil_kind(chance, last),
         1 => last.set("id", 1),
         _ => record_field_to_an_end(chance, last),
+    }
+}
+
+/// The bytes of a sheet of three records or more with these faults behind its header:
+/// where the last record is cut, the fault of the second is still there.
+pub fn behind_the_header(chance: &mut Chance, mut draft: Draft, faults: FaultsBehind) -> Vec<u8> {
+    if faults.faulty_record {
+        second_record(chance, &mut draft);
+    }
+    let mut bytes = draft.bytes();
+    if faults.wrong_length {
+        wrong_length(chance, &mut bytes);
+    }
+    bytes
+}
+
+/// For certain: its kind, a field or its order.
+fn second_record(chance: &mut Chance, draft: &mut Draft) {
+    let before = draft.records[0].get("id");
+    let record = &mut draft.records[1];
+    match chance.below(3) {
+        0 => record.set("kind", *chance.of(&NO_KINDS)),
+        1 => record.set("T", *chance.of(&[0, T_HIGHEST + 1])),
+        _ => record.set("id", before),
     }
 }
 
@@ -121,6 +148,22 @@ fn wrong_count(chance: &mut Chance, header: &mut Form) {
     header.set("n", wrong.clamp(0, 511));
 }
 
+/// By up to a record and a byte.
+fn wrong_length(chance: &mut Chance, bytes: &mut Vec<u8>) {
+    if chance.one_in(2) {
+        let less = *chance.of(&[1, 15, 16]);
+        bytes.truncate(bytes.len() - less);
+    } else {
+        lengthen(chance, bytes);
+    }
+}
+
+fn lengthen(chance: &mut Chance, bytes: &mut Vec<u8>) {
+    for _ in 0..*chance.of(&[1, 15, 16, 17]) {
+        bytes.push(chance.byte());
+    }
+}
+
 /// Spoils packed bytes: cut, lengthened, or some bits turned.
 pub fn bytes(chance: &mut Chance, bytes: &mut Vec<u8>) {
     match chance.below(5) {
@@ -129,11 +172,7 @@ pub fn bytes(chance: &mut Chance, bytes: &mut Vec<u8>) {
             bytes.truncate(chance.below(header));
         }
         1 => bytes.truncate(chance.below(bytes.len().max(1))),
-        2 => {
-            for _ in 0..*chance.of(&[1, 15, 16, 17]) {
-                bytes.push(chance.byte());
-            }
-        }
+        2 => lengthen(chance, bytes),
         _ => {
             for _ in 0..*chance.of(&[1, 1, 2, 5]) {
                 if bytes.is_empty() {

@@ -2,7 +2,8 @@
 
 use super::chance::Chance;
 use crate::form::Form;
-use crate::limits::WAVE_HEIGHTS;
+use crate::limits::{in_header, WAVE_HEIGHTS};
+use crate::slender::greatest_ratio;
 use crate::version::Version;
 
 /// A header that no check turns away; its count is still to be filled in.
@@ -20,7 +21,11 @@ pub fn header(chance: &mut Chance, version: &Version) -> Form {
     let mut header = Form::filled(version.layout, &fields);
     if header.has("ZDB") {
         let (ZB, ZDB) = two_moduli(chance, M, ZB);
-        header.fill(&[("ZB", ZB), ("ZDB", ZDB), ("depth", depth(chance))]);
+        header.fill(&[("ZB", ZB), ("ZDB", ZDB)]);
+    }
+    if header.has("depth") {
+        let depth = depth(chance, &header);
+        header.set("depth", depth);
     }
     header
 }
@@ -106,11 +111,32 @@ fn two_moduli(chance: &mut Chance, M: i128, modulus: i128) -> (i128, i128) {
     *chance.of(&[(modulus, other), (other, modulus)])
 }
 
-fn depth(chance: &mut Chance) -> i128 {
-    match chance.below(3) {
-        0 => *chance.of(&[100, 101, 999, 1000]),
-        _ => chance.between(100, 1000),
+/// The least depth with which the hull is not too slender.
+fn least_depth(header: &Form) -> i128 {
+    match greatest_ratio(header.get("H")) {
+        Some(ratio) => (header.get("L") + ratio - 1) / ratio,
+        None => in_header(header, "depth").lowest(),
     }
+}
+
+/// Of a hull as slender as it may be, a little or far less slender.
+fn depth(chance: &mut Chance, header: &Form) -> i128 {
+    let least = least_depth(header);
+    match chance.below(3) {
+        0 => *chance.of(&[least, least + 1, 999, 1000]),
+        _ => chance.between(least, 1000),
+    }
+}
+
+/// Takes so much off the depth that the hull is too slender: a centimetre too much, or
+/// more.
+pub fn make_slender(chance: &mut Chance, header: &mut Form) {
+    if header.get("H") == 0 {
+        header.set("H", *chance.of(&WAVE_HEIGHTS[1..]));
+    }
+    let too_little = least_depth(header) - 1;
+    let any = chance.between(in_header(header, "depth").lowest(), too_little);
+    header.set("depth", *chance.of(&[too_little, any]));
 }
 
 /// A moment and a modulus from 1,000,000 cm3 up that give R, as a rule after

@@ -3,7 +3,7 @@
 use super::chance::Chance;
 use super::draft::Draft;
 use super::{record, vessel};
-use crate::form::RECORD_BYTES;
+use crate::form::{Form, RECORD_BYTES};
 use crate::limits::ID_HIGHEST;
 use crate::version::{Version, VERSIONS};
 
@@ -35,7 +35,12 @@ pub fn full(chance: &mut Chance) -> Draft {
 
 /// A sound sheet of this version.
 pub fn sound_in(chance: &mut Chance, version: &Version, n: i128) -> Draft {
-    let mut header = vessel::header(chance, version);
+    let header = vessel::header(chance, version);
+    of_vessel(chance, header, n)
+}
+
+/// A sheet of this vessel with `n` sound records.
+pub fn of_vessel(chance: &mut Chance, mut header: Form, n: i128) -> Draft {
     header.set("n", n);
     let ids = rising_ids(chance, n);
     let records = ids

@@ -1,6 +1,6 @@
 //! Vessel V of the document and records to hang on it.
 //! Each test file takes what it needs of these.
-#![allow(dead_code)]
+#![allow(dead_code, non_snake_case)]
 
 use second::form::{Form, MEMBER, PLATE, RECORD_NUMBERS};
 use second::rules::demands;
@@ -30,6 +30,11 @@ pub fn vessel_v() -> Form {
 /// The same in version 2, with ZDB 800,000 (R 25,000 at the inner bottom), depth 300.
 pub fn vessel_v2() -> Form {
     with(&vessel_in(2), &[("ZDB", 800_000), ("depth", 300)])
+}
+
+/// Vessel V in version 2 with another hull, in cm.
+pub fn hull(L: i128, H: i128, depth: i128) -> Form {
+    with(&vessel_v2(), &[("L", L), ("H", H), ("depth", depth)])
 }
 
 pub fn vessels() -> [Form; 2] {
