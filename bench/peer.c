@@ -5,7 +5,7 @@
 typedef unsigned __int128 u128;
 
 typedef struct {
-    uint32_t bytes, length, draught, wave, two_runs, moment, modulus, inner_modulus, count;
+    uint32_t bytes, length, draught, wave, two_runs, moment, modulus, inner_modulus, depth, count;
 } Header;
 
 typedef struct {
@@ -29,11 +29,12 @@ static int outside(uint32_t x, uint32_t low, uint32_t high) { return x < low || 
 
 static uint64_t refused(uint64_t number, uint64_t place) { return number << 40 | place; }
 
-// What version 2 has past the fields of version 1; a depth counts nowhere.
-static uint64_t read_inner_bottom(uint64_t own, Header *h) {
+// What version 2 has past the fields of version 1.
+static uint64_t read_own(uint64_t own, Header *h) {
     h->inner_modulus = own >> 37;
+    h->depth = own >> 27 & 1023;
     if (outside(h->inner_modulus, 1, 100000000)) return refused(3, 10);
-    if (outside(own >> 27 & 1023, 100, 1000)) return refused(3, 11);
+    if (outside(h->depth, 100, 1000)) return refused(3, 11);
     return own & 134217727 ? refused(3, 12) : 0;
 }
 
@@ -59,8 +60,12 @@ static uint64_t read_header(const uint8_t *s, uint64_t len, Header *h) {
     if (h->count > 400) return refused(3, 8);
     if (lo & 7) return refused(3, 9);
     h->inner_modulus = h->modulus;
-    return version == 1 ? 0 : read_inner_bottom(word(s + 12), h);
+    h->depth = 0;
+    return version == 1 ? 0 : read_own(word(s + 12), h);
 }
+
+// Longer than so many times the depth, which is 0 where the version has none; in still water any length will do.
+static int too_slender(const Header *h) { return h->depth && h->wave && h->length > (h->wave == 60 ? 35 : 25) * h->depth; }
 
 static int plate_fault(const Record *r, uint32_t zero) {
     int lengthwise = r->kind == 2 || r->kind == 4;
@@ -237,6 +242,7 @@ uint64_t peer_check(const uint8_t *sheet, uint64_t sheet_len, uint8_t *out, uint
     Header h;
     uint64_t fault = read_header(sheet, sheet_len, &h);
     if (fault) return fault;
+    if (too_slender(&h)) return refused(9, 0);
     if (sheet_len != h.bytes + 16ull * h.count) return refused(4, 0);
     if (out_len < 4ull * h.count) return refused(5, 0);
     const uint8_t *records = sheet + h.bytes;

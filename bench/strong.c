@@ -214,7 +214,7 @@ uint64_t strong_check(const uint8_t *sheet, uint64_t sheet_len, uint8_t *to, uin
         own = word(sheet + 12);
     }
     uint64_t L = hi >> 46 & 16383, D = hi >> 36 & 1023, W = hi >> 28 & 255, two = hi >> 27 & 1, M = hi >> 7 & 1048575,
-             Z = (hi & 127) << 20 | lo >> 12, ZD = version == 1 ? Z : own >> 37, n = lo >> 3 & 511;
+             Z = (hi & 127) << 20 | lo >> 12, ZD = version == 1 ? Z : own >> 37, depth = own >> 27 & 1023, n = lo >> 3 & 511;
     if (out(L, 4000, 13500)) return refused(3, 2);
     if (out(D, 1, 1000)) return refused(3, 3);
     if (W != 0 && W != 60 && W != 120) return refused(3, 4);
@@ -224,8 +224,9 @@ uint64_t strong_check(const uint8_t *sheet, uint64_t sheet_len, uint8_t *to, uin
     if (lo & 7) return refused(3, 9);
     if (version == 2) {
         if (out(ZD, 1, 100000000)) return refused(3, 10);
-        if (out(own >> 27 & 1023, 100, 1000)) return refused(3, 11);
+        if (out(depth, 100, 1000)) return refused(3, 11);
         if (own & 134217727) return refused(3, 12);
+        if (W && L > (W == 60 ? 35 : 25) * depth) return refused(9, 0);
     }
     if (sheet_len != header + 16 * n) return refused(4, 0);
     if (out_len < 4 * n) return refused(5, 0);
