@@ -10,7 +10,7 @@ use super::quiet::{quiet_header, quiet_member, quiet_plate};
 use super::side::at_edge;
 use super::side::Side::{self, Meets, Misses};
 use crate::form::Form;
-use crate::limits::{A_HIGHEST, T_HIGHEST, W_HIGHEST};
+use crate::limits::{A_HIGHEST, T_HIGHEST, WAVE_HEIGHTS, W_HIGHEST};
 use crate::loads::{hull_stress, line_load, member_pressure, panel_factor, plate_pressure};
 use crate::make::chance::Chance;
 use crate::make::record::panel;
@@ -150,7 +150,7 @@ fn press(chance: &mut Chance, header: &mut Form, plate: &mut Form, P: i128) -> b
     plate.set("ballast", 1);
     let first = chance.between(1, 1000);
     for D0 in (first..=1000).chain(1..first) {
-        for H in [0, 60, 120] {
+        for H in WAVE_HEIGHTS {
             header.set("D0", D0);
             header.set("H", H);
             let head = (P + (14_715 * D0 - 50_031 * H).max(0)) / 98_100 - 100;
@@ -172,16 +172,30 @@ fn press(chance: &mut Chance, header: &mut Form, plate: &mut Form, P: i128) -> b
     false
 }
 
-/// Brings R to the number, as a rule with R rounded up.
+/// Brings R to the number: as it is, rounded up, or rounded up as far as can be.
 fn stress(chance: &mut Chance, header: &mut Form, kind: i128, R: i128) -> bool {
     if !(1..=210_000).contains(&R) {
         return false;
     }
     let rounded = aimed_at(chance, R);
-    let (M, ZB) = *chance.of(&[(R, 1_000_000), rounded]);
+    let either = *chance.of(&[(R, 1_000_000), rounded]);
+    let (M, ZB) = rounded_furthest(R).unwrap_or(either);
     header.set("M", M);
     header.set("ZB", ZB);
     hull_stress(&Header::of(header), kind) == R
+}
+
+/// A moment and a modulus with 1,000,000 M one above a multiple of ZB, so that R is
+/// rounded up from just above R - 1. It takes an inverse of R - 1 by 1,000,000: its
+/// power to 49,999, if it is prime to 10.
+fn rounded_furthest(R: i128) -> Option<(i128, i128)> {
+    let below = R - 1;
+    if below % 2 == 0 || below % 5 == 0 {
+        return None;
+    }
+    let inverse = (0..49_999).fold(1, |power, _| power * below % 1_000_000);
+    let ZB = 1_000_000 - inverse;
+    Some(((below * ZB + 1) / 1_000_000, ZB))
 }
 
 /// Rule 3 as it stands for all four kinds.
@@ -311,7 +325,7 @@ const MOST_Q: i128 = 416_415;
 
 /// Brings the line load on a member to q, if there is a way.
 fn load(chance: &mut Chance, header: &mut Form, member: &mut Form, q: i128) -> bool {
-    let (H, runs) = (*chance.of(&[0, 60, 120]), chance.between(0, 1));
+    let (H, runs) = (*chance.of(&WAVE_HEIGHTS), chance.between(0, 1));
     header.set("H", H);
     header.set("runs", runs);
     let first = chance.between(1, 1000);
