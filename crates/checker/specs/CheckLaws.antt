@@ -20,7 +20,7 @@ use Rattle.sheet.specs.Record.{readRecord}
 use Rattle.checker.specs.declared.Entry.{Entry}
 use Rattle.checker.specs.Entry.{entryBytes, readEntry}
 use Rattle.checker.specs.EntryLaws.{bytes-read}
-use Rattle.checker.specs.ThenLaws.{then-given, demand-given}
+use Rattle.checker.specs.ThenLaws.{then-given, demand-given, not-true}
 use Rattle.checker.specs.Check.{_then_, demand, sheetHeader, sheetSize, headerFor, recordsPart, recordPart, recordOf, partsFrom, soundAfter, recordsIn, Sheet, sheetIn, entryOf, verdicts, bytesOf, failures, Totals, answerOf, outputBy, outputOf}
 use Rattle.sheet.specs.RecordBack.{record-read-fine}
 use Rattle.checker.specs.Sound.{entry-sound}
@@ -41,11 +41,7 @@ header-slim s h e =
     let a = then-given (readHeader s) _ h e in
     let b = then-given (demand (not (tooSlender (a .0))) 9) _ h (a .2) in
     let same : a .0 ≡ h = given-same (b .2) in
-    (a .1 ∙ ap given same, ap (λ (g : Header). tooSlender g) (sym same) ∙ go (tooSlender (a .0)) (demand-given (not (tooSlender (a .0))) 9 (b .0) (b .1)))
-  where
-    go : (t : Bool) → not t ≡ true → t ≡ false
-    go true f = sym f
-    go false f = refl
+    (a .1 ∙ ap given same, ap (λ (g : Header). tooSlender g) (sym same) ∙ not-true (tooSlender (a .0)) (demand-given (not (tooSlender (a .0))) 9 (b .0) (b .1)))
 
 -- and of what is read so it is given
 pub slim-header : (s : List ℕ) (h : Header) → readHeader s ≡ given h → tooSlender h ≡ false → sheetHeader s ≡ given h

@@ -1,8 +1,8 @@
 -- The table's rows on the header and the lengths: 1 to 5 and 9. What is refused there is one of them, and where none holds the header is given.
 -- Assumes nothing.
 use Prim.Native.Nat.{ℕ, _+_, _*_, _<_}
-use mathlib.Core.Path.{_≡_, refl, sym, ap, subst, _∙_}
-use mathlib.Core.Bool.{Bool, true, false, not}
+use mathlib.Core.Path.{_≡_, sym, ap, subst, _∙_}
+use mathlib.Core.Bool.{Bool, false, not}
 use mathlib.Core.List.{List}
 use native.Mathlib.Omega.{arith}
 use native.Mathlib.Decide.{decLt, ℕ-discrete}
@@ -18,7 +18,7 @@ use Rattle.sheet.specs.Header.{headerSize, versionField, versionIn, headerOf, r
 use Rattle.sheet.specs.Slender.{tooSlender}
 use Rattle.sheet.specs.HeaderExactly.{header-read-1, header-read-2, header-read-3, header-read-others}
 use Rattle.checker.specs.Check.{_then_, demand, sheetHeader, sheetSize, headerFor}
-use Rattle.checker.specs.ThenLaws.{By, first, later, by, demanded, demand-given}
+use Rattle.checker.specs.ThenLaws.{By, first, later, by, demanded, demand-given, not-false}
 use Rattle.checker.specs.CheckLaws.{header-slim, slim-header, HeaderFits}
 use Rattle.demands.specs.Table.{headSize, countOf, sheetEnd, HeaderSound, TooSlender, Fits, Row, sheet-short, version, header-short, header-field, slender, sheet-length, output-short}
 use Rattle.demands.specs.FieldsRead.{size-read, header-sound, header-given, slender-read, slim-read}
@@ -69,11 +69,7 @@ module _ (s : List ℕ) (room : ℕ) where
 
       -- row 9
       slender-row : demand (not (tooSlender h)) 9 ≡ refused k p → Row s room k p
-      slender-row e = demand-row (not (tooSlender h)) 9 e (λ f. slender sound (slender-read s sound .0 (ap (λ (g : Header). tooSlender g) its-header ∙ go (tooSlender h) f)))
-        where
-          go : (t : Bool) → not t ≡ false → t ≡ true
-          go true f = refl
-          go false f = sym f
+      slender-row e = demand-row (not (tooSlender h)) 9 e (λ f. slender sound (slender-read s sound .0 (ap (λ (g : Header). tooSlender g) its-header ∙ not-false (tooSlender h) f)))
 
       -- rows 4 and 5
       module _ (slim : tooSlender h ≡ false) where

@@ -22,7 +22,7 @@ use Rattle.sheet.specs.Record.{readRecord}
 use Rattle.sheet.specs.Exactly.{Exactly}
 use Rattle.sheet.specs.RecordExactly.{record-read-1, record-read-others}
 use Rattle.checker.specs.Check.{_then_, demand, sheetHeader, sheetSize, headerFor, recordsPart, partsFrom, soundAfter, recordsIn, sheetIn}
-use Rattle.checker.specs.ThenLaws.{refused-as}
+use Rattle.checker.specs.ThenLaws.{refused-as, not-false}
 use Rattle.checker.specs.CheckLaws.{header-slim, header-fits}
 use Rattle.checker.specs.Unjudged.{room, soundSheet}
 use Rattle.edit.specs.Parts.{Wide, parts-wide}
@@ -69,13 +69,9 @@ header-not : (m : ℕ) (s : List ℕ) → ((h : Header) → readHeader s ≡ giv
 unfolding headerFor sheetHeader
 header-not m s o n f g =
     then-not m (sheetHeader s) _
-    (then-not m (readHeader s) _ f (λ h e. then-not m (demand (not (tooSlender h)) 9) _ (demand-not m _ 9 (λ x z. o h e (slender (tooSlender h) x) (sym z))) (λ u w p q. given-refused q)))
+    (then-not m (readHeader s) _ f (λ h e. then-not m (demand (not (tooSlender h)) 9) _ (demand-not m _ 9 (λ x z. o h e (not-false (tooSlender h) x) (sym z))) (λ u w p q. given-refused q)))
     (λ h e. then-not m (demand (eqb (length s) (sheetSize h)) 4) _ (demand-not m _ 4 (λ x z. n (sym z)))
     (λ u w. then-not m (demand (leb (4 * h .count) room) 5) _ (demand-not m _ 5 (λ x z. g h (header-slim s h e .0) x (sym z))) (λ v y p q. given-refused q)))
-  where
-    slender : (t : Bool) → not t ≡ false → t ≡ true
-    slender true f = refl
-    slender false f = sym f
 
 -- a sheet whose header is read is not refused with 1
 pub headed-not : (s : List ℕ) (g : Header) → readHeader s ≡ given g → Not 1 (soundSheet s)

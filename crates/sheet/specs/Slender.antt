@@ -19,5 +19,6 @@ abbrev pub beyondOwn : (L H : ℕ) → Own → Bool
 beyondOwn L H One = false
 beyondOwn L H (Two s) = beyondOf L (s .depth .0) H
 
+-- the hull of a header is too slender
 abbrev pub tooSlender : Header → Bool
 tooSlender h = beyondOwn (h .length .0) (h .wave .0) (h .own)
