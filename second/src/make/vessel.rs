@@ -145,3 +145,26 @@ pub fn aimed_at(chance: &mut Chance, R: i128) -> (i128, i128) {
     let ZB = chance.between(1_000_000, 4_700_000);
     (R * ZB / 1_000_000, ZB)
 }
+
+#[cfg(test)]
+mod tests {
+    use super::*;
+    use crate::sheet::read_header;
+    use crate::slender::is_too_slender;
+    use crate::version::VERSIONS;
+
+    #[test]
+    fn a_hull_is_too_slender_only_where_it_is_made_so() {
+        let mut chance = Chance::new(6);
+        let is_slender =
+            |header: &Form| is_too_slender(&read_header(&header.pack()).expect("sound"));
+        for version in VERSIONS.iter().cycle().take(2000) {
+            let mut header = header(&mut chance, version);
+            assert!(!is_slender(&header));
+            if version.has_depth() {
+                make_slender(&mut chance, &mut header);
+                assert!(is_slender(&header));
+            }
+        }
+    }
+}
