@@ -34,7 +34,7 @@ uint64_t yard_check(const uint8_t *sheet, uint64_t sheet_len, uint8_t *out, uint
 /* Reads the header in the first bytes, twelve of version 1 and twenty of version 2: 0, and fields are version, L, D0, H, runs (0 one, 1 two), M, ZB, n,
    ZDB, depth; the last two are 0 in version 1, which has neither. Refused: 1 under twelve bytes, 2 for another version, 1 for version 2 under twenty bytes;
    then 3 at the first field that is outside its values, ZDB being field 10, depth 11, the 27 zero bits 12, and the three after n field 9 in both versions.
-   A hull that is too slender is no matter of a header alone. Lend room for ten numbers: programs that lent eight must be built anew. */
+   Whether the hull is too slender is not asked of a header alone. Lend room for ten numbers: programs that lent eight must be built anew. */
 uint64_t yard_read_header(const uint8_t *bytes, uint64_t bytes_len, uint32_t fields[10]);
 
 /* Writes the header that the ten fields are into the first bytes of out, twelve or twenty by its version, and into no others: 0. Refused: 5 under twelve

@@ -129,14 +129,19 @@ static void read_record(const char *name, uint64_t length) { read_as(name, YARD_
 
 static void read_verdict(const char *name, uint64_t length) { read_as(name, YARD_VERDICT_FIELDS, yard_read_verdict, length); }
 
+/* What the test is made of must be written: its answers are 0. */
+static void written(const char *what, uint64_t answers) {
+  if (answers != 0) {
+    printf("%s: not written\n", what);
+    exit(1);
+  }
+}
+
 /* The example of the scope: a vessel with a plate and a longitudinal. */
 static void example(void) {
   uint8_t *first = sheet + YARD_HEADER_1_BYTES, *second = first + YARD_RECORD_BYTES;
   clear_sheet();
-  if (yard_write_header(vessel, sheet, 44) | yard_write_record(plate, first, 32) | yard_write_record(member, second, YARD_RECORD_BYTES)) {
-    printf("the example was not written\n");
-    exit(1);
-  }
+  written("example", yard_write_header(vessel, sheet, 44) | yard_write_record(plate, first, 32) | yard_write_record(member, second, YARD_RECORD_BYTES));
 }
 
 static void headers(void) {
@@ -184,10 +189,7 @@ static void bottoms(const uint32_t *numbers) {
   uint64_t bytes = header_bytes(numbers);
   uint8_t *first = sheet + bytes, *second = first + YARD_RECORD_BYTES;
   clear_sheet();
-  if (yard_write_header(numbers, sheet, bytes) | yard_write_record(plate, first, YARD_RECORD_BYTES) | yard_write_record(inner, second, YARD_RECORD_BYTES)) {
-    printf("the two bottoms were not written\n");
-    exit(1);
-  }
+  written("two bottoms", yard_write_header(numbers, sheet, bytes) | yard_write_record(plate, first, YARD_RECORD_BYTES) | yard_write_record(inner, second, YARD_RECORD_BYTES));
 }
 
 static void headers_written_in_2(void) {
@@ -311,10 +313,7 @@ static void ballast(void) {
   record_with(plate, 5, 617);
   damaged[8] = 1;
   damaged[9] = 400;
-  if (yard_write_record(damaged, sheet + YARD_HEADER_1_BYTES, YARD_RECORD_BYTES)) {
-    printf("the plate with ballast was not written\n");
-    exit(1);
-  }
+  written("plate with ballast", yard_write_record(damaged, sheet + YARD_HEADER_1_BYTES, YARD_RECORD_BYTES));
 }
 
 static void sheets(void) {
@@ -376,19 +375,16 @@ static void sheets_in_2(void) {
 static void hull_of(const char *name, uint32_t L, uint32_t H, uint32_t depth) {
   uint32_t numbers[YARD_HEADER_FIELDS] = {2, L, 250, H, 0, 20000, 200000, 0, 400000, depth};
   clear_sheet();
-  if (yard_write_header(numbers, sheet, YARD_HEADER_2_BYTES)) {
-    printf("the header of a hull was not written\n");
-    exit(1);
-  }
+  written(name, yard_write_header(numbers, sheet, YARD_HEADER_2_BYTES));
   check(name, YARD_HEADER_2_BYTES, 0);
 }
 
-/* A hull may be 35 depths long at H 60 and 25 at H 120; then a header alone is fine, and the sheet is refused after a faulty field and before all else. */
+/* A hull may be 35 depths long at H 60 and 25 at H 120. Beyond that a header alone is still fine; the sheet is refused, after 1 and 3 and before all else. */
 static void slender_hulls(void) {
   hull_of("35 depths at H 60", 7980, 60, 228);
-  hull_of("a centimetre more", 7981, 60, 228);
+  hull_of("35 depths and a centimetre at H 60", 7981, 60, 228);
   hull_of("25 depths at H 120", 8000, 120, 320);
-  hull_of("a centimetre more", 8001, 120, 320);
+  hull_of("25 depths and a centimetre at H 120", 8001, 120, 320);
   hull_of("35 depths at H 120", 7980, 120, 228);
   hull_of("135 depths at H 0", 13500, 0, 100);
   bottoms(header_with(vessel_2, 9, 229));
@@ -456,10 +452,7 @@ static uint64_t lay(uint8_t *bytes, const int *numbers) {
   uint64_t answer = 0;
   for (; numbers[count]; count++) answer |= yard_write_record(numbered(numbers[count]), bytes + long_with(count), YARD_RECORD_BYTES);
   answer |= yard_write_header(header_with(hull, 7, count), bytes, long_with(0));
-  if (answer != 0) {
-    printf("a sheet to edit was not written\n");
-    exit(1);
-  }
+  written("sheet to edit", answer);
   return long_with(count);
 }
 

@@ -52,7 +52,7 @@ fn limits() -> BTreeSet<i128> {
     limits.collect()
 }
 
-/// Every limit in waves of every height, so that it shows where another one is tested.
+/// Every limit in waves of every height, so that a test against the wrong one shows.
 fn at_limits() -> Vec<HullCase> {
     let mut cases = Vec::new();
     for H in WAVE_HEIGHTS {

@@ -18,7 +18,8 @@ use Rattle.sheet.specs.HeaderBack.{header-read-fine}
 use Rattle.checker.specs.declared.Checked.the-variants.{Done, Refused as notDone}
 use Rattle.checker.specs.Check.{_then_, headerFor, recordsPart, partsFrom, recordsIn, Sheet, sheetIn, entryOf, verdicts, bytesOf, answerOf, Checks}
 use Rattle.checker.specs.ThenLaws.{then-given}
-use Rattle.checker.specs.CheckLaws.{header-fits, taken, bytes-length, answer-done, output-done, refused-as-lent}
+use Rattle.checker.specs.FrontLaws.{header-fits}
+use Rattle.checker.specs.CheckLaws.{taken, bytes-length, answer-done, output-done, refused-as-lent}
 use Rattle.checker.specs.Passes.{Ready, Pass, passOf, passOver}
 
 -- ---- what the table says

@@ -29,7 +29,8 @@ use Rattle.sheet.specs.HeaderExactly.{headerCases}
 use Rattle.sheet.specs.RecordExactly.{recordCases, linesAt, fieldsAt, record-by-fields}
 use Rattle.checker.specs.declared.Entry.{Entry}
 use Rattle.checker.specs.Check.{_then_, demand, sheetHeader, sheetSize, headerFor, recordsPart, recordPart, partsFrom, soundAfter, recordsIn, Sheet, sheetIn, entryOf, verdicts, failures}
-use Rattle.checker.specs.CheckLaws.{header-fits, sheet-whole}
+use Rattle.checker.specs.FrontLaws.{header-fits}
+use Rattle.checker.specs.CheckLaws.{sheet-whole}
 
 -- a number of the table, and a place within a sheet of the most records
 pub record Row (number place : ℕ) : Type 0 where

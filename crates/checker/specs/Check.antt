@@ -30,7 +30,7 @@ demand t k = cond t (given tt) (refused k 0)
 
 -- ---- when the sheet is turned away
 
--- 1, 2 and 3: reading the header; 9: too slender, which only the header of a sheet is asked
+-- 1, 2 and 3: reading the header; 9: its hull is too slender, which is asked on sheets only
 unfoldable pub sheetHeader : List ℕ → Answer Header
 sheetHeader s = readHeader s then λ h. demand (not (tooSlender h)) 9 then λ u. given h
 

@@ -2,28 +2,29 @@
 -- Assumes nothing.
 use Prim.Native.Nat.{ℕ, zero, suc, _+_, _-_, _*_, _≤_, _<_}
 use mathlib.Core.Path.{_≡_, refl, sym, ap, subst, _∙_}
-use mathlib.Core.Bool.{Bool, true, false, not, cond}
+use mathlib.Core.Bool.{Bool, true, false, cond}
 use mathlib.Core.List.{List, [], _∷_, _++_, map, append-nil}
 use native.Mathlib.Omega.{arith}
 use native.Mathlib.Nat.{add-zero}
 use lib.ListN.{length, take, drop, length-map}
 use lib.Seq.{drop-at, drop-drop}
-use lib.Dec.{leb, ltb, eqb}
-use borrow.Author.Tests.{ltb-true, leb-true, eqb-true}
+use lib.Dec.{ltb}
+use borrow.Author.Tests.{ltb-true}
 use Rattle.sheet.specs.declared.Header.{Header}
 use Rattle.sheet.specs.declared.Record.{Record}
 use Rattle.sheet.specs.Refusals.{Answer, given, refused}
 use Rattle.sheet.specs.RefusalLaws.{given-refused, given-same}
-use Rattle.sheet.specs.Header.{readHeader}
-use Rattle.sheet.specs.Slender.{tooSlender}
 use Rattle.sheet.specs.Record.{readRecord}
 use Rattle.checker.specs.declared.Entry.{Entry}
 use Rattle.checker.specs.Entry.{entryBytes, readEntry}
 use Rattle.checker.specs.EntryLaws.{bytes-read}
-use Rattle.checker.specs.ThenLaws.{then-given, demand-given, not-true}
-use Rattle.checker.specs.Check.{_then_, demand, sheetHeader, sheetSize, headerFor, recordsPart, recordPart, recordOf, partsFrom, soundAfter, recordsIn, Sheet, sheetIn, entryOf, verdicts, bytesOf, failures, Totals, answerOf, outputBy, outputOf}
+use Rattle.checker.specs.ThenLaws.{then-given}
+use Rattle.checker.specs.FrontLaws.{HeaderFits, header-fits}
+use Rattle.checker.specs.Check.{_then_, headerFor, recordsPart, recordPart, recordOf, partsFrom, soundAfter, recordsIn, Sheet, sheetIn, entryOf, verdicts, bytesOf, failures, Totals, answerOf, outputBy, outputOf}
 use Rattle.sheet.specs.RecordBack.{record-read-fine}
 use Rattle.checker.specs.Sound.{entry-sound}
+
+-- ---- where a record's bytes are
 
 -- the sixteen bytes of record i; and of record i among the bytes after the first k
 pub part-taken : (b : List ℕ) (i : ℕ) → recordPart b i ≡ take 16 (drop (16 * i) b)
@@ -31,49 +32,6 @@ part-taken b i = let e : 16 * i + 16 - 16 * i ≡ 16 = omega arith in ap (λ (n 
 
 pub part-past : (k : ℕ) (s : List ℕ) (i : ℕ) → recordPart (drop k s) i ≡ take 16 (drop (k + 16 * i) s)
 part-past k s i = part-taken (drop k s) i ∙ ap (take 16) (drop-drop (16 * i) k s)
-
--- ---- refusals 1 to 5 and 9 do not arise
-
--- the header of a sheet is read, and its hull is not too slender
-pub header-slim : (s : List ℕ) (h : Header) → sheetHeader s ≡ given h → (readHeader s ≡ given h) × (tooSlender h ≡ false)
-unfolding sheetHeader
-header-slim s h e =
-    let a = then-given (readHeader s) _ h e in
-    let b = then-given (demand (not (tooSlender (a .0))) 9) _ h (a .2) in
-    let same : a .0 ≡ h = given-same (b .2) in
-    (a .1 ∙ ap given same, ap (λ (g : Header). tooSlender g) (sym same) ∙ not-true (tooSlender (a .0)) (demand-given (not (tooSlender (a .0))) 9 (b .0) (b .1)))
-
--- and of what is read so it is given
-pub slim-header : (s : List ℕ) (h : Header) → readHeader s ≡ given h → tooSlender h ≡ false → sheetHeader s ≡ given h
-unfolding sheetHeader _then_ demand
-slim-header s h e slim = rw (e, slim)
-
--- it rests on no more than reading does
-pub header-same : (s t : List ℕ) → readHeader s ≡ readHeader t → sheetHeader s ≡ sheetHeader t
-unfolding sheetHeader
-header-same s t e = rw e
-
--- the header is read and its hull not too slender, the sheet has its length, and the output is long enough
-pub record HeaderFits (s : List ℕ) (room : ℕ) (h : Header) : Type 0 where
-  pub read : readHeader s ≡ given h
-  pub slim : tooSlender h ≡ false
-  pub whole : length s ≡ sheetSize h
-  pub fits : 4 * h .count ≤ room
-
-pub header-fits : (s : List ℕ) (room : ℕ) (h : Header) → headerFor s room ≡ given h → HeaderFits s room h
-unfolding headerFor
-header-fits s room h e =
-    let a = then-given (sheetHeader s) _ h e in
-    let b = then-given (demand (eqb (length s) (sheetSize (a .0))) 4) _ h (a .2) in
-    let c = then-given (demand (leb (4 * a .0 .count) room) 5) _ h (b .2) in
-    let same : a .0 ≡ h = given-same (c .2) in
-    let own = header-slim s h (a .1 ∙ ap given same) in
-    record {
-      read = own .0;
-      slim = own .1;
-      whole = eqb-true (length s) (sheetSize (a .0)) (demand-given (eqb (length s) (sheetSize (a .0))) 4 (b .0) (b .1)) ∙ ap (λ (g : Header). sheetSize g) same;
-      fits = omega (arith, leb-true (4 * a .0 .count) room (demand-given (leb (4 * a .0 .count) room) 5 (c .0) (c .1)), ap (λ (g : Header). g .count) same);
-    }
 
 -- ---- refusals 6 to 8 do not arise
 

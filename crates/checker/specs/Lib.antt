@@ -2,6 +2,7 @@ pub mod Entry
 pub mod EntryLaws
 pub mod Check
 pub mod ThenLaws
+pub mod FrontLaws
 pub mod Unjudged
 pub mod Passes
 pub mod Sound

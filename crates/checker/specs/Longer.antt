@@ -16,7 +16,7 @@ use Rattle.sheet.specs.Header.{versionField, versionIn}
 use Rattle.sheet.specs.HeaderFront.{read-same}
 use Rattle.sheet.specs.HeaderLaws.{header-ranges}
 use Rattle.checker.specs.Check.{_then_, demand, sheetHeader, sheetSize, headerFor, Sheet, sheetIn, outputBy, outputOf, answerOf}
-use Rattle.checker.specs.CheckLaws.{header-slim, header-same}
+use Rattle.checker.specs.FrontLaws.{header-slim, header-same}
 use Rattle.sheet.specs.HeaderBack.{header-read-fine}
 
 -- one byte more than the longest sheet has

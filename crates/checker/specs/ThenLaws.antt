@@ -2,7 +2,7 @@
 -- Assumes nothing.
 use Prim.Native.Nat.{ℕ}
 use mathlib.Core.Path.{_≡_, refl, sym, ap₂}
-use mathlib.Core.Bool.{Bool, true, false, not}
+use mathlib.Core.Bool.{Bool, true, false}
 use Rattle.sheet.specs.Refusals.{Answer, given, refused}
 use Rattle.sheet.specs.RefusalLaws.{given-refused, refused-number, refused-place}
 use Rattle.checker.specs.Check.{_then_, demand}
@@ -17,15 +17,6 @@ pub demand-given : (t : Bool) (k : ℕ) (u : Unit {0}) → demand t k ≡ given 
 unfolding demand
 demand-given true k u e = refl
 demand-given false k u e = given-refused (sym e)
-
--- a test that must not hold
-pub not-true : (t : Bool) → not t ≡ true → t ≡ false
-not-true true e = sym e
-not-true false e = refl
-
-pub not-false : (t : Bool) → not t ≡ false → t ≡ true
-not-false true e = refl
-not-false false e = sym e
 
 -- the same refusal of something else
 pub refused-as : {A B : Type 0} {l q k p : ℕ} → _≡_ {A = Answer A} (refused l q) (refused k p) → _≡_ {A = Answer B} (refused l q) (refused k p)

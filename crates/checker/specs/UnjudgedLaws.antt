@@ -12,7 +12,7 @@ use Rattle.sheet.specs.RefusalLaws.{header-only}
 use Rattle.sheet.specs.HeaderLaws.{header-ranges}
 use Rattle.sheet.specs.HeaderBack.{header-read-fine}
 use Rattle.checker.specs.Check.{_then_, demand, sheetHeader, headerFor, sheetIn}
-use Rattle.checker.specs.CheckLaws.{header-slim}
+use Rattle.checker.specs.FrontLaws.{header-slim}
 use Rattle.checker.specs.Unjudged.{room, soundHeader}
 
 -- it gives what any longer one gives: refusal 5 does not arise

@@ -19,7 +19,7 @@ use Rattle.checker.specs.declared.Checked.the-variants.{Done}
 use Rattle.checker.specs.Entry.{entryBytes, entryFault, entryIn, readEntry}
 use Rattle.checker.specs.Check.{_then_, demand, sheetHeader, headerFor, partsFrom, soundAfter, recordsIn, sheetIn, entryOf, verdicts, bytesOf, failures}
 use Rattle.demands.specs.Table.{Row, HeaderSound}
-use Rattle.demands.specs.FieldsRead.{later-version}
+use Rattle.demands.specs.SlenderRead.{later-version}
 use Rattle.demands.specs.Program.{Program, fourAt, Leaves}
 use Rattle.demands.specs.Raise.{raisedBy, raisedTimes, withScantling, InGauge, meetsRule}
 use Rattle.demands.specs.Demands.{Third, Demands}
@@ -32,7 +32,7 @@ use Rattle.demands.specs.ShutOut.{checker-meets, checker-demands}
 use Rattle.demands.specs.Only.{demands-only}
 use Rattle.demands.specs.Example.{example, light, stressed, flooded, bare, lent, row-by-row, two-not-enough}
 
--- each row of the table holds for a sheet
+-- each row of the table but 9, which has sheets of its own, holds for a sheet
 pub each-row : Row (take 11 example) 9 1 0
     × Row (set example 0 55) 9 2 0
     × Row (set example 4 208) 9 3 4
@@ -57,7 +57,7 @@ bare-sound : HeaderSound bare
 bare-sound = record { long = lit≤ tt; fields = (refl, (refl, (refl, (refl, (refl, (refl, (refl, (refl, (refl, tt))))))))) }
 
 pub bare-accepted : (P : Program) → Demands P → (out : List ℕ) → (P .answer bare out ≡ Done 0 0) × (P .after bare out ≡ out)
-bare-accepted P d out = d .first bare out .none-judged refl bare-sound (λ z. omega (arith, later-version bare bare-sound z)) refl
+bare-accepted P d out = d .first bare out .none-judged refl bare-sound (λ z. omega (arith, later-version bare z)) refl
 
 -- what the checker answers and leaves on a sheet with a number and on one with none
 checker-numbers : (checker .answer example lent ≡ Done 2 2) × Leaves checker example lent 0 (record { id = 7; rule = 3; required = 617; source = 0 })

@@ -2,26 +2,22 @@
 -- Assumes nothing.
 use Prim.Native.Nat.{ℕ, _+_, _*_, _≤_}
 use mathlib.Core.Path.{_≡_, refl, sym, ap, subst, _∙_}
-use mathlib.Core.Bool.{Bool, true, false, cond, _||_}
-use mathlib.Core.List.{List, _++_}
+use mathlib.Core.Bool.{Bool, true, false, cond}
+use mathlib.Core.List.{List}
 use native.Mathlib.Omega.{arith}
 use lib.ListN.{length, getD, take, drop, length-drop}
 use lib.Seq.{length-take-le, take-take}
-use lib.Dec.{ltb, eqb}
-use borrow.Author.Tests.{lt-ltb, ltb-true, ne-eqb, eqb-true}
-use Rattle.quantity.specs.Range.{within, from}
+use lib.Dec.{ltb}
+use Rattle.quantity.specs.Range.{from}
 use Rattle.layout.specs.Layout.{pack, unpack, bytes}
-use Rattle.layout.specs.Line.{among, Allowed}
-use Rattle.layout.specs.LineLaws.{clash, low-high}
+use Rattle.layout.specs.Line.{Allowed}
+use Rattle.layout.specs.LineLaws.{low-high}
 use Rattle.sheet.specs.declared.Header.{Header}
-use Rattle.sheet.specs.declared.Own.the-variants.{One, Two}
 use Rattle.sheet.specs.declared.Record.{Record}
-use Rattle.sheet.specs.Versions.{Version, one, two, numbered}
-use Rattle.sheet.specs.Lines.{waves, plateWidths, memberWidths}
+use Rattle.sheet.specs.Versions.{Version}
+use Rattle.sheet.specs.Lines.{plateWidths, memberWidths}
 use Rattle.sheet.specs.Refusals.{given}
-use Rattle.sheet.specs.Header.{headerSize, firstFields, ownFields, versionField, headerOf, readHeader}
-use Rattle.sheet.specs.Slender.{beyondOf, beyondOwn, tooSlender}
-use Rattle.sheet.specs.Exactly.{Exactly}
+use Rattle.sheet.specs.Header.{headerSize, headerOf, readHeader}
 use Rattle.sheet.specs.HeaderBack.{read-holds}
 use Rattle.sheet.specs.HeaderExactly.{header-read-given}
 use Rattle.sheet.specs.Record.{plateRecord, memberRecord, plateLinesOf, memberLinesOf}
@@ -29,7 +25,7 @@ use Rattle.sheet.specs.RecordLaws.{recordAt}
 use Rattle.sheet.specs.RecordExactly.{numberIn, linesAt, fieldsAt, record-read-given}
 use Rattle.checker.specs.Check.{recordsPart, recordPart, recordOf}
 use Rattle.checker.specs.CheckLaws.{part-past}
-use Rattle.demands.specs.Table.{headSize, lengthOf, waveOf, depthOf, numberOf, kindOf, idOf, HeaderSound, TooSlender, at-60, from-120, RecordSound}
+use Rattle.demands.specs.Table.{headSize, numberOf, kindOf, idOf, HeaderSound, RecordSound}
 
 -- the bytes of all records: those after the header's
 abbrev pub recordsOf : List ℕ → List ℕ
@@ -49,75 +45,6 @@ module _ (s : List ℕ) where
 
   pub records-read : (h : Header) → readHeader s ≡ given h → recordsOf s ≡ recordsPart h s
   records-read h e = ap (λ (k : ℕ). drop k s) (size-read h e)
-
--- a wave height that the header may have is 0, 60, or 120 and more
-data Sea (H : ℕ) : Type 0 where
-  still : H ≡ 0 → Sea H
-  low : H ≡ 60 → Sea H
-  high : 120 ≤ H → Sea H
-
-sea-of : (H : ℕ) → among waves H ≡ true → Sea H
-sea-of H e = go (within (from 0 0) H) refl (within (from 60 60) H) refl e
-  where
-    go : (x : Bool) → within (from 0 0) H ≡ x → (y : Bool) → within (from 60 60) H ≡ y → (x || (y || within (from 120 120) H)) ≡ true → Sea H
-    go true a y b f = still (let r = low-high (from 0 0) H a in omega arith)
-    go false a true b f = low (let r = low-high (from 60 60) H b in omega arith)
-    go false a false b f = high (low-high (from 120 120) H f .0)
-
--- the hull of a sound header is too slender exactly as the table says
-module _ (s : List ℕ) (f : HeaderSound s) where
-  abbrev L : ℕ
-  L = lengthOf s
-
-  abbrev depth : ℕ
-  depth = depthOf s
-
-  -- the version is the second, or the first
-  first-version : eqb (versionField s) (two .number) ≡ false → versionField s ≡ 1
-  first-version e = let r = low-high _ (versionField s) (f .fields .0) in let n : numbered (versionField s) .number ≡ 1 = rw e in omega (arith, n, r .0, r .1)
-
-  beyond-told : 2 ≤ versionField s → beyondOf L depth (waveOf s) ≡ true → TooSlender s
-  beyond-told later e = go (sea-of (waveOf s) (f .fields .1 .1 .1 .0)) e
-    where
-      go : Sea (waveOf s) → beyondOf L depth (waveOf s) ≡ true → TooSlender s
-      go (still w) b = let none : beyondOf L depth (waveOf s) ≡ false = rw w in clash b none
-      go (low w) b = at-60 later w (ltb-true (35 * depth) L (rw w at b))
-      go (high w) b =
-          let no-still = ne-eqb (waveOf s) 0 (λ z. omega arith) in
-          let no-low = ne-eqb (waveOf s) 60 (λ z. omega arith) in
-          from-120 later w (ltb-true (25 * depth) L (rw (no-still, no-low) at b))
-
-  told-beyond : TooSlender s → beyondOf L depth (waveOf s) ≡ true
-  told-beyond (at-60 later w l) = rw (w, lt-ltb (35 * depth) L l)
-  told-beyond (from-120 later w l) =
-      rw (ne-eqb (waveOf s) 0 (λ z. omega arith), ne-eqb (waveOf s) 60 (λ z. omega arith), lt-ltb (25 * depth) L l)
-
-  pub later-version : TooSlender s → 2 ≤ versionField s
-  later-version (at-60 later w l) = later
-  later-version (from-120 later w l) = later
-
-  -- in version 2 the header's depth is the table's
-  in-second : (t : Bool) → t ≡ true
-      → beyondOwn L (waveOf s) (cond t (Two (record { «inner_modulus» = getD (ownFields (cond t two one) s) 0 0; depth = record { 0 = getD (ownFields (cond t two one) s) 1 0 } })) One)
-      ≡ beyondOf L (getD (firstFields s ++ ownFields (cond t two one) s) 10 0) (waveOf s)
-  in-second true e = refl
-  in-second false e = clash e refl
-
-  pub slender-read : Exactly (tooSlender (headerOf s) ≡ true) (TooSlender s)
-  slender-read = go (eqb (versionField s) (two .number)) refl
-    where
-      go : (t : Bool) → eqb (versionField s) (two .number) ≡ t → Exactly (tooSlender (headerOf s) ≡ true) (TooSlender s)
-      go true e =
-          let same : tooSlender (headerOf s) ≡ beyondOf L depth (waveOf s) = in-second (eqb (versionField s) (two .number)) e in
-          (λ b. beyond-told (omega (arith, eqb-true (versionField s) (two .number) e)) (sym same ∙ b), λ z. same ∙ told-beyond z)
-      go false e = (λ b. let none : tooSlender (headerOf s) ≡ false = rw e in clash b none, λ z. absurd (omega (arith, first-version e, later-version z)))
-
-  pub slim-read : (TooSlender s → ⊥) → tooSlender (headerOf s) ≡ false
-  slim-read n = go (tooSlender (headerOf s)) refl
-    where
-      go : (t : Bool) → tooSlender (headerOf s) ≡ t → tooSlender (headerOf s) ≡ false
-      go true e = absurd (n (slender-read .0 e))
-      go false e = e
 
 -- the sixteen bytes of record i, among the bytes of all records, as they are read
 module _ (s b : List ℕ) (all : recordsOf s ≡ b) (i : ℕ) where

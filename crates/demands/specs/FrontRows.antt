@@ -8,7 +8,7 @@ use native.Mathlib.Omega.{arith}
 use native.Mathlib.Decide.{decLt, ℕ-discrete}
 use lib.ListN.{length}
 use lib.Dec.{leb, eqb}
-use borrow.Author.Tests.{lt-leb, le-leb, leb-false, eq-eqb, ne-eqb, eqb-true, eqb-false}
+use borrow.Author.Tests.{not-false, leb-false, eqb-true, eqb-false}
 use Rattle.layout.specs.LineLaws.{clash}
 use Rattle.sheet.specs.declared.Header.{Header}
 use Rattle.sheet.specs.Refusals.{Answer, given, refused}
@@ -18,13 +18,18 @@ use Rattle.sheet.specs.Header.{headerSize, versionField, versionIn, headerOf, r
 use Rattle.sheet.specs.Slender.{tooSlender}
 use Rattle.sheet.specs.HeaderExactly.{header-read-1, header-read-2, header-read-3, header-read-others}
 use Rattle.checker.specs.Check.{_then_, demand, sheetHeader, sheetSize, headerFor}
-use Rattle.checker.specs.ThenLaws.{By, first, later, by, demanded, demand-given, not-false}
-use Rattle.checker.specs.CheckLaws.{header-slim, slim-header, HeaderFits}
+use Rattle.checker.specs.ThenLaws.{By, first, later, by, demanded, demand-given}
+use Rattle.checker.specs.FrontLaws.{header-slim, HeaderFits, header-slender, header-length, header-room, header-good}
 use Rattle.demands.specs.Table.{headSize, countOf, sheetEnd, HeaderSound, TooSlender, Fits, Row, sheet-short, version, header-short, header-field, slender, sheet-length, output-short}
-use Rattle.demands.specs.FieldsRead.{size-read, header-sound, header-given, slender-read, slim-read}
+use Rattle.demands.specs.FieldsRead.{size-read, header-sound, header-given}
+use Rattle.demands.specs.SlenderRead.{slender-read, slim-read}
 
 module _ (s : List ℕ) (room : ℕ) where
   -- ---- from a refusal to its row
+
+  -- a row by its number and place
+  pub row-as : (k p l q : ℕ) → k ≡ l → p ≡ q → Row s room l q → Row s room k p
+  row-as k p l q f g r = subst (λ (n : ℕ). Row s room n p) (sym f) (subst (λ (n : ℕ). Row s room l n) (sym g) r)
 
   -- row 1, for the sheet and for its header
   short-row : Under (length s) (versionField s) (versionIn s) → Row s room 1 0
@@ -35,11 +40,24 @@ module _ (s : List ℕ) (room : ℕ) where
       go (yes m) = sheet-short m
       go (no m) = header-short (omega arith) (own-number (versionField s) e) l
 
-  module _ (k p : ℕ) where
-    -- a row by its number and place
-    row-as : (l q : ℕ) → k ≡ l → p ≡ q → Row s room l q → Row s room k p
-    row-as l q f g r = subst (λ (n : ℕ). Row s room n p) (sym f) (subst (λ (n : ℕ). Row s room l n) (sym g) r)
+  -- what the table says of a header that is read
+  module _ (h : Header) (read : readHeader s ≡ given h) where
+    sound : HeaderSound s
+    sound = header-sound s h read .0
 
+    its-header : headerOf s ≡ h
+    its-header = header-sound s h read .1
+
+    its-count : countOf s ≡ h .count
+    its-count = ap (λ (g : Header). g .count) its-header
+
+    its-hull : tooSlender (headerOf s) ≡ tooSlender h
+    its-hull = ap (λ (g : Header). tooSlender g) its-header
+
+    slim-told : tooSlender h ≡ false → TooSlender s → ⊥
+    slim-told slim z = clash (slender-read s sound .1 z) (its-hull ∙ slim)
+
+  module _ (k p : ℕ) where
     -- rows 1 to 3
     header-row : readHeader s ≡ refused k p → Row s room k p
     header-row e = go (ℕ-discrete k 1) (ℕ-discrete k 2) (ℕ-discrete k 3)
@@ -48,43 +66,29 @@ module _ (s : List ℕ) (room : ℕ) where
         at l f = e ∙ ap (λ (n : ℕ). refused n p) f
 
         go : Dec (k ≡ 1) → Dec (k ≡ 2) → Dec (k ≡ 3) → Row s room k p
-        go (yes f) b c = let r = header-read-1 s p .0 (at 1 f) in row-as 1 0 f (r .1) (short-row (r .0))
-        go (no a) (yes f) c = let r = header-read-2 s p .0 (at 2 f) in row-as 2 0 f (r .2) (version (r .0) (r .1))
-        go (no a) (no b) (yes f) = let r = header-read-3 s p .0 (at 3 f) in row-as 3 (r .1 .index + 2) f (r .1 .at ∙ omega arith) (header-field (r .1 .index) (r .0) (r .1 .fault))
+        go (yes f) b c = let r = header-read-1 s p .0 (at 1 f) in row-as k p 1 0 f (r .1) (short-row (r .0))
+        go (no a) (yes f) c = let r = header-read-2 s p .0 (at 2 f) in row-as k p 2 0 f (r .2) (version (r .0) (r .1))
+        go (no a) (no b) (yes f) = let r = header-read-3 s p .0 (at 3 f) in row-as k p 3 (r .1 .index + 2) f (r .1 .at ∙ omega arith) (header-field (r .1 .index) (r .0) (r .1 .fault))
         go (no a) (no b) (no c) = absurd (header-read-others s k p a b c e)
 
     -- a row of place 0, where a test fails
     demand-row : (t : Bool) (l : ℕ) → demand t l ≡ refused k p → (t ≡ false → Row s room l 0) → Row s room k p
-    demand-row t l e row = let d = demanded t l k p e in row-as l 0 (sym (d .1)) (d .2) (row (d .0))
+    demand-row t l e row = let d = demanded t l k p e in row-as k p l 0 (sym (d .1)) (d .2) (row (d .0))
 
     module _ (h : Header) (read : readHeader s ≡ given h) where
-      sound : HeaderSound s
-      sound = header-sound s h read .0
-
-      its-header : headerOf s ≡ h
-      its-header = header-sound s h read .1
-
-      its-count : countOf s ≡ h .count
-      its-count = ap (λ (g : Header). g .count) its-header
-
-      -- row 9
       slender-row : demand (not (tooSlender h)) 9 ≡ refused k p → Row s room k p
-      slender-row e = demand-row (not (tooSlender h)) 9 e (λ f. slender sound (slender-read s sound .0 (ap (λ (g : Header). tooSlender g) its-header ∙ not-false (tooSlender h) f)))
+      slender-row e = demand-row (not (tooSlender h)) 9 e (λ f. slender (sound h read) (slender-read s (sound h read) .0 (its-hull h read ∙ not-false (tooSlender h) f)))
 
-      -- rows 4 and 5
       module _ (slim : tooSlender h ≡ false) where
-        slim-told : TooSlender s → ⊥
-        slim-told z = clash (slender-read s sound .1 z) (ap (λ (g : Header). tooSlender g) its-header ∙ slim)
-
         length-row : demand (eqb (length s) (sheetSize h)) 4 ≡ refused k p → Row s room k p
         length-row e =
             demand-row (eqb (length s) (sheetSize h)) 4 e
-            (λ f. sheet-length sound slim-told (λ w. eqb-false (length s) (sheetSize h) f (omega (arith, w, size-read s h read, its-count))))
+            (λ f. sheet-length (sound h read) (slim-told h read slim) (λ w. eqb-false (length s) (sheetSize h) f (omega (arith, w, size-read s h read, its-count h read))))
 
         room-row : length s ≡ sheetSize h → demand (leb (4 * h .count) room) 5 ≡ refused k p → Row s room k p
         room-row whole e =
             demand-row (leb (4 * h .count) room) 5 e
-            (λ f. output-short sound slim-told (omega (arith, size-read s h read, its-count)) (omega (arith, leb-false (4 * h .count) room f, its-count)))
+            (λ f. output-short (sound h read) (slim-told h read slim) (omega (arith, size-read s h read, its-count h read)) (omega (arith, leb-false (4 * h .count) room f, its-count h read)))
 
     -- rows 1 to 3 and 9
     slim-row : sheetHeader s ≡ refused k p → Row s room k p
@@ -125,45 +129,32 @@ module _ (s : List ℕ) (room : ℕ) where
   -- a header that is given: none of them holds
   pub fits-read : (h : Header) → HeaderFits s room h → Fits s room × (headerOf s ≡ h)
   fits-read h f =
-      let c = its-count 0 0 h (f .read) in (
+      let c = its-count h (f .read) in (
         record {
-          header = sound 0 0 h (f .read);
-          slim = slim-told 0 0 h (f .read) (f .slim);
+          header = sound h (f .read);
+          slim = slim-told h (f .read) (f .slim);
           whole = omega (arith, f .whole, size-read s h (f .read));
           enough = omega (arith, f .fits);
         },
-        its-header 0 0 h (f .read),
+        its-header h (f .read),
       )
 
   -- ---- from a row to its refusal
 
   module _ (f : HeaderSound s) where
-    -- the header that the fields are takes as many bytes as its version
-    size-own : headSize s ≡ headerSize (headerOf s)
-    size-own = size-read s (headerOf s) (header-given s f)
+    -- the sheet's end by the header that the fields are
+    its-end : sheetEnd s ≡ sheetSize (headerOf s)
+    its-end = let size : headSize s ≡ headerSize (headerOf s) = size-read s (headerOf s) (header-given s f) in omega arith
 
     pub slender-refused : TooSlender s → headerFor s room ≡ refused 9 0
-    unfolding headerFor sheetHeader demand _then_
-    slender-refused z = rw (header-given s f, slender-read s f .1 z)
+    slender-refused z = header-slender s room (headerOf s) (header-given s f) (slender-read s f .1 z)
 
     module _ (slim : TooSlender s → ⊥) where
-      own-header : sheetHeader s ≡ given (headerOf s)
-      own-header = slim-header s (headerOf s) (header-given s f) (slim-read s f slim)
-
       pub length-refused : (length s ≡ sheetEnd s → ⊥) → headerFor s room ≡ refused 4 0
-      unfolding headerFor demand _then_
-      length-refused n =
-          let other : length s ≡ sheetSize (headerOf s) → ⊥ = λ e. n (omega (arith, e, size-own)) in
-          rw (own-header, ne-eqb (length s) (sheetSize (headerOf s)) other)
+      length-refused n = header-length s room (headerOf s) (header-given s f) (slim-read s f slim) (λ e. n (e ∙ sym its-end))
 
       pub room-refused : length s ≡ sheetEnd s → room < 4 * countOf s → headerFor s room ≡ refused 5 0
-      unfolding headerFor demand _then_
-      room-refused whole n =
-          let same : length s ≡ sheetSize (headerOf s) = omega (arith, whole, size-own) in
-          rw (own-header, eq-eqb (length s) (sheetSize (headerOf s)) same, lt-leb (4 * countOf s) room n)
+      room-refused whole n = header-room s room (headerOf s) (header-given s f) (slim-read s f slim) (whole ∙ its-end) n
 
   pub front-given : Fits s room → headerFor s room ≡ given (headerOf s)
-  unfolding headerFor demand _then_
-  front-given f =
-      let whole : length s ≡ sheetSize (headerOf s) = omega (arith, f .whole, size-own (f .header)) in
-      rw (own-header (f .header) (f .slim), eq-eqb (length s) (sheetSize (headerOf s)) whole, le-leb (4 * countOf s) room (f .enough))
+  front-given f = header-good s room (headerOf s) (header-given s (f .header)) (slim-read s (f .header) (f .slim)) (f .whole ∙ its-end (f .header)) (f .enough)

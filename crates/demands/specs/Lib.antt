@@ -9,6 +9,7 @@ pub mod Empty
 pub mod EmptyPrograms
 -- how it is proved
 pub mod FieldsRead
+pub mod SlenderRead
 pub mod FrontRows
 pub mod Rows
 pub mod Replace

@@ -24,11 +24,12 @@ use Rattle.sheet.specs.HeaderExactly.{header-read-1, header-read-2, header-read
 use Rattle.sheet.specs.Record.{readRecord}
 use Rattle.sheet.specs.RecordLaws.{recordAt}
 use Rattle.sheet.specs.RecordExactly.{kindAt, linesAt, fieldsAt, record-read-1, record-read-6, record-read-7, record-read-others}
-use Rattle.checker.specs.Check.{_then_, sheetHeader, headerFor, recordsPart, recordPart, recordOf, partsFrom, soundAfter, recordsIn, Sheet, sheetIn, verdicts, failures, Totals, answerOf}
+use Rattle.checker.specs.Check.{_then_, headerFor, recordsPart, recordPart, recordOf, partsFrom, soundAfter, recordsIn, Sheet, sheetIn, verdicts, failures, Totals, answerOf}
 use Rattle.checker.specs.ThenLaws.{By, first, later, by, stays, goes-on}
-use Rattle.checker.specs.CheckLaws.{header-fits, sound-read, Taken, none, next, sheet-whole}
+use Rattle.checker.specs.FrontLaws.{header-fits, header-refused}
+use Rattle.checker.specs.CheckLaws.{sound-read, Taken, none, next, sheet-whole}
 use Rattle.demands.specs.Table.{headSize, countOf, numberOf, fieldsOf, linesOf, idOf, HeaderSound, RecordSound, InOrder, Fits, Reached, Row, sheet-short, version, header-short, header-field, slender, sheet-length, output-short, kind, field, order, Accepted}
-use Rattle.demands.specs.FrontRows.{front-row, fits-read, slender-refused, length-refused, room-refused, front-given}
+use Rattle.demands.specs.FrontRows.{row-as, front-row, fits-read, slender-refused, length-refused, room-refused, front-given}
 use Rattle.demands.specs.FieldsRead.{recordsOf, records-read, header-given, number-read, part-length, record-sound, record-is, record-id-field, sound-id}
 
 module _ (s : List ℕ) where
@@ -83,17 +84,14 @@ module _ (s : List ℕ) where
         at : (l : ℕ) → k ≡ l → recordOf kept i ≡ refused l p
         at l f = e ∙ ap (λ (n : ℕ). refused n p) f
 
-        back : (l q : ℕ) → k ≡ l → p ≡ q → Row s room l q → Row s room k p
-        back l q f g r = subst (λ (n : ℕ). Row s room n p) (sym f) (subst (λ (n : ℕ). Row s room l n) (sym g) r)
-
         later-row : LaterFault (λ f. 32 * i + f) (linesOf s i) (fieldsOf s i) p → k ≡ 7 → Row s room k p
-        later-row r f = back 7 (32 * i + (r .index + 2)) f (r .at ∙ omega arith) (field i (r .index) t (r .fault))
+        later-row r f = row-as s room k p 7 (32 * i + (r .index + 2)) f (r .at ∙ omega arith) (field i (r .index) t (r .fault))
 
         go : Dec (k ≡ 1) → Dec (k ≡ 6) → Dec (k ≡ 7) → Row s room k p
         go (yes f) x y = absurd (omega (arith, record-read-1 i (recordPart kept i) p .0 (at 1 f) .0, part-length s kept refl i (within-sheet i (t .fits) (t .inside))))
         go (no a) (yes f) y =
             let r = record-read-6 i (recordPart kept i) p .0 (at 6 f) in
-            back 6 i f (r .2) (kind i t (subst (λ (n : ℕ). within (from 1 8) (kindAt n) ≡ false) (number-read s kept refl i) (r .1)))
+            row-as s room k p 6 i f (r .2) (kind i t (subst (λ (n : ℕ). within (from 1 8) (kindAt n) ≡ false) (number-read s kept refl i) (r .1)))
         go (no a) (no c) (yes f) =
             later-row (subst (λ (n : ℕ). LaterFault (λ f. 32 * i + f) (linesAt n) (fieldsAt n) p) (number-read s kept refl i) (record-read-7 i (recordPart kept i) p .0 (at 7 f) .1)) f
         go (no a) (no c) (no d) = absurd (record-read-others i (recordPart kept i) k p a c d e)
@@ -113,7 +111,7 @@ module _ (s : List ℕ) where
 
         go : (b : Bool) → ltb (idBefore i) (r .id) ≡ b → cond b (given r) (refused 8 i) ≡ refused k p → Row s room k p
         go true f g = given-refused g
-        go false f g = subst (λ (n : ℕ). Row s room n p) (refused-number g) (subst (λ (n : ℕ). Row s room 8 n) (refused-place g) (at i refl (ltb-false (idBefore i) (r .id) f)))
+        go false f g = row-as s room k p 8 i (sym (refused-number g)) (sym (refused-place g)) (at i refl (ltb-false (idBefore i) (r .id) f))
 
     -- the records in turn
     records-row : (k p count i : ℕ) → Fits s room → i + count ≡ countOf s → InOrder s i → recordsIn i (idBefore i) (partsFrom kept i count) ≡ refused k p → Row s room k p
@@ -180,9 +178,8 @@ module _ (s : List ℕ) where
     unfolding answerOf sheetIn
     front-refused k p e = stays (sheetIn s room) _ k p (stays (headerFor s room) _ k p e)
 
-    header-refused : (k p : ℕ) → readHeader s ≡ refused k p → answerOf s room ≡ refused k p
-    unfolding headerFor sheetHeader
-    header-refused k p e = front-refused k p (stays (sheetHeader s) _ k p (stays (readHeader s) _ k p e))
+    read-refused : (k p : ℕ) → readHeader s ≡ refused k p → answerOf s room ≡ refused k p
+    read-refused k p e = front-refused k p (header-refused s room k p e)
 
     -- the records of the sheet, as the table takes them
     own-records : HeaderSound s → recordsPart (headerOf s) s ≡ kept
@@ -218,10 +215,10 @@ module _ (s : List ℕ) where
 
     row-refused : (k p : ℕ) → Row s room k p → answerOf s room ≡ refused k p
     unfolding soundAfter
-    row-refused k p (sheet-short l) = header-refused 1 0 (header-read-1 s 0 .1 (under-first l, refl))
-    row-refused k p (header-short l v m) = header-refused 1 0 (header-read-1 s 0 .1 (under-own (number-own (versionField s) v) m, refl))
-    row-refused k p (version l n) = header-refused 2 0 (header-read-2 s 0 .1 (l, n, refl))
-    row-refused k p (header-field f l c) = header-refused 3 (f + 2) (header-read-3 s (f + 2) .1 (l, record { index = f; fault = c; at = omega arith }))
+    row-refused k p (sheet-short l) = read-refused 1 0 (header-read-1 s 0 .1 (under-first l, refl))
+    row-refused k p (header-short l v m) = read-refused 1 0 (header-read-1 s 0 .1 (under-own (number-own (versionField s) v) m, refl))
+    row-refused k p (version l n) = read-refused 2 0 (header-read-2 s 0 .1 (l, n, refl))
+    row-refused k p (header-field f l c) = read-refused 3 (f + 2) (header-read-3 s (f + 2) .1 (l, record { index = f; fault = c; at = omega arith }))
     row-refused k p (slender f z) = front-refused 9 0 (slender-refused s room f z)
     row-refused k p (sheet-length f slim n) = front-refused 4 0 (length-refused s room f slim n)
     row-refused k p (output-short f slim whole n) = front-refused 5 0 (room-refused s room f slim whole n)

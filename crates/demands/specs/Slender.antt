@@ -3,9 +3,9 @@
 use Prim.Native.Nat.{ℕ}
 use mathlib.Core.Path.{_≡_, refl}
 use mathlib.Core.Bool.{false}
-use mathlib.Core.List.{List, [], _∷_, _++_}
+use mathlib.Core.List.{List, _++_}
 use native.Mathlib.Omega.{arith}
-use lib.ListN.{take, set}
+use lib.ListN.{take, set, replicate}
 use Rattle.sheet.specs.declared.Own.{Own}
 use Rattle.sheet.specs.declared.Own.the-variants.{One, Two}
 use Rattle.sheet.specs.Versions.{versionOf}
@@ -16,12 +16,12 @@ use Rattle.checker.specs.Check.{_then_, demand, sheetHeader, headerFor, partsFr
 use Rattle.demands.specs.Table.{Row, sheet-short, version, header-short, header-field, slender, sheet-length, output-short, kind, field, order}
 use Rattle.demands.specs.Program.{Program, Refuses}
 use Rattle.demands.specs.Demands.{Demands}
-use Rattle.demands.specs.FieldsRead.{later-version}
+use Rattle.demands.specs.SlenderRead.{later-version}
 use Rattle.demands.specs.Rows.{refused-exactly}
 
 -- row 9 is that of a later version
 only-later : (s : List ℕ) (room k p : ℕ) → Row s room k p → k ≡ 9 → versionField s ≡ 1 → ⊥
-only-later s room k p (slender f z) e v = omega (arith, later-version s f z)
+only-later s room k p (slender f z) e v = omega (arith, later-version s z)
 only-later s room k p (sheet-short l) e v = omega arith
 only-later s room k p (version l n) e v = omega arith
 only-later s room k p (header-short l n m) e v = omega arith
@@ -57,7 +57,7 @@ hull L H count own =
 abbrev second : (L H depth : ℕ) → List ℕ
 second L H depth = hull L H 0 (Two (record { «inner_modulus» = 300000; depth = record { 0 = depth } }))
 
--- at 60 a hull of depth 228 may be 7980 long, at 120 one of depth 320 may be 8000; at 0 any may be as long as it is, and so in version 1
+-- at 60 a hull of depth 228 may be 7980 long, at 120 one of depth 320 may be 8000; at 0, and in version 1, a hull may have any length
 pub at-the-limit : (answerOf (second 7979 60 228) 0 ≡ given (record { n = 0; failed = 0 }))
     × (answerOf (second 7980 60 228) 0 ≡ given (record { n = 0; failed = 0 }))
     × (answerOf (second 7981 60 228) 0 ≡ refused 9 0)
@@ -69,24 +69,28 @@ pub at-the-limit : (answerOf (second 7979 60 228) 0 ≡ given (record { n = 0; f
 unfolding answerOf sheetIn headerFor sheetHeader recordsIn partsFrom soundAfter _then_ demand readHeader readRecord recordIn verdicts failures
 at-the-limit = (refl, refl, refl, refl, refl, refl, refl, refl)
 
--- a slender hull that counts a record which is not there, in a faulty sheet and after a faulty header
+-- the header of a slender hull that counts one record, with nothing behind it, and with sixteen bytes that are none
 abbrev counted : List ℕ
 counted = hull 8001 120 1 (Two (record { «inner_modulus» = 300000; depth = record { 0 = 320 } }))
 
--- 9 before 4, 5, 6, 7 and 8; 1 and 3 before 9
+abbrev faulty : List ℕ
+faulty = counted ++ replicate 16 0
+
+-- 9 before 4, and before 5 and 6; 1 and 3 before 9
 computed : (answerOf counted 4 ≡ refused 9 0)
-    × (answerOf (counted ++ (0 ∷ 0 ∷ 0 ∷ 0 ∷ 0 ∷ 0 ∷ 0 ∷ 0 ∷ 0 ∷ 0 ∷ 0 ∷ 0 ∷ 0 ∷ 0 ∷ 0 ∷ 0 ∷ [])) 0 ≡ refused 9 0)
+    × (answerOf faulty 0 ≡ refused 9 0)
     × (answerOf (take 19 counted) 4 ≡ refused 1 0)
     × (answerOf (set counted 19 1) 4 ≡ refused 3 12)
 unfolding answerOf sheetIn headerFor sheetHeader recordsIn partsFrom soundAfter _then_ demand readHeader readRecord recordIn
 computed = (refl, refl, refl, refl)
 
 -- these rows hold for these sheets
-pub slender-rows : Row (second 7981 60 228) 0 9 0 × Row (second 8001 120 320) 0 9 0 × Row counted 4 9 0 × Row (take 19 counted) 4 1 0 × Row (set counted 19 1) 4 3 12
+pub slender-rows : Row (second 7981 60 228) 0 9 0 × Row (second 8001 120 320) 0 9 0 × Row counted 4 9 0 × Row faulty 0 9 0 × Row (take 19 counted) 4 1 0 × Row (set counted 19 1) 4 3 12
 slender-rows = (
   refused-exactly (second 7981 60 228) 0 9 0 .0 (at-the-limit .2),
   refused-exactly (second 8001 120 320) 0 9 0 .0 (at-the-limit .5),
   refused-exactly counted 4 9 0 .0 (computed .0),
+  refused-exactly faulty 0 9 0 .0 (computed .1),
   refused-exactly (take 19 counted) 4 1 0 .0 (computed .2),
   refused-exactly (set counted 19 1) 4 3 12 .0 (computed .3),
 )

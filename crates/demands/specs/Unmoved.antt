@@ -27,7 +27,8 @@ use Rattle.hull.specs.Hull.{bodyRules, sourceOf}
 use Rattle.checker.specs.declared.Entry.{Entry}
 use Rattle.checker.specs.Check.{_then_, demand, sheetHeader, sheetSize, headerFor, partsFrom, recordsIn, Sheet, sheetIn, entryWith, entryOf, verdicts, bytesOf, failures, answerOf, outputBy, outputOf}
 use Rattle.checker.specs.ThenLaws.{stays}
-use Rattle.checker.specs.CheckLaws.{header-slim, slim-header, sheet-whole}
+use Rattle.checker.specs.FrontLaws.{header-slim, slim-header}
+use Rattle.checker.specs.CheckLaws.{sheet-whole}
 use Rattle.demands.specs.Example.{example, lent}
 use Rattle.demands.specs.BeforeVersion2.{linesBefore, headerBefore, fieldsBefore, readBefore, sheetBefore, rulesBefore, entryBefore, verdictsBefore, answerBefore, writtenBefore, outputBefore}
 

@@ -1,4 +1,4 @@
--- Records of part-taken bytes each, one after another, and cut out of the bytes of all of them.
+-- Records of sixteen bytes each, one after another, and cut out of the bytes of all of them.
 -- Assumes nothing.
 use Prim.Native.Nat.{ℕ, zero, suc, _+_, _-_, _*_, _≤_}
 use mathlib.Core.Path.{_≡_, refl, sym, ap, ap₂, _∙_}
@@ -20,7 +20,7 @@ unfoldable pub join : List (List ℕ) → List ℕ
 join [] = []
 join (p ∷ ps) = p ++ join ps
 
--- every record has part-taken bytes
+-- every record has sixteen bytes
 abbrev pub Wide : List (List ℕ) → Type 0
 Wide [] = Unit {0}
 Wide (p ∷ ps) = (length p ≡ 16) × Wide ps

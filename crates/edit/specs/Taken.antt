@@ -23,7 +23,8 @@ use Rattle.sheet.specs.Record.{readRecord}
 use Rattle.sheet.specs.RecordBack.{record-read-any, record-read-raw}
 use Rattle.checker.specs.Check.{_then_, demand, sheetSize, headerFor, recordsPart, partsFrom, soundAfter, recordsIn, Sheet, sheetIn}
 use Rattle.checker.specs.ThenLaws.{then-given, demand-given}
-use Rattle.checker.specs.CheckLaws.{header-fits, sound-read}
+use Rattle.checker.specs.FrontLaws.{header-fits}
+use Rattle.checker.specs.CheckLaws.{sound-read}
 use Rattle.checker.specs.Unjudged.{room, soundSheet}
 use Rattle.keyed.specs.Keyed.{rises, placeOf, hasOf}
 use Rattle.keyed.specs.Places.{SameKeys, none, next, same-place, same-has}

@@ -78,9 +78,15 @@ refusal-examples = (refl, refl, refl, refl, refl, refl, refl, refl)
 abbrev second : ℕ → List ℕ
 second count = 39 ∷ 208 ∷ 15 ∷ 163 ∷ 192 ∷ 39 ∷ 16 ∷ 0 ∷ 48 ∷ 212 ∷ 0 ∷ count ∷ 0 ∷ 146 ∷ 124 ∷ 9 ∷ 96 ∷ 0 ∷ 0 ∷ 0 ∷ []
 
--- id 9 goes in between and id 7 goes out, as above; a length of 19 is under the header
+-- the same with depth 228, of which its length is more than 35
+abbrev slender : List ℕ
+slender = set (set (second 16) 15 7) 16 32 ++ (seven ++ twelve)
+
+-- id 9 goes in between and id 7 goes out, as above; a length of 19 is under the header; a slender hull is 9, also in a sheet that is a byte short
 pub second-examples : (putIn (second 16 ++ (seven ++ (twelve ++ replicate 17 170))) 52 (plate 9 600) ≡ given (record { size = 68; bytes = second 24 ++ (seven ++ ((32 ∷ 39 ∷ 232 ∷ 0 ∷ 7 ∷ 208 ∷ 150 ∷ 0 ∷ 0 ∷ 0 ∷ 0 ∷ 0 ∷ 0 ∷ 0 ∷ 0 ∷ 0 ∷ []) ++ (twelve ++ (170 ∷ [])))) }))
     × (removeIn (second 16 ++ (seven ++ (twelve ++ (170 ∷ [])))) 52 7 ≡ given (record { size = 36; bytes = second 8 ++ (twelve ++ (replicate 16 0 ++ (170 ∷ []))) }))
     × (putIn (second 16 ++ (seven ++ twelve)) 19 (plate 7 617) ≡ refused 1 0)
+    × (putIn slender 52 (plate 7 617) ≡ refused 9 0)
+    × (removeIn slender 51 7 ≡ refused 9 0)
 unfolding putIn removeIn placing inserting removing placeOf hasOf sheetAt soundSheet sheetIn headerFor sheetHeader recordsIn partsFrom soundAfter _then_ demand readHeader readRecord recordIn plateFault
-second-examples = (refl, refl, refl)
+second-examples = (refl, refl, refl, refl, refl)

@@ -19,7 +19,7 @@ use Rattle.sheet.specs.HeaderBack.{header-read-fine}
 use Rattle.sheet.specs.Record.{recordBytes}
 use Rattle.sheet.specs.HeaderFront.{header-prefix}
 use Rattle.checker.specs.Check.{_then_, demand, sheetHeader, sheetSize, headerFor, recordsPart, part, partsFrom, recordsIn, Sheet, sheetIn}
-use Rattle.checker.specs.CheckLaws.{slim-header}
+use Rattle.checker.specs.FrontLaws.{slim-header}
 use Rattle.checker.specs.Unjudged.{room, soundSheet}
 use Rattle.keyed.specs.Keyed.{rises}
 use Rattle.edit.specs.Edit.{sheetAt, start, idOf, replacing, inserting, removing}

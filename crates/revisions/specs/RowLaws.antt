@@ -11,6 +11,7 @@ use lib.Seq.{length-take-le}
 use lib.Dec.{leb, ltb}
 use borrow.Author.Tests.{le-leb, lt-leb, le-ltb, ltb-false}
 use Rattle.layout.specs.Line.{Allowed}
+use Rattle.layout.specs.LineLaws.{clash}
 use Rattle.sheet.specs.declared.Header.{Header}
 use Rattle.sheet.specs.declared.Record.{Record}
 use Rattle.sheet.specs.VersionLaws.{Under}
@@ -50,10 +51,6 @@ sheet-row b len k p = (forth (decLt (length b) len), back)
     back (own l e) = rw (le-leb len (length b) l) e
 
 -- ---- a put
-
-never : (x : Bool) → x ≡ true → x ≡ false → ⊥
-never true e f = absurd (let z : _≡_ {A = ℕ} 0 1 = cc in omega arith)
-never false e f = absurd (let z : _≡_ {A = ℕ} 0 1 = cc in omega arith)
 
 room-full : (h : Header) (len size : ℕ) → Exactly (hasRoom h len size ≡ false) (Full h len size)
 room-full h len size = (forth (decLt size (len + 16)), back)
@@ -110,7 +107,7 @@ module _ (b : List ℕ) (len : ℕ) (r : Record) (k p : ℕ) where
         go true f fits g x y h = given-refused h
         go false f true g x y h = given-refused h
         go false f false g x y h =
-            no-room t found a (λ q. never (hasOf idOf (r .id) (t .records)) (present-has idOf (r .id) 0 (t .records) (taken-at b len t found .order) q) f)
+            no-room t found a (λ q. clash (present-has idOf (r .id) 0 (t .records) (taken-at b len t found .order) q) f)
             (room-full (t .header) len (length b) .0 g)
             (sym (refused-number h))
             (sym (refused-place h))
@@ -210,7 +207,7 @@ module _ (b : List ℕ) (len id k p : ℕ) where
           → RemoveRow b len id k p
       by-id t f true g x h = given-refused h
       by-id t f false g x h =
-          absent t f (λ q. never (hasOf idOf id (t .records)) (present-has idOf id 0 (t .records) (taken-at b len t f .order) q) g) (sym (refused-number h)) (sym (refused-place h))
+          absent t f (λ q. clash (present-has idOf id 0 (t .records) (taken-at b len t f .order) q) g) (sym (refused-number h)) (sym (refused-place h))
 
       go : (x : Answer Sheet) → sheetAt b len ≡ x → removeIn b len id ≡ refused k p → RemoveRow b len id k p
       go (refused l q) f g = sheet (sheet-row b len k p .0 (f ∙ refused-as (sym (remove-refused l q f) ∙ g)))

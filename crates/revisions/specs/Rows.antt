@@ -50,7 +50,7 @@ pub data Short (b : List ℕ) (len : ℕ) : Type 0 where
   over-buffer : length b < len → Short b len
   under-header : Under len (versionField (take len b)) (versionIn (take len b)) → Short b len
 
--- the header is read and its hull is too slender
+-- the sheet is within the buffer, its header is read, and its hull is too slender
 pub record Slender (b : List ℕ) (len : ℕ) : Type 0 where
   pub fits : len ≤ length b
   pub header : Header

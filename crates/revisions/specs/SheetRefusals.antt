@@ -7,7 +7,7 @@ use mathlib.Core.List.{List, [], _∷_}
 use native.Mathlib.Omega.{arith}
 use lib.ListN.{length, length-drop}
 use lib.Dec.{leb, ltb, eqb}
-use borrow.Author.Tests.{leb-false}
+use borrow.Author.Tests.{not-false, leb-false}
 use Rattle.layout.specs.LineLaws.{clash}
 use Rattle.sheet.specs.declared.Header.{Header}
 use Rattle.sheet.specs.declared.Record.{Record}
@@ -22,8 +22,8 @@ use Rattle.sheet.specs.Record.{readRecord}
 use Rattle.sheet.specs.Exactly.{Exactly}
 use Rattle.sheet.specs.RecordExactly.{record-read-1, record-read-others}
 use Rattle.checker.specs.Check.{_then_, demand, sheetHeader, sheetSize, headerFor, recordsPart, partsFrom, soundAfter, recordsIn, sheetIn}
-use Rattle.checker.specs.ThenLaws.{refused-as, not-false}
-use Rattle.checker.specs.CheckLaws.{header-slim, header-fits}
+use Rattle.checker.specs.ThenLaws.{refused-as, stays}
+use Rattle.checker.specs.FrontLaws.{header-slim, header-fits, header-refused, header-slender}
 use Rattle.checker.specs.Unjudged.{room, soundSheet}
 use Rattle.edit.specs.Parts.{Wide, parts-wide}
 
@@ -86,16 +86,19 @@ never-5 s =
     (header-not 5 s (λ h e x z. omega arith) (λ z. omega arith) (λ p. header-read-others s 5 p (λ z. omega arith) (λ z. omega arith) (λ z. omega arith))
     (λ h e x z. omega (arith, leb-false (4 * h .count) room x, header-ranges h (header-read-fine s h e) .count-few)))
 
--- what turns the header away turns the sheet away
+-- ---- what turns the front of a sheet away turns the sheet away
+
+front-refused : (s : List ℕ) (k p : ℕ) → headerFor s room ≡ refused k p → soundSheet s ≡ refused k p
+unfolding soundSheet sheetIn
+front-refused s k p e = stays (headerFor s room) _ k p e
+
 pub under : (s : List ℕ) (k p : ℕ) → readHeader s ≡ refused k p → soundSheet s ≡ refused k p
-unfolding soundSheet sheetIn headerFor sheetHeader _then_
-under s k p e = rw e
+under s k p e = front-refused s k p (header-refused s room k p e)
 
 -- ---- 9
 
 slender-refused : (s : List ℕ) (h : Header) → readHeader s ≡ given h → tooSlender h ≡ true → soundSheet s ≡ refused 9 0
-unfolding soundSheet sheetIn headerFor sheetHeader _then_ demand
-slender-refused s h e slender = rw (e, slender)
+slender-refused s h e slender = front-refused s 9 0 (header-slender s room h e slender)
 
 slim-not-9 : (s : List ℕ) (h : Header) → readHeader s ≡ given h → tooSlender h ≡ false → Not 9 (soundSheet s)
 slim-not-9 s h read slim =

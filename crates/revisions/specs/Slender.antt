@@ -17,10 +17,11 @@ use Rattle.sheet.specs.Slender.{beyondOwn}
 use Rattle.sheet.specs.Refusals.{Answer, given, refused}
 use Rattle.sheet.specs.RefusalLaws.{given-refused}
 use Rattle.sheet.specs.Exactly.{Exactly, exactly-then}
+use Rattle.numbers.specs.From.{recordFrom}
 use Rattle.checker.specs.Check.{Sheet}
 use Rattle.checker.specs.ThenLaws.{then-given}
 use Rattle.keyed.specs.Keyed.{Edit, put, out}
-use Rattle.edit.specs.Edit.{sheetAt, idOf, After, putIn, removeIn}
+use Rattle.edit.specs.Edit.{sheetAt, headerOf, idOf, After, putIn, putNumbersIn, removeIn}
 use Rattle.revisions.specs.SheetRefusals.{sheet-9}
 use Rattle.revisions.specs.Sequences.{editIn, afterBy, afterAll, one-edit}
 use Rattle.revisions.specs.Rows.{SheetRow, over, own, Slender}
@@ -41,15 +42,18 @@ put-9 b len r p = exactly-then (put-by-sheet b len r 9 p (λ z. omega arith) (λ
 pub remove-9 : (b : List ℕ) (len id p : ℕ) → Exactly (removeIn b len id ≡ refused 9 p) (Slender b len × (p ≡ 0))
 remove-9 b len id p = exactly-then (remove-by-sheet b len id 9 p (λ z. omega arith)) (nine-row b len p)
 
--- which a sheet of version 1 never is
-pub never-in-version-1 : (b : List ℕ) (len : ℕ) → versionField (take len b) ≡ 1 → Slender b len → ⊥
-never-in-version-1 b len v z =
+-- which a sheet of version 1 never is, so that no edit of one is refused by 9
+first-never : (b : List ℕ) (len : ℕ) → versionField (take len b) ≡ 1 → Slender b len → ⊥
+first-never b len v z =
     let first : numbered (versionField (take len b)) .number ≡ 1 = rw v in
     go (z .header .own) (ap (λ (x : Version). x .number) (sym (read-holds (take len b) (z .header) (z .read) .version)) ∙ first) (z .slender)
   where
     go : (o : Own) → versionOf o .number ≡ 1 → beyondOwn (z .header .length .0) (z .header .wave .0) o ≡ true → ⊥
     go One e f = clash f refl
     go (Two s) e f = omega arith
+
+pub never-in-version-1 : (b : List ℕ) (len : ℕ) → versionField (take len b) ≡ 1 → (p : ℕ) → ((r : Record) → putIn b len r ≡ refused 9 p → ⊥) × ((id : ℕ) → removeIn b len id ≡ refused 9 p → ⊥)
+never-in-version-1 b len v p = (λ r e. first-never b len v (put-9 b len r p .0 e .0), λ id e. first-never b len v (remove-9 b len id p .0 e .0))
 
 -- ---- and no edit changes whether it is
 
@@ -61,20 +65,30 @@ IsSlender a = Slender (a .bytes) (a .size)
 turned-away : (a : After) (t : Sheet) → sheetAt (a .bytes) (a .size) ≡ given t → IsSlender a → ⊥
 turned-away a t e z = given-refused (sym e ∙ sheet-row (a .bytes) (a .size) 9 0 .1 (nine-row (a .bytes) (a .size) 0 .1 (z, refl)))
 
--- an edit that is done finds a sheet that is not
-found : (e : Edit idOf) (a x : After) → editIn e a ≡ given x → (t : Sheet) × (sheetAt (a .bytes) (a .size) ≡ given t)
+-- what leaves the buffer as it is, or finds a sheet that is not turned away and leaves one, does not change it
+keeps : (a : After) (x : Answer After) → ((y : After) → x ≡ given y → (t u : Sheet) × (sheetAt (a .bytes) (a .size) ≡ given t) × (sheetAt (y .bytes) (y .size) ≡ given u))
+    → Exactly (IsSlender a) (IsSlender (afterBy x a))
+keeps a (refused k p) f = (λ z. z, λ z. z)
+keeps a (given y) f = let both = f y refl in (λ z. absurd (turned-away a (both .0) (both .2) z), λ z. absurd (turned-away y (both .1) (both .3) z))
+
+found : (e : Edit idOf) (a y : After) → editIn e a ≡ given y → (t : Sheet) × (sheetAt (a .bytes) (a .size) ≡ given t)
 unfolding putIn removeIn
-found (put r) a x e = let f = then-given (sheetAt (a .bytes) (a .size)) _ x e in (f .0, f .1)
-found (out id) a x e = let f = then-given (sheetAt (a .bytes) (a .size)) _ x e in (f .0, f .1)
+found (put r) a y e = let f = then-given (sheetAt (a .bytes) (a .size)) _ y e in (f .0, f .1)
+found (out id) a y e = let f = then-given (sheetAt (a .bytes) (a .size)) _ y e in (f .0, f .1)
+
+done : (e : Edit idOf) (a y : After) → editIn e a ≡ given y → (t u : Sheet) × (sheetAt (a .bytes) (a .size) ≡ given t) × (sheetAt (y .bytes) (y .size) ≡ given u)
+done e a y g = let f = found e a y g in (f .0, _, f .1, one-edit a (f .0) (f .1) e y g)
 
 pub one-keeps : (e : Edit idOf) (a : After) → Exactly (IsSlender a) (IsSlender (afterBy (editIn e a) a))
-one-keeps e a = go (editIn e a) refl
-  where
-    go : (x : Answer After) → editIn e a ≡ x → Exactly (IsSlender a) (IsSlender (afterBy x a))
-    go (refused k p) f = (λ z. z, λ z. z)
-    go (given x) f =
-        let t = found e a x f in
-        (λ z. absurd (turned-away a (t .0) (t .1) z), λ z. absurd (turned-away x _ (one-edit a (t .0) (t .1) e x f) z))
+one-keeps e a = keeps a (editIn e a) (done e a)
+
+-- nor do numbers put in
+pub numbers-keep : (ns : List ℕ) (a : After) → Exactly (IsSlender a) (IsSlender (afterBy (putNumbersIn (a .bytes) (a .size) ns) a))
+unfolding putNumbersIn
+numbers-keep ns a = keeps a (putNumbersIn (a .bytes) (a .size) ns) (λ y e.
+    let h = then-given (headerOf (a .bytes) (a .size)) _ y e in
+    let r = then-given (recordFrom (h .0 .count) ns) _ y (h .2) in
+    done (put (r .0)) a y (r .2))
 
 -- nor do edits in turn
 pub edits-keep : (es : List (Edit idOf)) (a : After) → Exactly (IsSlender a) (IsSlender (afterAll es a))

@@ -20,7 +20,8 @@ use Rattle.framing.specs.Rules.{memberLine}
 use Rattle.checker.specs.Entry.{entryBytes}
 use Rattle.checker.specs.Check.{_then_, demand, headerFor, recordsPart, recordPart, recordOf, partsFrom, Sheet, sheetIn, entryOf, outputOf}
 use Rattle.checker.specs.ThenLaws.{then-given}
-use Rattle.checker.specs.CheckLaws.{slim-header, sheet-whole, verdict-at}
+use Rattle.checker.specs.FrontLaws.{slim-header}
+use Rattle.checker.specs.CheckLaws.{sheet-whole, verdict-at}
 use Rattle.checker.specs.Unjudged.{room, soundSheet}
 use Rattle.keyed.specs.Keyed.{Edit, put, out, listAfter}
 use Rattle.keyed.specs.Places.{At, put-keeps, out-keeps}

@@ -11,7 +11,7 @@ use Rattle.sheet.specs.Refusals.{given, toldHeader}
 use Rattle.sheet.specs.VersionLaws.{regular}
 use Rattle.sheet.specs.Header.{headerSize, readHeader}
 use Rattle.sheet.specs.Slender.{tooSlender}
-use Rattle.checker.proofs.Faults.{header-refused, header-slender, header-length, header-room, header-good}
+use Rattle.checker.specs.FrontLaws.{header-refused, header-slender, header-length, header-room, header-good}
 use Rattle.checker.proofs.header_for.Statement.{statement}
 use Rattle.checker.proofs.header_for.Tie as tie
 
@@ -32,8 +32,8 @@ module _ (c : tie.After-too-slender) where
   abbrev room : ℕ
   room = at-header .before .before .args .room
 
-  read : given h ≡ readHeader s
-  read = sym (ap toldHeader (at-read .read2 .given .1)) ∙ at-header .read-header .ensures
+  read : readHeader s ≡ given h
+  read = sym (at-header .read-header .ensures) ∙ ap toldHeader (at-read .read2 .given .1)
 
   sized : c .before .size .result ≡ headerSize h
   sized = c .before .size .ensures
@@ -42,27 +42,27 @@ module _ (c : tie.After-too-slender) where
   told = sym (c .too-slender .ensures)
 
 returns : tie.Need-returns
-returns c = let at = c .before in header-slender (s at) (room at) (h at) (read at) (told at ∙ c .if1 .taken)
+returns c = let at = c .before in sym (header-slender (s at) (room at) (h at) (read at) (told at ∙ c .if1 .taken))
 
 returns-2 : tie.Need-returns-2
 returns-2 c =
     let at = c .before .before in
-    header-length (s at) (room at) (h at) (read at) (told at ∙ c .before .if1 .left) (λ e. c .if2 .taken (omega (arith, e, sized at)))
+    sym (header-length (s at) (room at) (h at) (read at) (told at ∙ c .before .if1 .left) (λ e. c .if2 .taken (omega (arith, e, sized at))))
 
 returns-3 : tie.Need-returns-3
 returns-3 c =
     let at = c .before .before .before in
-    header-room (s at) (room at) (h at) (read at) (told at ∙ c .before .before .if1 .left) (omega (arith, c .before .if2 .left, sized at)) (c .if3 .taken)
+    sym (header-room (s at) (room at) (h at) (read at) (told at ∙ c .before .before .if1 .left) (omega (arith, c .before .if2 .left, sized at)) (c .if3 .taken))
 
 returns-4 : tie.Need-returns-4
 returns-4 c =
     let at-header = c .before .before .before in
-    header-refused (now (at-header .before .before .args .sheet)) _ _ _ (sym (ap toldHeader (c .before .read .given .1)) ∙ at-header .read-header .ensures)
+    sym (header-refused (now (at-header .before .before .args .sheet)) _ _ _ (sym (at-header .read-header .ensures) ∙ ap toldHeader (c .before .read .given .1)))
 
 returns-5 : tie.Need-returns-5
 returns-5 c =
     let at = c .before .before .before in
-    header-good (s at) (room at) (h at) (read at) (told at ∙ c .before .before .if1 .left) (omega (arith, c .before .if2 .left, sized at)) (c .if3 .left)
+    sym (header-good (s at) (room at) (h at) (read at) (told at ∙ c .before .before .if1 .left) (omega (arith, c .before .if2 .left, sized at)) (c .if3 .left))
 
 pub header-for-spec : {M : Type 1} → statement M
 header-for-spec =

@@ -12,7 +12,7 @@ use lib.ListN.{length, take, length-take}
 use Rattle.layout.specs.Tail.{mid-past}
 use Rattle.sheet.specs.Header.{headerSize}
 use Rattle.checker.specs.Check.{recordsPart}
-use Rattle.checker.specs.CheckLaws.{header-fits}
+use Rattle.checker.specs.FrontLaws.{header-fits}
 use Rattle.checker.specs.Passes.{Ready, toldPassed, passOver}
 use Rattle.checker.proofs.Whole.{ready, at-records, refused-checks, copied, done-checks}
 use Rattle.checker.proofs.judge_sheet.Statement.{statement}

@@ -12,7 +12,7 @@ use Rattle.layout.specs.Tail.{mid-past}
 use Rattle.sheet.specs.Refusals.{given, toldHeader, toldOutcome}
 use Rattle.sheet.specs.Header.{headerSize}
 use Rattle.checker.specs.Check.{headerFor, recordsPart}
-use Rattle.checker.specs.CheckLaws.{header-fits}
+use Rattle.checker.specs.FrontLaws.{header-fits}
 use Rattle.checker.specs.Unjudged.{room, recordsSound}
 use Rattle.checker.proofs.Unjudged.{header-refused, records-refused, all-sound}
 use Rattle.checker.proofs.sound_header.Statement.{statement}

@@ -1,9 +1,9 @@
 -- `edit::put` meets its contract.
 -- Assumes nothing.
 use borrow.Author.Needs.{needs}
-use mathlib.Core.Path.{sym, ap, _∙_}
+use mathlib.Core.Path.{_≡_, sym, ap, _∙_}
 use denote.Ref.{now}
-use Rattle.sheet.specs.Refusals.{given, toldHeader, toldOutcome}
+use Rattle.sheet.specs.Refusals.{given, toldHeader, toldOutcome, recordRefused}
 use Rattle.sheet.specs.RefusalLaws.{by-none}
 use Rattle.sheet.specs.Record.{recordFault}
 use Prim.Native.Nat.{_+_, _*_}
@@ -31,7 +31,8 @@ returns-2 c =
     let f = c .before .before .before in
     let g = f .before .before in
     let a = start-of g .args in
-    record-refused (now (a .buf)) (a .len) (g .read2 .given .0 .0) (sheet g) (a .r) (c .before .found .given .0 .0) (sym (ap toldOutcome (c .before .found .given .1)) ∙ f .record-fault .ensures)
+    let tested : toldOutcome (f .record-fault .result) ≡ recordRefused (g .read2 .given .0 .0 .count) (recordFault (a .r) 0) (given tt) = f .record-fault .ensures in
+    record-refused (now (a .buf)) (a .len) (g .read2 .given .0 .0) (sheet g) (a .r) (c .before .found .given .0 .0) (sym (ap toldOutcome (c .before .found .given .1)) ∙ tested)
 
 put-sound-requires : tie.Need-put-sound-requires
 put-sound-requires c κs =

@@ -186,8 +186,8 @@ fn stress(chance: &mut Chance, header: &mut Form, kind: i128, R: i128) -> bool {
 }
 
 /// A moment and a modulus with 1,000,000 M one above a multiple of ZB, so that R is
-/// rounded up from just above R - 1. It takes an inverse of R - 1 by 1,000,000: its
-/// power to 49,999, if it is prime to 10.
+/// rounded up from just above R - 1. It takes an inverse of R - 1 modulo 1,000,000:
+/// its 49,999th power, where R - 1 is prime to 10.
 fn rounded_furthest(R: i128) -> Option<(i128, i128)> {
     let below = R - 1;
     if below % 2 == 0 || below % 5 == 0 {
