@@ -1,7 +1,7 @@
 -- Each answer about numbers is given exactly when its case of the table holds and none before it does.
 -- Assumes nothing.
 use Prim.Native.Nat.{ℕ, _+_, _*_}
-use mathlib.Core.Path.{_≡_, refl, ap}
+use mathlib.Core.Path.{_≡_, refl, ap, sym, _∙_}
 use mathlib.Core.Bool.{Bool, true, false, cond}
 use mathlib.Core.List.{List}
 use lib.ListN.{length, getD, drop}
@@ -15,7 +15,7 @@ use Rattle.sheet.specs.VersionLaws.{other-number}
 use Rattle.sheet.specs.Lines.{headerLines}
 use Rattle.sheet.specs.Refusals.{given, refused, recordRefused}
 use Rattle.sheet.specs.Record.{plateLinesOf, memberLinesOf}
-use Rattle.sheet.specs.Exactly.{Exactly, LaterFault, Cases, byFields, exactly-then, exactly-of, in-front, fields-first, fields-later, fields-given}
+use Rattle.sheet.specs.Exactly.{Exactly, LaterFault, Cases, byFields, exactly-then, exactly-of, in-front, fields-first, fields-later, fields-given, fields-others}
 use Rattle.sheet.specs.HeaderExactly.{headerCases, version-fault}
 use Rattle.sheet.specs.RecordExactly.{recordCases}
 use Rattle.numbers.specs.From.{numbersFrom, headerOfNumbers, fieldsAs, inSecond, headerFieldsOf, headerLinesOf, headerNumbersFault, headerFrom, plateNumbered, recordOfNumbers, plateFields, recordNumbersFault, recordFrom}
@@ -82,3 +82,6 @@ module _ (ns : List ℕ) where
 
     pub record-from-given : (r : Record) → Exactly (recordFrom i ns ≡ given r) (Allowed recordLines recordFields × (recordOfNumbers ns ≡ r))
     record-from-given r = exactly-of by-fields (fields-given (recordCases i) recordLines recordFields same (recordOfNumbers ns) r)
+
+    pub record-from-others : (k p : ℕ) → (k ≡ 6 → ⊥) → (k ≡ 7 → ⊥) → recordFrom i ns ≡ refused k p → ⊥
+    record-from-others k p a b e = fields-others (recordCases i) recordLines recordFields same (recordOfNumbers ns) k p a b (sym by-fields ∙ e)

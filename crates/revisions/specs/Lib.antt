@@ -7,6 +7,6 @@ pub mod Verdicts
 pub mod Rows
 pub mod SheetRefusals
 pub mod RowLaws
-pub mod Slender
 pub mod Numbers
+pub mod Slender
 pub mod Example

@@ -18,6 +18,7 @@ use Rattle.sheet.specs.Refusals.{Answer, given, refused}
 use Rattle.sheet.specs.RefusalLaws.{given-refused}
 use Rattle.sheet.specs.Exactly.{Exactly, exactly-then}
 use Rattle.numbers.specs.From.{recordFrom}
+use Rattle.numbers.specs.Exactly.{record-from-others}
 use Rattle.checker.specs.Check.{Sheet}
 use Rattle.checker.specs.ThenLaws.{then-given}
 use Rattle.keyed.specs.Keyed.{Edit, put, out}
@@ -26,6 +27,7 @@ use Rattle.revisions.specs.SheetRefusals.{sheet-9}
 use Rattle.revisions.specs.Sequences.{editIn, afterBy, afterAll, one-edit}
 use Rattle.revisions.specs.Rows.{SheetRow, over, own, Slender}
 use Rattle.revisions.specs.RowLaws.{sheet-row, put-by-sheet, remove-by-sheet}
+use Rattle.revisions.specs.Numbers.{NumbersRow, sheet, numbers, putting, numbers-refused-exactly}
 
 -- ---- an edit is refused by 9 exactly where the hull is too slender
 
@@ -42,6 +44,15 @@ put-9 b len r p = exactly-then (put-by-sheet b len r 9 p (λ z. omega arith) (λ
 pub remove-9 : (b : List ℕ) (len id p : ℕ) → Exactly (removeIn b len id ≡ refused 9 p) (Slender b len × (p ≡ 0))
 remove-9 b len id p = exactly-then (remove-by-sheet b len id 9 p (λ z. omega arith)) (nine-row b len p)
 
+-- numbers too
+pub numbers-9 : (b : List ℕ) (len : ℕ) (ns : List ℕ) (p : ℕ) → Exactly (putNumbersIn b len ns ≡ refused 9 p) (Slender b len × (p ≡ 0))
+numbers-9 b len ns p = (λ e. by-row (numbers-refused-exactly b len ns 9 p .0 e), λ z. numbers-refused-exactly b len ns 9 p .1 (sheet (nine-row b len p .1 z)))
+  where
+    by-row : NumbersRow b len ns 9 p → Slender b len × (p ≡ 0)
+    by-row (sheet s) = nine-row b len p .0 s
+    by-row (numbers t f g) = absurd (record-from-others ns (t .header .count) 9 p (λ z. omega arith) (λ z. omega arith) g)
+    by-row (putting t f r g h) = put-9 b len r p .0 h
+
 -- which a sheet of version 1 never is, so that no edit of one is refused by 9
 first-never : (b : List ℕ) (len : ℕ) → versionField (take len b) ≡ 1 → Slender b len → ⊥
 first-never b len v z =
@@ -52,8 +63,15 @@ first-never b len v z =
     go One e f = clash f refl
     go (Two s) e f = omega arith
 
-pub never-in-version-1 : (b : List ℕ) (len : ℕ) → versionField (take len b) ≡ 1 → (p : ℕ) → ((r : Record) → putIn b len r ≡ refused 9 p → ⊥) × ((id : ℕ) → removeIn b len id ≡ refused 9 p → ⊥)
-never-in-version-1 b len v p = (λ r e. first-never b len v (put-9 b len r p .0 e .0), λ id e. first-never b len v (remove-9 b len id p .0 e .0))
+pub never-in-version-1 : (b : List ℕ) (len : ℕ) → versionField (take len b) ≡ 1 → (p : ℕ)
+    → ((r : Record) → putIn b len r ≡ refused 9 p → ⊥)
+    × ((ns : List ℕ) → putNumbersIn b len ns ≡ refused 9 p → ⊥)
+    × ((id : ℕ) → removeIn b len id ≡ refused 9 p → ⊥)
+never-in-version-1 b len v p = (
+  λ r e. first-never b len v (put-9 b len r p .0 e .0),
+  λ ns e. first-never b len v (numbers-9 b len ns p .0 e .0),
+  λ id e. first-never b len v (remove-9 b len id p .0 e .0),
+)
 
 -- ---- and no edit changes whether it is
 
@@ -71,18 +89,20 @@ keeps : (a : After) (x : Answer After) → ((y : After) → x ≡ given y → (t
 keeps a (refused k p) f = (λ z. z, λ z. z)
 keeps a (given y) f = let both = f y refl in (λ z. absurd (turned-away a (both .0) (both .2) z), λ z. absurd (turned-away y (both .1) (both .3) z))
 
+-- an edit that is done finds such a sheet
 found : (e : Edit idOf) (a y : After) → editIn e a ≡ given y → (t : Sheet) × (sheetAt (a .bytes) (a .size) ≡ given t)
 unfolding putIn removeIn
 found (put r) a y e = let f = then-given (sheetAt (a .bytes) (a .size)) _ y e in (f .0, f .1)
 found (out id) a y e = let f = then-given (sheetAt (a .bytes) (a .size)) _ y e in (f .0, f .1)
 
+-- and leaves one
 done : (e : Edit idOf) (a y : After) → editIn e a ≡ given y → (t u : Sheet) × (sheetAt (a .bytes) (a .size) ≡ given t) × (sheetAt (y .bytes) (y .size) ≡ given u)
 done e a y g = let f = found e a y g in (f .0, _, f .1, one-edit a (f .0) (f .1) e y g)
 
 pub one-keeps : (e : Edit idOf) (a : After) → Exactly (IsSlender a) (IsSlender (afterBy (editIn e a) a))
 one-keeps e a = keeps a (editIn e a) (done e a)
 
--- nor do numbers put in
+-- nor do numbers that are put in
 pub numbers-keep : (ns : List ℕ) (a : After) → Exactly (IsSlender a) (IsSlender (afterBy (putNumbersIn (a .bytes) (a .size) ns) a))
 unfolding putNumbersIn
 numbers-keep ns a = keeps a (putNumbersIn (a .bytes) (a .size) ns) (λ y e.
