@@ -9,10 +9,10 @@ use lib.ListN.{take, set, replicate}
 use Rattle.sheet.specs.declared.Own.{Own}
 use Rattle.sheet.specs.declared.Own.the-variants.{One, Two}
 use Rattle.sheet.specs.Versions.{versionOf}
-use Rattle.sheet.specs.Refusals.{given, refused}
+use Rattle.sheet.specs.Refusals.{Answer, given, refused}
 use Rattle.sheet.specs.Header.{versionField, headerBytes, readHeader}
 use Rattle.sheet.specs.Record.{recordIn, readRecord}
-use Rattle.checker.specs.Check.{_then_, demand, sheetHeader, headerFor, partsFrom, soundAfter, recordsIn, sheetIn, verdicts, failures, answerOf}
+use Rattle.checker.specs.Check.{_then_, demand, sheetHeader, headerFor, partsFrom, soundAfter, recordsIn, sheetIn, verdicts, failures, Totals, answerOf}
 use Rattle.demands.specs.Table.{Row, sheet-short, version, header-short, header-field, slender, sheet-length, output-short, kind, field, order}
 use Rattle.demands.specs.Program.{Program, Refuses}
 use Rattle.demands.specs.Demands.{Demands}
@@ -57,15 +57,19 @@ hull L H count own =
 abbrev second : (L H depth : ℕ) → List ℕ
 second L H depth = hull L H 0 (Two (record { «inner_modulus» = 300000; depth = record { 0 = depth } }))
 
+-- accepted, with nothing to judge
+abbrev none-judged : Answer Totals
+none-judged = given (record { n = 0; failed = 0 })
+
 -- at 60 a hull of depth 228 may be 7980 long, at 120 one of depth 320 may be 8000; at 0, and in version 1, a hull may have any length
-pub at-the-limit : (answerOf (second 7979 60 228) 0 ≡ given (record { n = 0; failed = 0 }))
-    × (answerOf (second 7980 60 228) 0 ≡ given (record { n = 0; failed = 0 }))
+pub at-the-limit : (answerOf (second 7979 60 228) 0 ≡ none-judged)
+    × (answerOf (second 7980 60 228) 0 ≡ none-judged)
     × (answerOf (second 7981 60 228) 0 ≡ refused 9 0)
-    × (answerOf (second 7999 120 320) 0 ≡ given (record { n = 0; failed = 0 }))
-    × (answerOf (second 8000 120 320) 0 ≡ given (record { n = 0; failed = 0 }))
+    × (answerOf (second 7999 120 320) 0 ≡ none-judged)
+    × (answerOf (second 8000 120 320) 0 ≡ none-judged)
     × (answerOf (second 8001 120 320) 0 ≡ refused 9 0)
-    × (answerOf (second 13500 0 100) 0 ≡ given (record { n = 0; failed = 0 }))
-    × (answerOf (hull 13500 120 0 One) 0 ≡ given (record { n = 0; failed = 0 }))
+    × (answerOf (second 13500 0 100) 0 ≡ none-judged)
+    × (answerOf (hull 13500 120 0 One) 0 ≡ none-judged)
 unfolding answerOf sheetIn headerFor sheetHeader recordsIn partsFrom soundAfter _then_ demand readHeader readRecord recordIn verdicts failures
 at-the-limit = (refl, refl, refl, refl, refl, refl, refl, refl)
 
