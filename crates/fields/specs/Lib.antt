@@ -1,0 +1,8 @@
+pub mod Number
+pub mod Marks
+pub mod Field
+pub mod Rest
+pub mod Lines
+pub mod First
+pub mod Only
+mod Cases
