@@ -8,7 +8,7 @@ use lib.ListN.{length, take, drop, length-append}
 use Rattle.sheet.specs.declared.Header.{Header}
 use Rattle.sheet.specs.declared.Record.{Record}
 use Rattle.sheet.specs.declared.Refusal.{Refusal}
-use Rattle.sheet.specs.declared.Refusal.the-variants.{SheetShort, Version, HeaderField, TooSlender, SheetLength, OutputShort, Kind, Field, Order, NoSuchId, NoRoom}
+use Rattle.sheet.specs.declared.Refusal.the-variants.{SheetShort, Version, HeaderField, TooSlender, SheetLength, OutputShort, Kind, Field, Order, NoSuchId, NoRoom, Text, FieldCount}
 use Rattle.sheet.specs.Refusals.{Answer, given, refused, numberOf, placeOf}
 use Rattle.sheet.specs.RefusalLaws.{given-refused, refused-number, refused-place}
 use Rattle.checker.specs.declared.Entry.{Entry}
@@ -64,6 +64,8 @@ number-small (Field p) = omega arith
 number-small (Order p) = omega arith
 number-small NoSuchId = omega arith
 number-small NoRoom = omega arith
+number-small (Text p) = omega arith
+number-small (FieldCount p) = omega arith
 
 -- so that the counts of a check are within their bounds
 pub checked-counted : (s out after : List ℕ) (r : Checked) → length after ≡ length out → Checks s out r after → Counted r after

@@ -9,7 +9,7 @@ use borrow.Author.Tests.{eq-eqb, ne-eqb, eqb-true, eqb-false}
 use Rattle.sheet.specs.declared.Header.{Header}
 use Rattle.sheet.specs.declared.Record.{Record}
 use Rattle.sheet.specs.declared.Refusal.{Refusal}
-use Rattle.sheet.specs.declared.Refusal.the-variants.{SheetShort, Version, HeaderField, TooSlender, SheetLength, OutputShort, Kind, Field, Order, NoSuchId, NoRoom}
+use Rattle.sheet.specs.declared.Refusal.the-variants.{SheetShort, Version, HeaderField, TooSlender, SheetLength, OutputShort, Kind, Field, Order, NoSuchId, NoRoom, Text, FieldCount}
 use Rattle.sheet.specs.declared.Outcome.{Outcome}
 use Rattle.sheet.specs.declared.Outcome.the-variants.{Fine, Refused as notFine}
 use Rattle.sheet.specs.declared.HeaderRead.{HeaderRead}
@@ -26,7 +26,7 @@ refusalOf k p =
     (cond (eqb k 3) (HeaderField p)
     (cond (eqb k 9) TooSlender
     (cond (eqb k 4) SheetLength
-    (cond (eqb k 5) OutputShort (cond (eqb k 6) (Kind p) (cond (eqb k 7) (Field p) (cond (eqb k 8) (Order p) (cond (eqb k 10) NoSuchId NoRoom)))))))))
+    (cond (eqb k 5) OutputShort (cond (eqb k 6) (Kind p) (cond (eqb k 7) (Field p) (cond (eqb k 8) (Order p) (cond (eqb k 10) NoSuchId (cond (eqb k 11) NoRoom (cond (eqb k 14) (Text p) (FieldCount p))))))))))))
 
 back : (r : Refusal) → refusalOf (numberOf r) (placeOf r) ≡ r
 back SheetShort = refl
@@ -40,6 +40,8 @@ back (Field p) = refl
 back (Order p) = refl
 back NoSuchId = refl
 back NoRoom = refl
+back (Text p) = refl
+back (FieldCount p) = refl
 
 -- a number and a place are those of one refusal at most
 pub refusal-only : (r s : Refusal) → numberOf r ≡ numberOf s → placeOf r ≡ placeOf s → r ≡ s

@@ -6,7 +6,7 @@ use lib.Dec.{eqb}
 use Rattle.sheet.specs.declared.Header.{Header}
 use Rattle.sheet.specs.declared.Record.{Record}
 use Rattle.sheet.specs.declared.Refusal.{Refusal}
-use Rattle.sheet.specs.declared.Refusal.the-variants.{SheetShort, Version, HeaderField, TooSlender, SheetLength, OutputShort, Kind, Field, Order, NoSuchId, NoRoom}
+use Rattle.sheet.specs.declared.Refusal.the-variants.{SheetShort, Version, HeaderField, TooSlender, SheetLength, OutputShort, Kind, Field, Order, NoSuchId, NoRoom, Text, FieldCount}
 use Rattle.sheet.specs.declared.Outcome.{Outcome}
 use Rattle.sheet.specs.declared.Outcome.the-variants.{Fine, Refused as notFine}
 use Rattle.sheet.specs.declared.HeaderRead.{HeaderRead}
@@ -32,6 +32,8 @@ numberOf (Field p) = 7
 numberOf (Order p) = 8
 numberOf NoSuchId = 10
 numberOf NoRoom = 11
+numberOf (Text p) = 14
+numberOf (FieldCount p) = 15
 
 -- its place, 0 unless the table names one
 abbrev pub placeOf : Refusal → ℕ
@@ -46,6 +48,8 @@ placeOf (Field p) = p
 placeOf (Order p) = p
 placeOf NoSuchId = 0
 placeOf NoRoom = 0
+placeOf (Text p) = p
+placeOf (FieldCount p) = p
 
 -- what the code's answers say
 abbrev pub told : {A : Type 0} → Refusal → Answer A

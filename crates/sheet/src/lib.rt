@@ -185,7 +185,7 @@ pub struct Raw {
     pub spare: u32,
 }
 
-// Why a sheet, a header, a record or an edit is turned away, in the order of the table. What a case carries is its place.
+// Why a sheet, a header, a record, an edit or a text is turned away, in the order of the table. What a case carries is its place.
 pub enum Refusal {
     SheetShort,
     Version,
@@ -198,6 +198,8 @@ pub enum Refusal {
     Order(u32),
     NoSuchId,
     NoRoom,
+    Text(u32),
+    FieldCount(u32),
 }
 
 impl Refusal {
@@ -217,6 +219,8 @@ impl Refusal {
             Refusal::Order(_) => 8,
             Refusal::NoSuchId => 10,
             Refusal::NoRoom => 11,
+            Refusal::Text(_) => 14,
+            Refusal::FieldCount(_) => 15,
         }
     }
 
@@ -236,6 +240,8 @@ impl Refusal {
             Refusal::Order(place) => place,
             Refusal::NoSuchId => 0,
             Refusal::NoRoom => 0,
+            Refusal::Text(place) => place,
+            Refusal::FieldCount(place) => place,
         }
     }
 }

@@ -1,0 +1,2 @@
+mod Carrying
+mod Appending
