@@ -1,3 +1,4 @@
 pub mod Line
 pub mod LineLaws
+pub mod LinesLaws
 pub mod Only

@@ -19,7 +19,7 @@ use Rattle.text.specs.Line.{Numbers, behind, lineOf, lineAt, over}
 
 -- ---- a line by its first field
 
-line-prefix : (bs : List ℕ) (m : Marks) (n : Num) → lineOf (prefix bs m) n ≡ lineOf m (digitsOf n bs)
+pub line-prefix : (bs : List ℕ) (m : Marks) (n : Num) → lineOf (prefix bs m) n ≡ lineOf m (digitsOf n bs)
 unfolding lineOf digitsOf
 line-prefix [] m n = refl
 line-prefix (b ∷ bs) m n = line-prefix bs m (digitOf n b)
