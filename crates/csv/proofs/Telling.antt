@@ -1,0 +1,2 @@
+-- Bytes in front of an output, or 5.
+-- Assumes nothing.

@@ -1,0 +1,5 @@
+pub mod Read
+pub mod Write
+pub mod Steps
+pub mod ReadLaws
+pub mod HeldLaws

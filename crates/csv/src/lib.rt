@@ -1,0 +1,122 @@
+// Sheets in and out as comma-separated text: a line for the header's fields and one for each record's.
+use rows::Row;
+use rows::RowEnd;
+use sheet::HeaderRead;
+use sheet::Refusal;
+ghost use mathlib.Core.Path.{_≡_};
+ghost use mathlib.Core.List.{[]};
+ghost use Prim.Native.Nat.{_≤_};
+ghost use lib.ListN.{length, take};
+ghost use Rattle.fields.specs.Lines.{linesAt};
+ghost use Rattle.csv.specs.Read.{nextLine, recordsMade, sheetMade, sheetFrom, Converts};
+ghost use Rattle.csv.specs.Steps.{fitsIn, soundIn, PutsBehind, Fills};
+
+// How many bytes were written, or why none were.
+pub enum Converted {
+    Length(usize),
+    Refused(Refusal),
+}
+
+// How many bytes of the draft the lines fill, or why a line is turned away.
+enum Made {
+    Length(usize),
+    Refused(Refusal),
+}
+
+// The longest sheet has 6,420 bytes: with a record more it is seen to be too long, whatever the lines behind it are.
+const DRAFT: usize = 6436;
+
+// The bytes of a line behind those of the lines before it, where there is room.
+fn put_row(row: Row, draft: &mut [u8], end: usize) -> usize
+    requires { ⌜ (row .size ≤ length (row .bytes)) × (end ≤ length (now draft)) ⌝ }
+    ensures { λ r. ⌜ PutsBehind (take (row .size) (row .bytes)) (now (draft .entry)) end r (now (draft .exit)) ⌝ }
+{
+    let size = row.size;
+    let bytes = row.bytes;
+    end + decimal::write_text(&bytes[..size], &mut draft[end..])
+}
+
+fn next_line(line: u32) -> u32
+    ensures { λ r. ⌜ r ≡ nextLine line ⌝ }
+{
+    if line < 4294967295 { line + 1 } else { line }
+}
+
+// The lines from a place on, each a record's, behind the header's bytes.
+fn put_records(text: &[u8], at: usize, draft: &mut [u8], head: usize) -> Made
+    requires { ⌜ (length (now draft) ≡ 6436) × (head ≤ length (now draft)) ⌝ }
+    ensures { λ r. ⌜ Fills (recordsMade 2 (linesAt (now (text .entry)) at)) (take head (now (draft .entry))) r (now (draft .exit)) ⌝ }
+{
+    let mut here = at;
+    let mut line: u32 = 2;
+    let mut end = head;
+    loop {
+        let row = rows::record_at(text, here, line);
+        let ended = row.end;
+        match ended {
+            RowEnd::More(next) => {
+                end = put_row(row, draft, end);
+                line = next_line(line);
+                here = next;
+            }
+            RowEnd::Last => {
+                return Made::Length(put_row(row, draft, end));
+            }
+            RowEnd::Refused(x) => {
+                return Made::Refused(x);
+            }
+        }
+    }
+}
+
+// All lines.
+fn put_lines(text: &[u8], draft: &mut [u8]) -> Made
+    requires { ⌜ length (now draft) ≡ 6436 ⌝ }
+    ensures { λ r. ⌜ Fills (sheetMade (linesAt (now (text .entry)) 0)) [] r (now (draft .exit)) ⌝ }
+{
+    let row = rows::header_at(text);
+    let ended = row.end;
+    match ended {
+        RowEnd::Refused(x) => Made::Refused(x),
+        RowEnd::Last => Made::Length(put_row(row, draft, 0)),
+        RowEnd::More(next) => {
+            let head = put_row(row, draft, 0);
+            put_records(text, next, draft, head)
+        }
+    }
+}
+
+// Bytes into the front of the output, which is refused with 5 where it is too short for them.
+fn tell(bytes: &[u8], out: &mut [u8]) -> Converted
+    ensures { λ r. ⌜ Converts (fitsIn (now (bytes .entry)) (length (now (out .entry)))) (now (out .entry)) r (now (out .exit)) ⌝ }
+{
+    let len = bytes.len();
+    if out.len() < len {
+        return Converted::Refused(Refusal::OutputShort);
+    }
+    decimal::write_text(bytes, out);
+    Converted::Length(len)
+}
+
+// The sheet that the lines made, by the table.
+fn tell_sheet(sheet: &[u8], out: &mut [u8]) -> Converted
+    ensures { λ r. ⌜ Converts (soundIn (now (sheet .entry)) (length (now (out .entry)))) (now (out .entry)) r (now (out .exit)) ⌝ }
+{
+    let read = checker::sound_header(sheet);
+    match read {
+        HeaderRead::Refused(x) => Converted::Refused(x),
+        HeaderRead::Good(_) => tell(sheet, out),
+    }
+}
+
+// A text into a sheet. A refusal leaves the output as it was lent; else the sheet stands in front, and no other byte is touched.
+pub fn read_sheet(text: &[u8], out: &mut [u8]) -> Converted
+    ensures { λ r. ⌜ Converts (sheetFrom (now (text .entry)) (length (now (out .entry)))) (now (out .entry)) r (now (out .exit)) ⌝ }
+{
+    let mut draft = [0u8; DRAFT];
+    let made = put_lines(text, &mut draft);
+    match made {
+        Made::Refused(x) => Converted::Refused(x),
+        Made::Length(len) => tell_sheet(&draft[..len], out),
+    }
+}
