@@ -2,12 +2,12 @@
 -- Assumes nothing.
 use Prim.Native.Nat.{ℕ, _+_, _-_, _≤_, _<_}
 use mathlib.Core.Path.{_≡_, refl, sym, ap, subst, _∙_}
-use mathlib.Core.Logic.{inl, inr}
+use mathlib.Core.Logic.{inl, ⊎-elim}
 use mathlib.Core.Bool.{Bool, true, false, cond}
 use mathlib.Core.List.{List, [], _++_, append-nil, append-assoc}
 use native.Mathlib.Omega.{arith}
-use lib.ListN.{length, take, drop, length-drop, length-append, length-take}
-use lib.Seq.{take-take, length-take-le}
+use lib.ListN.{length, take, drop, length-drop, length-append}
+use lib.Seq.{take-all, take-take, length-take-le}
 use lib.Dec.{leb}
 use borrow.Author.Tests.{leb-true}
 use borrow.Rule.Slice.PartMut.{midOf, putMid}
@@ -25,8 +25,8 @@ use Rattle.csv.specs.declared.Made.{Made}
 use Rattle.csv.specs.declared.Made.the-variants as Made
 use Rattle.csv.specs.Read.{nextLine, recordsMade, sheetMade}
 use Rattle.csv.specs.Steps.{Held, PutsBehind, Fills}
-use Rattle.csv.specs.ReadLaws.{in-front, nothing-in-front, given-in-front, refused-in-front, records-by-row, record-sixteen, Goes, Stops, row-more, row-last, row-refused}
-use Rattle.csv.specs.HeldLaws.{held-more}
+use Rattle.csv.specs.ReadLaws.{sheet-by-row, header-twenty, in-front, nothing-in-front, given-in-front, refused-in-front, records-by-row, record-sixteen, Goes, Stops, row-more, row-last, row-refused}
+use Rattle.csv.specs.HeldLaws.{held-first, held-more}
 
 -- ---- a part that goes to the end of the draft
 
@@ -86,7 +86,7 @@ module _ (whole : Answer (List ℕ)) (front s : List ℕ) (p here end : ℕ) (dr
       let g = on n e in
       let b = g .made in
       let v : PutsBehind b draft end next after = subst (λ (x : List ℕ). PutsBehind x draft end next after) (g .bytes .front) u in
-      let h = held-more (front ++ f .made) b draft end next after (f .held) (f .size) (record-sixteen p (lineAt s here) b _ (g .line)) v in
+      let h = held-more (front ++ f .made) b draft end next after (f .held) (f .size) (record-sixteen p (lineAt s here) _ (g .line)) v in
       record {
         made = f .made ++ b;
         held = subst (λ (x : List ℕ). Held x next after) (append-assoc front (f .made) b) (h .0);
@@ -100,7 +100,7 @@ module _ (whole : Answer (List ℕ)) (front s : List ℕ) (p here end : ℕ) (dr
       let g = ends e in
       let b = g .made in
       let v : PutsBehind b draft end next after = subst (λ (x : List ℕ). PutsBehind x draft end next after) (g .bytes .front) u in
-      let h = held-more (front ++ f .made) b draft end next after (f .held) (f .size) (record-sixteen p (lineAt s here) b _ (g .line)) v in
+      let h = held-more (front ++ f .made) b draft end next after (f .held) (f .size) (record-sixteen p (lineAt s here) _ (g .line)) v in
       subst (λ (x : Answer (List ℕ)). Fills x front (Made.Length next) after) (sym (f .rest ∙ given-in-front (recordsMade p (linesAt s here)) (f .made) b (g .rest)))
       (subst (λ (x : List ℕ). Held x next after) (append-assoc front (f .made) b) (h .0))
 
@@ -108,3 +108,46 @@ module _ (whole : Answer (List ℕ)) (front s : List ℕ) (p here end : ℕ) (dr
   turned-away x e =
       let g = row-refused (recordsMade (nextLine p)) (recordsMade p (linesAt s here)) s here r (recordRow p (lineAt s here)) shows (records-by-row p s here) x e in
       subst (λ (y : Answer (List ℕ)). Fills y front (Made.Refused x) draft) (sym (f .rest ∙ refused-in-front (recordsMade p (linesAt s here)) (f .made) _ _ g)) refl
+
+-- ---- the header
+
+-- what is filled behind the header's bytes is filled from the front
+behind : (x : Answer (List ℕ)) (front : List ℕ) (m : Made) (draft : List ℕ) → Fills x front m draft → Fills (x then λ bs. given (front ++ bs)) [] m draft
+unfolding _then_
+behind (given b) front (Made.Length end) draft f = f
+behind (refused k p) front (Made.Refused x) draft f = f
+
+module _ (s draft : List ℕ) (size : length draft ≡ 6436) (r : Row) (shows : toldRow r ≡ shown (headerRow 1 (lineAt s 0))) where
+  pub head-on : (n : ℕ) → r .end ≡ RowEnd.More n → Goes (recordsMade 2) (sheetMade (linesAt s 0)) s 0 r (headerRow 1 (lineAt s 0)) shows (sheet-by-row s) n
+  head-on n e = row-more (recordsMade 2) (sheetMade (linesAt s 0)) s 0 r (headerRow 1 (lineAt s 0)) shows (sheet-by-row s) n e
+
+  pub head-ends : r .end ≡ RowEnd.Last → Stops (recordsMade 2) (sheetMade (linesAt s 0)) s 0 r (headerRow 1 (lineAt s 0)) shows (sheet-by-row s)
+  head-ends e = row-last (recordsMade 2) (sheetMade (linesAt s 0)) s 0 r (headerRow 1 (lineAt s 0)) shows (sheet-by-row s) e
+
+  pub head-refused : (x : Refusal) → r .end ≡ RowEnd.Refused x → Fills (sheetMade (linesAt s 0)) [] (Made.Refused x) draft
+  head-refused x e =
+      subst (λ (y : Answer (List ℕ)). Fills y [] (Made.Refused x) draft)
+      (sym (row-refused (recordsMade 2) (sheetMade (linesAt s 0)) s 0 r (headerRow 1 (lineAt s 0)) shows (sheet-by-row s) x e)) refl
+
+  pub head-alone : r .end ≡ RowEnd.Last → (next : ℕ) (after : List ℕ) → PutsBehind (take (r .size) (r .bytes)) draft 0 next after → Fills (sheetMade (linesAt s 0)) [] (Made.Length next) after
+  head-alone e next after u =
+      let g = head-ends e in
+      let small = header-twenty 1 (lineAt s 0) _ (g .line) in
+      let v : PutsBehind (g .made) draft 0 next after = subst (λ (x : List ℕ). PutsBehind x draft 0 next after) (g .bytes .front) u in
+      subst (λ (x : Answer (List ℕ)). Fills x [] (Made.Length next) after) (sym (g .rest)) (held-first (g .made) draft next after (omega arith) v .0)
+
+  module _ (n : ℕ) (e : r .end ≡ RowEnd.More n) (next : ℕ) (after : List ℕ) (u : PutsBehind (take (r .size) (r .bytes)) draft 0 next after) where
+    held : Held (head-on n e .made) next after × (length after ≡ length draft)
+    held =
+        let g = head-on n e in
+        held-first (g .made) draft next after (omega (arith, header-twenty 1 (lineAt s 0) _ (g .line))) (subst (λ (x : List ℕ). PutsBehind x draft 0 next after) (g .bytes .front) u)
+
+    pub head-room : (length after ≡ 6436) × (next ≤ length after)
+    head-room = (held .1 ∙ size, held .0 .inside)
+
+    pub head-and-records : (m : Made) (done : List ℕ) → Fills (recordsMade 2 (linesAt s n)) (take next after) m done → Fills (sheetMade (linesAt s 0)) [] m done
+    head-and-records m done f =
+        let g = head-on n e in
+        let small = header-twenty 1 (lineAt s 0) _ (g .line) in
+        let front : take next after ≡ g .made = held .0 .front ∙ take-all next (g .made) (⊎-elim (λ h. omega arith) (λ h. absurd (omega (arith, held .0 .within))) (held .0 .much)) in
+        subst (λ (x : Answer (List ℕ)). Fills x [] m done) (sym (g .rest)) (behind (recordsMade 2 (linesAt s n)) (g .made) m done (subst (λ (x : List ℕ). Fills (recordsMade 2 (linesAt s n)) x m done) front f))

@@ -1,6 +1,6 @@
 -- Bytes put one after another into a draft that holds more than any sheet has; and what the table says of what it holds.
 -- Assumes nothing.
-use Prim.Native.Nat.{ℕ, _+_, _≤_, _<_}
+use Prim.Native.Nat.{ℕ, _+_, _*_, _≤_, _<_}
 use mathlib.Core.Logic.{_⊎_, inl, inr, ⊎-elim}
 use mathlib.Core.Path.{_≡_, refl, sym, ap, ap₂, _∙_}
 use mathlib.Core.List.{List, [], _∷_, _++_, append-assoc}
@@ -12,8 +12,15 @@ use borrow.Author.Tests.{le-leb, lt-leb}
 use Rattle.decimal.specs.Put.{putCount, putOn}
 use Rattle.decimal.specs.PutLaws.{count-all, bytes-all}
 use Rattle.checker.specs.Longer.{enough, sheet-cut}
-use Rattle.checker.specs.Check.{sheetIn}
-use Rattle.csv.specs.Steps.{Held, PutsBehind}
+use Rattle.sheet.specs.Versions.{mostRecords}
+use Rattle.sheet.specs.VersionLaws.{regular}
+use Rattle.sheet.specs.Refusals.{Answer, given, refused}
+use Rattle.sheet.specs.HeaderLaws.{header-ranges}
+use Rattle.sheet.specs.HeaderBack.{header-read-fine}
+use Rattle.checker.specs.Check.{_then_, Sheet, sheetIn}
+use Rattle.checker.specs.CheckLaws.{sheet-whole}
+use Rattle.checker.specs.Unjudged.{soundSheet}
+use Rattle.csv.specs.Steps.{Held, PutsBehind, fitsIn, soundIn}
 
 -- without room nothing is put
 count-none : (b o : List ℕ) → length o < length b → (putCount b o ≡ 0) × (putOn b o ≡ o)
@@ -96,3 +103,23 @@ module _ (whole : List ℕ) (end : ℕ) (draft : List ℕ) (h : Held whole end d
           sym (sheet-cut (take end draft) room)
           ∙ ap (λ (b : List ℕ). sheetIn b room) (ap (take enough) (h .front) ∙ take-take enough end whole l)
           ∙ sheet-cut whole room
+
+  -- a sheet that is not turned away is no longer than any
+  whole-held : (room : ℕ) (t : Sheet) → sheetIn whole room ≡ given t → take end draft ≡ whole
+  whole-held room t e =
+      let w = sheet-whole whole room t e in
+      let few = header-ranges (t .header) (header-read-fine whole (t .header) (w .header .read)) .count-high in
+      let all : end ≡ length whole = ⊎-elim (λ f. f) (λ l. absurd (omega (arith, h .within, w .header .whole, few, regular (t .header .own) .short))) (h .much) in
+      h .front ∙ take-all end whole (omega arith)
+
+  -- so what the draft holds is answered as all would be
+  pub held-sound : (room : ℕ) → soundIn (take end draft) room ≡ soundIn whole room
+  unfolding soundSheet _then_
+  held-sound room = ap (λ (x : Answer Sheet). x then λ t. fitsIn (take end draft) room) (held-sheet space) ∙ go (sheetIn whole space) refl
+    where
+      space : ℕ
+      space = 4 * mostRecords
+
+      go : (x : Answer Sheet) → sheetIn whole space ≡ x → (x then λ t. fitsIn (take end draft) room) ≡ (x then λ t. fitsIn whole room)
+      go (given t) e = ap (λ (b : List ℕ). fitsIn b room) (whole-held space t e)
+      go (refused k p) e = refl

@@ -1,6 +1,6 @@
 -- The bytes that the lines of a text make, by the first of them.
 -- Assumes nothing.
-use Prim.Native.Nat.{ℕ, _-_, _≤_, _<_}
+use Prim.Native.Nat.{ℕ, _+_, _-_, _≤_, _<_}
 use mathlib.Core.Path.{_≡_, refl, sym, ap, ap₂, subst, _∙_}
 use mathlib.Core.Bool.{Bool, true, false, not, _&&_}
 use mathlib.Core.List.{List, [], _++_, map, append-nil, append-assoc}
@@ -9,9 +9,12 @@ use lib.ListN.{length, take, length-map, length-append}
 use lib.Seq.{take-at}
 use lib.Dec.{eqb}
 use Rattle.quantity.specs.Range.{within}
-use Rattle.layout.specs.Layout.{pack, bytes}
+use Rattle.layout.specs.Layout.{pack, unpack, bytes}
 use Rattle.layout.specs.Laws.{length-unpack, length-bytes}
 use Rattle.sheet.specs.declared.Refusal.{Refusal}
+use Rattle.sheet.specs.Versions.{firstBytes, numbers, numbered}
+use Rattle.sheet.specs.Lines.{firstWidths, ownWidths}
+use Rattle.sheet.specs.Header.{ownBytes}
 use Rattle.sheet.specs.Refusals.{Answer, given, refused, told}
 use Rattle.sheet.specs.RefusalLaws.{given-refused, given-same, refused-number, refused-place}
 use Rattle.fields.specs.Lines.{Lines, none, bad, row, linesAt}
@@ -22,9 +25,10 @@ use Rattle.text.specs.LinesLaws.{valueIn, RowAt, more, last, broken, row-at}
 use Rattle.rows.specs.declared.Row.{Row}
 use Rattle.rows.specs.declared.RowEnd.{RowEnd}
 use Rattle.rows.specs.declared.RowEnd.the-variants as RowEnd
-use Rattle.rows.specs.Rows.{zeros, kinds, firstOf, taken, lineBy, recordsOf, recordMade, headerLine, recordLine, Made, endedBy, rowBy, headerRow, recordRow, Shown, toldEnd, toldRow, shown}
+use Rattle.rows.specs.Rows.{zeros, kinds, firstOf, taken, lineBy, firstsOf, ownsOf, headerMade, recordsOf, recordMade, headerLine, recordLine, Made, endedBy, rowBy, headerRow, recordRow, Shown, toldEnd, toldRow, shown}
 use Rattle.rows.specs.Pack.{below, powers}
-use Rattle.rows.specs.Forms.{recordWidths, recordCount}
+use Rattle.rows.specs.Forms.{firstCount, ownCount, recordWidths, recordCount}
+use Rattle.rows.specs.RowLaws.{own-small}
 use Rattle.checker.specs.Check.{_then_}
 use Rattle.csv.specs.Read.{nextLine, recordsMade, sheetMade}
 
@@ -172,32 +176,37 @@ module _ (R : Lines → Answer (List ℕ)) (whole : Answer (List ℕ)) (s : List
       go (given m) g h = given-refused (sym (h .0) ∙ ap toldEnd e)
       go (refused k q) g h = let t = sym h ∙ ap toldEnd e in g ∙ ap₂ refused (refused-number t) (refused-place t)
 
--- a record's line has sixteen bytes
-pub record-sixteen : (p : ℕ) (l : Numbers) (b : List ℕ) (e : LineEnd) → recordRow p l ≡ given (record { bytes = b; end = e }) → length b ≡ 16
+-- ---- how many bytes a line has
+
+-- those that the line's numbers make
+ended-bytes : (p : ℕ) (x : LineEnd) (t u : Bool) (b : List ℕ) (m : Made) → endedBy x (lineBy p t u b) ≡ given m → m .bytes ≡ b
+ended-bytes p x true u b m f = given-refused (sym f)
+ended-bytes p x false true b m f = ap (λ (y : Made). y .bytes) (sym (given-same f))
+ended-bytes p x false false b m f = given-refused (sym f)
+
+row-bytes : (p : ℕ) (x : LineEnd) (t u : Bool) (b : List ℕ) (m : Made) → rowBy p x (lineBy p t u b) ≡ given m → m .bytes ≡ b
+row-bytes p LineEnd.Fault t u b m e = given-refused (sym e)
+row-bytes p LineEnd.Last t u b m e = ended-bytes p LineEnd.Last t u b m e
+row-bytes p (LineEnd.More n) t u b m e = ended-bytes p (LineEnd.More n) t u b m e
+
+-- sixteen of a record
+pub record-sixteen : (p : ℕ) (l : Numbers) (m : Made) → recordRow p l ≡ given m → length (m .bytes) ≡ 16
 unfolding recordRow recordLine
-record-sixteen p l b e = by-end (l .end)
-  where
-    kind : ℕ
-    kind = firstOf (l .values)
+record-sixteen p l m e =
+    let kind = firstOf (l .values) in
+    let ns = taken (within kinds kind) (l .values) in
+    ap length (row-bytes p (l .end) (within kinds kind && not (eqb (length (l .values)) (recordCount kind))) (below (powers (recordWidths kind)) (recordsOf kind ns)) (recordMade kind ns) m e)
+    ∙ length-unpack (bytes 16) (pack (recordWidths kind) (recordsOf kind ns))
+    ∙ length-bytes 16
 
-    wrong : Bool
-    wrong = within kinds kind && not (eqb (length (l .values)) (recordCount kind))
-
-    narrow : Bool
-    narrow = below (powers (recordWidths kind)) (recordsOf kind (taken (within kinds kind) (l .values)))
-
-    sixteen : length (recordMade kind (taken (within kinds kind) (l .values))) ≡ 16
-    sixteen = length-unpack (bytes 16) (pack (recordWidths kind) (recordsOf kind (taken (within kinds kind) (l .values)))) ∙ length-bytes 16
-
-    same : (x : LineEnd) (m : Made) → endedBy x (given (recordMade kind (taken (within kinds kind) (l .values)))) ≡ given m → length (m .bytes) ≡ 16
-    same x m f = ap (λ (y : Made). length (y .bytes)) (sym (given-same f)) ∙ sixteen
-
-    by-line : (x : LineEnd) (t u : Bool) → endedBy x (lineBy p t u (recordMade kind (taken (within kinds kind) (l .values)))) ≡ given (record { bytes = b; end = e }) → length b ≡ 16
-    by-line x true u f = given-refused (sym f)
-    by-line x false true f = same x (record { bytes = b; end = e }) f
-    by-line x false false f = given-refused (sym f)
-
-    by-end : (x : LineEnd) → rowBy p x (recordLine p (length (l .values)) (l .values)) ≡ given (record { bytes = b; end = e }) → length b ≡ 16
-    by-end LineEnd.Fault f = given-refused (sym f)
-    by-end LineEnd.Last f = by-line LineEnd.Last wrong narrow f
-    by-end (LineEnd.More n) f = by-line (LineEnd.More n) wrong narrow f
+-- twenty at most of a header
+pub header-twenty : (p : ℕ) (l : Numbers) (m : Made) → headerRow p l ≡ given m → length (m .bytes) ≤ 20
+unfolding headerRow headerLine
+header-twenty p l m e =
+    let k = firstOf (l .values) in
+    let v = numbered k in
+    let ns = taken (within numbers k) (l .values) in
+    let x = unpack (bytes firstBytes) (pack firstWidths (firstsOf ns)) in
+    let y = unpack (bytes (ownBytes v)) (pack (ownWidths v) (ownsOf v ns)) in
+    let b = row-bytes p (l .end) (within numbers k && not (eqb (length (l .values)) (firstCount + ownCount v))) (below (powers firstWidths) (firstsOf ns) && below (powers (ownWidths v)) (ownsOf v ns)) (headerMade v ns) m e in
+    omega (arith, ap length b, length-append x y, length-unpack (bytes firstBytes) (pack firstWidths (firstsOf ns)), length-bytes firstBytes, length-unpack (bytes (ownBytes v)) (pack (ownWidths v) (ownsOf v ns)), length-bytes (ownBytes v), own-small k .1)
