@@ -1,2 +1,3 @@
 mod Filling
 mod Telling
+mod Laying

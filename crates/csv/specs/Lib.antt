@@ -3,3 +3,4 @@ pub mod Write
 pub mod Steps
 pub mod ReadLaws
 pub mod HeldLaws
+pub mod WriteLaws

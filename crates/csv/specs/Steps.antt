@@ -12,6 +12,8 @@ use Rattle.sheet.specs.Record.{readRecord}
 use Rattle.checker.specs.Longer.{enough}
 use Rattle.checker.specs.Check.{_then_, demand, recordPart}
 use Rattle.checker.specs.Unjudged.{soundSheet}
+use Rattle.rows.specs.Pack.{fieldsOf}
+use Rattle.rows.specs.Rows.{zeros}
 use Rattle.csv.specs.declared.Made.{Made}
 use Rattle.csv.specs.declared.Made.the-variants as Made
 use Rattle.csv.specs.Write.{line, recordCells}
@@ -64,3 +66,7 @@ recordsText b i (suc count) = recordText (recordPart b i) ++ recordsText b (i + 
 -- the longest line: thirteen numbers of at most nine digits, and what stands after each
 abbrev pub longestLine : ℕ
 longestLine = 131
+
+-- the ten numbers of a header, and three that are 0
+abbrev pub thirteen : List ℕ → List ℕ
+thirteen ns = fieldsOf 10 ns ++ zeros 3

@@ -1,4 +1,6 @@
 // Sheets in and out as comma-separated text: a line for the header's fields and one for each record's.
+mod page;
+
 use rows::Row;
 use rows::RowEnd;
 use sheet::HeaderRead;
@@ -9,6 +11,7 @@ ghost use Prim.Native.Nat.{_≤_};
 ghost use lib.ListN.{length, take};
 ghost use Rattle.fields.specs.Lines.{linesAt};
 ghost use Rattle.csv.specs.Read.{nextLine, recordsMade, sheetMade, sheetFrom, Converts};
+ghost use Rattle.csv.specs.Write.{textFrom};
 ghost use Rattle.csv.specs.Steps.{fitsIn, soundIn, PutsBehind, Fills};
 
 // How many bytes were written, or why none were.
@@ -25,6 +28,9 @@ enum Made {
 
 // The longest sheet has 6,420 bytes: with a record more it is seen to be too long, whatever the lines behind it are.
 const DRAFT: usize = 6436;
+
+// The longest text: a line of 131 bytes at most for the header and for each of 400 records.
+const PAGE: usize = 52531;
 
 // The bytes of a line behind those of the lines before it, where there is room.
 fn put_row(row: Row, draft: &mut [u8], end: usize) -> usize
@@ -118,5 +124,21 @@ pub fn read_sheet(text: &[u8], out: &mut [u8]) -> Converted
     match made {
         Made::Refused(x) => Converted::Refused(x),
         Made::Length(len) => tell_sheet(&draft[..len], out),
+    }
+}
+
+// A sheet into text, likewise.
+pub fn write_text(sheet: &[u8], out: &mut [u8]) -> Converted
+    ensures { λ r. ⌜ Converts (textFrom (now (sheet .entry)) (length (now (out .entry)))) (now (out .entry)) r (now (out .exit)) ⌝ }
+{
+    let read = checker::sound_header(sheet);
+    match read {
+        HeaderRead::Refused(x) => Converted::Refused(x),
+        HeaderRead::Good(h) => {
+            let mut page = [0u8; PAGE];
+            let at = page::put_header(&mut page, h);
+            let len = page::put_records(&sheet[h.size()..], h.count, &mut page, at);
+            tell(&page[..len], out)
+        }
     }
 }
