@@ -4,15 +4,17 @@ use Prim.Native.Nat.{ℕ, suc, _+_, _-_, _*_, _≤_, _<_}
 use mathlib.Core.Path.{_≡_, refl, sym, ap, _∙_}
 use mathlib.Core.List.{List, [], _∷_, _++_}
 use native.Mathlib.Omega.{arith}
-use lib.ListN.{length, getD, length-append}
+use lib.ListN.{length, getD, take, length-append}
 use Rattle.decimal.specs.Decimal.{decimalOf}
 use Rattle.decimal.specs.Laid.{laid, Laid}
-use Rattle.decimal.specs.LaidLaws.{laid-length, laid-laid, laid-none}
+use Rattle.decimal.specs.LaidLaws.{laid-length, laid-laid, laid-none, laid-both, laid-taken}
 use Rattle.decimal.specs.LineLaws.{line-one, line-more}
 use Rattle.rows.specs.Pack.{fieldsFrom, fieldsOf}
-use Rattle.csv.specs.Write.{line}
+use Rattle.sheet.specs.declared.Header.{Header}
+use Rattle.csv.specs.Write.{line, headerCells, textOf}
+use Rattle.csv.specs.WriteLaws.{Written, header-most, texts-most}
 use Rattle.csv.specs.Steps.{recordText, recordsText, longestLine}
-use Rattle.checker.specs.Check.{recordPart}
+use Rattle.checker.specs.Check.{recordPart, recordsPart}
 
 -- `rest` is left of the text, and goes to `here` on
 pub record Laying (page₀ : List ℕ) (at : ℕ) (text page : List ℕ) (here : ℕ) (rest : List ℕ) : Type 0 where
@@ -94,3 +96,27 @@ module _ (b : List ℕ) (n i : ℕ) where
 
 pub all-records : (b : List ℕ) (n : ℕ) → recordsText b 0 (n - 0) ≡ recordsText b 0 n
 all-records b n = let e : n - 0 ≡ n = omega arith in ap (recordsText b 0) e
+
+-- ---- a whole sheet
+
+module _ (s : List ℕ) (h : Header) (w : Written s h) (page₀ : List ℕ) (size : length page₀ ≡ 52531) where
+  room : 0 + length (textOf (w .sheet)) ≤ length page₀
+  room = omega (arith, ap length (w .text), length-append (line (headerCells h)) (recordsText (recordsPart h s) 0 (h .count)), header-most h (w .fine), texts-most (recordsPart h s) 0 (h .count), w .few)
+
+  module _ (at : ℕ) (page₁ : List ℕ) (f : Laid page₀ 0 (line (headerCells h)) at page₁) where
+    -- behind the header's line there is room for the records'
+    pub rest-fits : at + longestLine * h .count ≤ length page₁
+    rest-fits =
+        let l = laid-length page₀ 0 (line (headerCells h)) (omega (arith, header-most h (w .fine))) in
+        omega (arith, f .place, header-most h (w .fine), w .few, ap length (f .bytes))
+
+    -- all lines are the text
+    module _ (len : ℕ) (page₂ : List ℕ) (g : Laid page₁ at (recordsText (recordsPart h s) 0 (h .count)) len page₂) where
+      all : Laid page₀ 0 (textOf (w .sheet)) len page₂
+      all = laid-both page₀ 0 (line (headerCells h)) (recordsText (recordsPart h s) 0 (h .count)) (w .text) room f g
+
+      pub text-inside : len ≤ length page₂
+      text-inside = omega (arith, all .place, ap length (all .bytes), laid-length page₀ 0 (textOf (w .sheet)) room, room)
+
+      pub text-taken : take len page₂ ≡ textOf (w .sheet)
+      text-taken = laid-taken page₀ (textOf (w .sheet)) all

@@ -18,6 +18,7 @@ use Rattle.csv.specs.declared.Converted.the-variants as Converted
 use Rattle.csv.specs.declared.Made.{Made}
 use Rattle.csv.specs.declared.Made.the-variants as Made
 use Rattle.csv.specs.Read.{sheetMade, sheetFrom, toldConverted, lengthOf, outputBy, Converts}
+use Rattle.csv.specs.Write.{textOf, textFrom}
 use Rattle.csv.specs.Steps.{Held, Fills, fitsIn, soundIn}
 use Rattle.csv.specs.HeldLaws.{held-sound}
 
@@ -80,3 +81,18 @@ module _ (s : List ℕ) (room : ℕ) (draft : List ℕ) where
     where
       go : (y : Answer (List ℕ)) → Fills y [] (Made.Length end) draft → (end ≤ length draft) × (soundIn (take end draft) room ≡ (y then λ b. soundIn b room))
       go (given b) h = (h .inside, held-sound b end draft h room)
+
+-- ---- a sheet's text
+
+module _ (s : List ℕ) (room : ℕ) where
+  pub text-refused : (x : Refusal) → told x ≡ soundHeader s → textFrom s room ≡ told x
+  unfolding soundHeader textFrom _then_
+  text-refused x e = go (soundSheet s) (sym e)
+    where
+      go : (y : Answer Sheet) → (y then λ t. given (t .header)) ≡ told x → (y then λ t. fitsIn (textOf t) room) ≡ told x
+      go (given t) f = given-refused f
+      go (refused k p) f = ap₂ refused (refused-number f) (refused-place f)
+
+  pub text-given : (t : Sheet) → soundSheet s ≡ given t → fitsIn (textOf t) room ≡ textFrom s room
+  unfolding textFrom _then_
+  text-given t e = rw e
