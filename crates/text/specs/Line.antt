@@ -1,5 +1,5 @@
 -- A line of a text as numbers, and how it ends.
-use Prim.Native.Nat.{ℕ}
+use Prim.Native.Nat.{ℕ, zero, suc, _-_}
 use mathlib.Core.Path.{_≡_}
 use mathlib.Core.List.{List, [], _∷_}
 use lib.ListN.{length}
@@ -43,3 +43,23 @@ pub record Reads (l : Numbers) (nums : List ℕ) (r : Line) (after : List ℕ) :
   pub count : r .count ≡ length (l .values)
   pub end : r .end ≡ l .end
   pub numbers : after ≡ over (l .values) nums
+
+-- ---- where a line starts
+
+abbrev pub nextBy : LineEnd → (at : ℕ) → ℕ
+nextBy (More next) at = next
+nextBy Last at = at
+nextBy Fault at = at
+
+-- the start of the line behind the one at `at`, or `at` where there is none
+unfoldable pub nextOf : List ℕ → (at : ℕ) → ℕ
+nextOf s at = nextBy (lineAt s at .end) at
+
+-- so many lines on
+unfoldable pub startFrom : (count : ℕ) → List ℕ → (at : ℕ) → ℕ
+startFrom zero s at = at
+startFrom (suc count) s at = startFrom count s (nextOf s at)
+
+-- the start of a line, the first being 1
+abbrev pub lineStart : List ℕ → (line : ℕ) → ℕ
+lineStart s line = startFrom (line - 1) s 0

@@ -1,6 +1,6 @@
 -- A line, by its first field; and what the lines of a text are, by the first of them.
 -- Assumes nothing.
-use Prim.Native.Nat.{ℕ, suc, _+_, _≤_, _<_}
+use Prim.Native.Nat.{ℕ, zero, suc, _+_, _-_, _≤_, _<_}
 use mathlib.Core.Path.{_≡_, refl, sym, ap, ap₂, _∙_}
 use mathlib.Core.List.{List, [], _∷_, _++_, map, append-assoc}
 use native.Mathlib.Omega.{arith}
@@ -15,7 +15,7 @@ use Rattle.fields.specs.declared.Num.the-variants.{Empty}
 use Rattle.fields.specs.declared.Field as field
 use Rattle.text.specs.declared.LineEnd.{LineEnd}
 use Rattle.text.specs.declared.LineEnd.the-variants.{More, Last, Fault}
-use Rattle.text.specs.Line.{Numbers, behind, lineOf, lineAt, over}
+use Rattle.text.specs.Line.{Numbers, behind, lineOf, lineAt, over, nextOf, startFrom}
 
 -- ---- a line by its first field
 
@@ -108,3 +108,20 @@ pub over-length : (vs ns : List ℕ) → length (over vs ns) ≡ length ns
 over-length [] ns = refl
 over-length (v ∷ vs) [] = refl
 over-length (v ∷ vs) (n ∷ ns) = ap suc (over-length vs ns)
+
+-- ---- where a line starts
+
+-- where no line follows, none of the next ones does
+pub start-stays : (count : ℕ) (s : List ℕ) (at : ℕ) → nextOf s at ≡ at → startFrom count s at ≡ at
+unfolding startFrom
+start-stays zero s at e = refl
+start-stays (suc count) s at e = ap (startFrom count s) e ∙ start-stays count s at e
+
+module _ (s : List ℕ) (line i at : ℕ) where
+  pub start-next : i < line → startFrom (line - i) s at ≡ startFrom (line - (i + 1)) s (nextOf s at)
+  unfolding startFrom
+  start-next l = let e : line - i ≡ suc (line - (i + 1)) = omega arith in ap (λ (k : ℕ). startFrom k s at) e
+
+  pub start-none : line ≤ i → startFrom (line - i) s at ≡ at
+  unfolding startFrom
+  start-none l = let e : line - i ≡ 0 = omega arith in ap (λ (k : ℕ). startFrom k s at) e

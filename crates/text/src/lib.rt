@@ -6,7 +6,7 @@ ghost use Prim.Native.Nat.{_+_, _<_, _^_};
 ghost use lib.ListN.{set};
 ghost use Rattle.fields.specs.Number.{valueOf};
 ghost use Rattle.fields.specs.Field.{fieldAt};
-ghost use Rattle.text.specs.Line.{lineAt, Reads};
+ghost use Rattle.text.specs.Line.{lineAt, lineStart, nextOf, Reads};
 
 // The lent text and the place in it, together: it hands out one field after another.
 pub struct Reader<'a> {
@@ -122,4 +122,35 @@ pub fn line_at(text: &[u8], at: usize, nums: &mut [u32]) -> Line
             }
         }
     }
+}
+
+// Where the line behind the one at a place starts; the same place where there is none.
+fn next_start(text: &[u8], at: usize) -> usize
+    ensures { λ r. ⌜ r ≡ nextOf (now (text .entry)) at ⌝ }
+{
+    let mut none = [0u32; 1];
+    let line = line_at(text, at, &mut none);
+    let end = line.end;
+    match end {
+        LineEnd::More(next) => next,
+        LineEnd::Last => at,
+        LineEnd::Fault => at,
+    }
+}
+
+// Where a line starts, the first being 1, so that it can be shown; the last one that can be told where there are fewer.
+pub fn line_start(text: &[u8], line: u32) -> usize
+    ensures { λ r. ⌜ r ≡ lineStart (now (text .entry)) line ⌝ }
+{
+    let mut here: usize = 0;
+    let mut i: u32 = 1;
+    while i < line {
+        let next = next_start(text, here);
+        if next == here {
+            return here;
+        }
+        here = next;
+        i += 1;
+    }
+    here
 }
