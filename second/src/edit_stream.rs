@@ -6,11 +6,8 @@
 use crate::edit::{edit, Edit};
 use crate::form::RECORD_NUMBERS;
 use crate::refusal::Refusal;
+use crate::rest::{self, Rest};
 
-/// A buffer above this size is taken for a broken stream.
-pub const LARGEST_BUFFER: usize = 65_536;
-const NUMBER_BYTES: usize = 4;
-const HEAD_NUMBERS: usize = 3;
 const EDIT_NUMBERS: usize = 1 + RECORD_NUMBERS;
 const PUT: u32 = 0;
 const REMOVE: u32 = 1;
@@ -40,50 +37,29 @@ pub enum Part {
 }
 
 pub struct Parts<'a> {
-    rest: &'a [u8],
+    rest: Rest<'a>,
     /// Edits of the case that are still to come.
     edits: u32,
 }
 
 pub fn parts(stream: &[u8]) -> Parts<'_> {
     Parts {
-        rest: stream,
+        rest: Rest::new(stream),
         edits: 0,
     }
 }
 
 impl Parts<'_> {
-    fn bytes(&mut self, count: usize) -> Option<&[u8]> {
-        let (taken, rest) = self.rest.split_at_checked(count)?;
-        self.rest = rest;
-        Some(taken)
-    }
-
-    fn numbers<const COUNT: usize>(&mut self) -> Option<[u32; COUNT]> {
-        let bytes = self.bytes(NUMBER_BYTES * COUNT)?;
-        let mut numbers = [0; COUNT];
-        for (number, bytes) in numbers.iter_mut().zip(bytes.chunks(NUMBER_BYTES)) {
-            *number = bytes
-                .iter()
-                .fold(0, |sum, byte| 256 * sum + u32::from(*byte));
-        }
-        Some(numbers)
-    }
-
     fn case(&mut self) -> Option<Part> {
-        let [size, length, edits] = self.numbers::<HEAD_NUMBERS>()?;
-        let size = size as usize;
-        if size > LARGEST_BUFFER {
-            return None;
-        }
-        let buffer = self.bytes(size)?.to_vec();
+        let [size, length, edits] = self.rest.numbers()?;
+        let buffer = self.rest.bytes_of(size)?.to_vec();
         self.edits = edits;
         let length = length as usize;
         Some(Part::Case(Lent { buffer, length }))
     }
 
     fn edit(&mut self) -> Option<Part> {
-        let [what, fields @ ..] = self.numbers::<EDIT_NUMBERS>()?;
+        let [what, fields @ ..] = self.rest.numbers::<EDIT_NUMBERS>()?;
         self.edits -= 1;
         match what {
             PUT => Some(Part::Edit(Edit::Put(fields))),
@@ -112,9 +88,8 @@ impl Iterator for Parts<'_> {
 
 /// One case as it stands in a stream.
 pub fn framed(lent: &Lent, edits: &[Edit]) -> Vec<u8> {
-    assert!(lent.buffer.len() <= LARGEST_BUFFER);
-    let head = [lent.buffer.len(), lent.length, edits.len()];
-    let mut bytes: Vec<u8> = head.map(|number| (number as u32).to_be_bytes()).concat();
+    let size = rest::length(&lent.buffer);
+    let mut bytes = rest::framed([size, lent.length as u32, edits.len() as u32]);
     bytes.extend(&lent.buffer);
     for edit in edits {
         let mut numbers = [0; EDIT_NUMBERS];
@@ -128,16 +103,7 @@ pub fn framed(lent: &Lent, edits: &[Edit]) -> Vec<u8> {
                 numbers[1] = *id;
             }
         }
-        bytes.extend(numbers.map(u32::to_be_bytes).concat());
+        bytes.extend(rest::framed(numbers));
     }
     bytes
-}
-
-/// What is printed of one edit, in a line: the new length or the refusal. The
-/// buffer's bytes stand behind it.
-pub fn answer(outcome: Result<usize, Refusal>) -> String {
-    match outcome {
-        Ok(length) => format!("{length}\n"),
-        Err(Refusal { number, place }) => format!("refused {number} {place}\n"),
-    }
 }

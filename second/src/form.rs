@@ -59,6 +59,12 @@ pub fn record_layout(kind: i128) -> Option<Layout> {
     }
 }
 
+/// The fields that are entered: all but the zero bits.
+pub fn entered(layout: Layout) -> impl Iterator<Item = &'static Field> {
+    let fields = layout.iter();
+    fields.filter(|field| !["zero", "last_zero"].contains(&field.0))
+}
+
 /// The place of a field in its layout, counted from 1 as refusals count.
 pub fn field_number(layout: Layout, name: &str) -> usize {
     let index = layout.iter().position(|field| field.0 == name);
@@ -85,6 +91,19 @@ impl Form {
         let mut form = Form::blank(layout);
         form.fill(fields);
         form
+    }
+
+    /// A form with these values in the fields that are entered, in layout order.
+    pub fn of_entered(layout: Layout, values: &[i128]) -> Form {
+        let fields = entered(layout).zip(values);
+        let fields: Vec<(&str, i128)> = fields.map(|(field, value)| (field.0, *value)).collect();
+        Form::filled(layout, &fields)
+    }
+
+    pub fn entered(&self) -> Vec<i128> {
+        entered(self.layout)
+            .map(|field| self.get(field.0))
+            .collect()
     }
 
     pub fn fill(&mut self, fields: &[(&str, i128)]) {

@@ -2,27 +2,35 @@
 //! turns, and spoilt ones for every way of being turned away. The same seed
 //! gives the same sheets everywhere.
 
+mod cells;
 mod chance;
+mod damage;
 mod draft;
 mod edge;
 mod edits;
 mod faults;
 mod headers;
 mod hulls;
+mod page;
 mod record;
+mod refused;
+mod slips;
 mod spoil;
+mod texts;
 mod tie;
 mod vessel;
 mod whole;
 
 use crate::edit::Edit;
 use crate::edit_stream::Lent;
-use crate::stream::LONGEST_SHEET;
+use crate::rest::LONGEST;
+use crate::text_stream::Case;
 use crate::version::VERSIONS;
 use chance::Chance;
 use edge::Edges;
 use faults::Faults;
 use headers::Headers;
+use texts::Texts;
 use whole::{full, noise, sound, sound_in};
 
 /// A sheet with more behind its header than all its records can fill.
@@ -37,8 +45,8 @@ fn longer_than_any(chance: &mut Chance) -> Vec<u8> {
     let length = match chance.below(4) {
         0 => fullest + 1,
         1 => version.sheet_bytes(too_many),
-        2 => LONGEST_SHEET,
-        _ => chance.between(fullest as i128 + 1, LONGEST_SHEET as i128) as usize,
+        2 => LONGEST,
+        _ => chance.between(fullest as i128 + 1, LONGEST as i128) as usize,
     };
     let record = bytes[version.bytes..].to_vec();
     while bytes.len() < length {
@@ -63,11 +71,18 @@ pub fn edit_cases(seed: u64) -> impl Iterator<Item = (Lent, Vec<Edit>)> {
     std::iter::repeat_with(move || edits::case(&mut chance, &mut faults))
 }
 
+/// Case after case of texts, without end.
+pub fn text_cases(seed: u64) -> impl Iterator<Item = Case> {
+    let mut chance = Chance::new(seed);
+    let mut texts = Texts::new();
+    std::iter::repeat_with(move || texts.case(&mut chance))
+}
+
 fn one(chance: &mut Chance, edges: &mut Edges, headers: &mut Headers) -> Vec<u8> {
     match chance.below(1000) {
         0..5 => full(chance).bytes(),
         5..7 => longer_than_any(chance),
-        7..10 => full_with_a_fault_at_its_end(chance),
+        7..10 => refused::full_with_a_fault_at_its_end(chance).bytes(),
         10..30 => sound(chance, 0).bytes(),
         30..80 => noise(chance),
         80..230 => field_to_an_end(chance),
@@ -80,13 +95,6 @@ fn one(chance: &mut Chance, edges: &mut Edges, headers: &mut Headers) -> Vec<u8>
             sound(chance, n).bytes()
         }
     }
-}
-
-/// A fault far back, so that its place is a great number.
-fn full_with_a_fault_at_its_end(chance: &mut Chance) -> Vec<u8> {
-    let mut draft = full(chance);
-    spoil::last_record(chance, &mut draft);
-    draft.bytes()
 }
 
 fn field_to_an_end(chance: &mut Chance) -> Vec<u8> {

@@ -1,6 +1,7 @@
-//! The lines the document's program prints for one sheet.
+//! The lines that are printed: of a sheet that is checked, of an edit, of a text.
 
 use crate::check::{check, Outcome, Verdict};
+use crate::fields::Line;
 use crate::form::{RECORD_BYTES, VERDICT_BYTES};
 use crate::refusal::Refusal;
 
@@ -26,7 +27,7 @@ fn line(verdict: &Verdict) -> String {
 /// `id rule required source` for each record and then `n failures`, or `refused number place`.
 pub fn answer(sheet: &[u8]) -> String {
     match verdicts(sheet) {
-        Err(Refusal { number, place }) => format!("refused {number} {place}\n"),
+        Err(refusal) => format!("{refusal}\n"),
         Ok((verdicts, Outcome { n, failures })) => {
             let mut text = String::new();
             for verdict in verdicts {
@@ -35,4 +36,30 @@ pub fn answer(sheet: &[u8]) -> String {
             text + &format!("{n} {failures}\n")
         }
     }
+}
+
+/// What an edit, a text read or a sheet written gives: a length or a refusal.
+pub fn length(outcome: Result<usize, Refusal>) -> String {
+    match outcome {
+        Ok(length) => format!("{length}\n"),
+        Err(refusal) => format!("{refusal}\n"),
+    }
+}
+
+/// The fields of a text in a line: each in hexadecimal, a comma between two of them and
+/// a semicolon between two lines; `quotes` where a quote is at fault.
+pub fn fields(lines: &[Line]) -> String {
+    let hexadecimal = |field: &String| {
+        let digits = field.chars().map(|byte| format!("{:02x}", u32::from(byte)));
+        digits.collect::<String>()
+    };
+    let joined = |fields: &Vec<String>| {
+        let fields: Vec<String> = fields.iter().map(hexadecimal).collect();
+        fields.join(",")
+    };
+    let lines: Option<Vec<String>> = lines
+        .iter()
+        .map(|line| line.as_ref().ok().map(joined))
+        .collect();
+    lines.map_or("quotes".to_string(), |lines| lines.join(";")) + "\n"
 }

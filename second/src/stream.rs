@@ -1,9 +1,7 @@
 //! Many sheets in one stream: each stands behind its length in four bytes,
 //! most significant first.
 
-/// A length above this is taken for a broken stream, not for a sheet.
-pub const LONGEST_SHEET: usize = 65_536;
-const LENGTH_BYTES: usize = 4;
+use crate::rest::{self, Rest};
 
 #[derive(Debug, PartialEq, Eq)]
 pub enum Piece<'a> {
@@ -13,11 +11,20 @@ pub enum Piece<'a> {
 }
 
 pub struct Pieces<'a> {
-    rest: &'a [u8],
+    rest: Rest<'a>,
 }
 
 pub fn pieces(stream: &[u8]) -> Pieces<'_> {
-    Pieces { rest: stream }
+    Pieces {
+        rest: Rest::new(stream),
+    }
+}
+
+impl<'a> Pieces<'a> {
+    fn sheet(&mut self) -> Option<&'a [u8]> {
+        let [length] = self.rest.numbers()?;
+        self.rest.bytes_of(length)
+    }
 }
 
 impl<'a> Iterator for Pieces<'a> {
@@ -25,30 +32,20 @@ impl<'a> Iterator for Pieces<'a> {
 
     /// Nothing comes after a broken piece.
     fn next(&mut self) -> Option<Piece<'a>> {
-        let stream = self.rest;
-        self.rest = &[];
-        if stream.is_empty() {
+        if self.rest.is_empty() {
             return None;
         }
-        let Some((length, behind)) = stream.split_at_checked(LENGTH_BYTES) else {
-            return Some(Piece::Broken);
-        };
-        let length = length
-            .iter()
-            .fold(0, |sum, byte| 256 * sum + usize::from(*byte));
-        if length > LONGEST_SHEET || length > behind.len() {
-            return Some(Piece::Broken);
+        let sheet = self.sheet();
+        if sheet.is_none() {
+            *self = pieces(&[]);
         }
-        let (sheet, rest) = behind.split_at(length);
-        self.rest = rest;
-        Some(Piece::Sheet(sheet))
+        Some(sheet.map_or(Piece::Broken, Piece::Sheet))
     }
 }
 
 /// The sheet with its length before it.
 pub fn framed(sheet: &[u8]) -> Vec<u8> {
-    assert!(sheet.len() <= LONGEST_SHEET);
-    let mut bytes = (sheet.len() as u32).to_be_bytes().to_vec();
+    let mut bytes = rest::framed([rest::length(sheet)]);
     bytes.extend_from_slice(sheet);
     bytes
 }

@@ -5,8 +5,8 @@ use crate::edit::{read_sheet, Edit};
 use crate::edit_stream::{parts, Lent, Part};
 use crate::form::RECORD_BYTES;
 use crate::refusal::Refusal;
-use crate::version::{Version, SHORTEST_HEADER, VERSIONS};
-use std::collections::BTreeMap;
+use crate::rows::{line, Rows, ANY};
+use crate::version::{SHORTEST_HEADER, VERSIONS};
 
 /// A row that must come up does so at least so often.
 pub const ENOUGH: usize = 30;
@@ -20,7 +20,7 @@ pub const BY_VERSION: [&str; 14] = [
     "inserted",
     "removed",
     "3 on the sheet",
-    TOO_SLENDER,
+    "9 on the sheet",
     "4 on the sheet",
     "6 on the sheet",
     "7 on the sheet",
@@ -31,9 +31,6 @@ pub const BY_VERSION: [&str; 14] = [
     "11 for the buffer",
     "11 for the count",
 ];
-
-/// This one only in versions with a depth, and in others never.
-const TOO_SLENDER: &str = "9 on the sheet";
 
 /// The rows that must come up whatever the version: it is not looked at, not known, or
 /// has a longer header than the others.
@@ -51,8 +48,7 @@ pub const BOTH: &str = "11 for both";
 pub struct EditTally {
     pub cases: usize,
     pub edits: usize,
-    /// By name and version; 0 stands for whatever version.
-    pub rows: BTreeMap<(String, i128), usize>,
+    pub rows: Rows,
     pub broken: bool,
 }
 
@@ -75,59 +71,23 @@ impl EditTally {
 
     fn count(&mut self, lent: &mut Lent, edit: &Edit) {
         self.edits += 1;
-        let row = outcome(lent, edit);
-        *self.rows.entry(row).or_default() += 1;
-    }
-
-    pub fn row(&self, name: &str, version: i128) -> usize {
-        let row = (name.to_string(), version);
-        self.rows.get(&row).copied().unwrap_or(0)
+        let (name, version) = outcome(lent, edit);
+        self.rows.add(&name, version);
     }
 
     pub fn table(&self) -> String {
-        let versions = VERSIONS.iter().map(|version| version.number);
-        let heads = versions.clone().map(|version| format!("{version:>8}"));
-        let mut lines = vec![
-            format!("cases                {:>8}", self.cases),
-            format!("edits                {:>8}", self.edits),
-        ];
-        for name in IN_ANY_VERSION {
-            lines.push(format!("  {name:<21}{:>6}", self.row(name, 0)));
-        }
-        lines.push(format!(
-            "  in version         {}",
-            heads.collect::<String>()
-        ));
-        for name in BY_VERSION.iter().chain(&[BOTH]) {
-            let counts = versions
-                .clone()
-                .map(|version| format!("{:>8}", self.row(name, version)));
-            lines.push(format!("  {name:<19}{}", counts.collect::<String>()));
-        }
+        let mut lines = vec![line("cases", &[self.cases]), line("edits", &[self.edits])];
+        lines.extend(self.rows.lines(&IN_ANY_VERSION));
+        let by_version = [&BY_VERSION[..], &[BOTH]].concat();
+        lines.extend(self.rows.lines_by_version(&by_version));
         lines.join("\n") + "\n"
     }
 
     /// The rows that do not come up often enough, and those that come up and must not.
     pub fn complaints(&self) -> Vec<String> {
-        let in_any = IN_ANY_VERSION.iter().filter_map(|name| {
-            let count = self.row(name, 0);
-            (count < ENOUGH).then(|| format!("{name}: only {count}"))
-        });
-        let by_version = VERSIONS.iter().flat_map(|version| {
-            let names = BY_VERSION.iter();
-            names.filter_map(|name| self.complaint(name, version))
-        });
-        in_any.chain(by_version).collect()
-    }
-
-    fn complaint(&self, name: &str, version: &Version) -> Option<String> {
-        let count = self.row(name, version.number);
-        let row = format!("{name} in version {}", version.number);
-        if name == TOO_SLENDER && !version.has_depth() {
-            (count > 0).then(|| format!("{row}: {count} and not none"))
-        } else {
-            (count < SHARE).then(|| format!("{row}: only {count}"))
-        }
+        let mut complaints = self.rows.complaints(&IN_ANY_VERSION, ENOUGH);
+        complaints.extend(self.rows.complaints_by_version(&BY_VERSION, SHARE));
+        complaints
     }
 }
 
@@ -170,5 +130,5 @@ fn of_the_sheet(lent: &Lent, refusal: Refusal) -> (String, i128) {
             return (format!("{number} on the sheet"), version);
         }
     };
-    (name.to_string(), 0)
+    (name.to_string(), ANY)
 }

@@ -5,10 +5,12 @@ mod common;
 use common::{numbers, plate, sheet, vessel_v};
 use second::check::read_records;
 use second::edit::{read_sheet, Edit};
-use second::edit_stream::{answer, framed, parts, Lent, Part};
+use second::edit_stream::{framed, parts, Lent, Part};
 use second::form::{MEMBER, RECORD_BYTES};
 use second::make::edit_cases;
+use second::print::length;
 use second::refusal::Refusal;
+use second::rows::ANY;
 use second::sheet::read_header;
 use second::tally_edits::{EditTally, BOTH, BY_VERSION, IN_ANY_VERSION};
 use std::collections::BTreeSet;
@@ -99,8 +101,8 @@ fn a_large_buffer_or_an_unknown_edit_breaks_a_stream() {
 
 #[test]
 fn an_answer_is_a_line() {
-    assert_eq!(answer(Ok(6412)), "6412\n");
-    assert_eq!(answer(Err(Refusal::new(7, 12_813))), "refused 7 12813\n");
+    assert_eq!(length(Ok(6412)), "6412\n");
+    assert_eq!(length(Err(Refusal::new(7, 12_813))), "refused 7 12813\n");
 }
 
 fn stream(seed: u64, count: usize) -> Vec<u8> {
@@ -122,9 +124,9 @@ fn three_thousand_cases_bring_up_every_row() {
     assert_eq!(tally.cases, 3000);
     assert!(!tally.broken);
     assert_eq!(tally.complaints(), Vec::<String>::new());
-    let in_any = IN_ANY_VERSION.iter().map(|row| tally.row(row, 0));
+    let in_any = IN_ANY_VERSION.iter().map(|row| tally.rows.of(row, ANY));
     let by_version = BY_VERSION.iter().chain(&[BOTH]);
-    let by_version = by_version.flat_map(|row| [1, 2].map(|version| tally.row(row, version)));
+    let by_version = by_version.flat_map(|row| [1, 2].map(|version| tally.rows.of(row, version)));
     assert_eq!(tally.edits, in_any.chain(by_version).sum());
     assert!(!EditTally::of(&stream(7, 60)).complaints().is_empty());
 }
@@ -133,10 +135,8 @@ fn three_thousand_cases_bring_up_every_row() {
 #[test]
 fn the_tally_complains_of_9_by_version() {
     let mut tally = EditTally::default();
-    for version in [1, 2] {
-        tally
-            .rows
-            .insert(("9 on the sheet".to_string(), version), 14);
+    for version in [1, 2].repeat(14) {
+        tally.rows.add("9 on the sheet", version);
     }
     let complaints = tally.complaints();
     for complaint in [

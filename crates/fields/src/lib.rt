@@ -23,7 +23,7 @@ pub enum Field {
 }
 
 // What stands at a place outside quotes.
-enum Seen {
+pub enum Seen {
     End,
     Comma,
     Line,
@@ -34,7 +34,7 @@ enum Seen {
 }
 
 // Where a place outside quotes is: at a field's start, inside a plain field, or past a quote of a quoted one.
-enum Place {
+pub enum Place {
     Start,
     Inside,
     Closed,

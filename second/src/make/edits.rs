@@ -4,12 +4,13 @@
 use super::chance::Chance;
 use super::draft::Draft;
 use super::faults::Faults;
-use super::whole::{noise, sound, sound_in};
+use super::whole::{noise, sound, sound_in, version_with_depth};
 use super::{spoil, vessel};
 use crate::edit::Edit;
-use crate::edit_stream::{Lent, LARGEST_BUFFER};
+use crate::edit_stream::Lent;
 use crate::hull_case::FaultsBehind;
 use crate::limits::ID_HIGHEST;
+use crate::rest::LONGEST;
 use crate::version::{Version, SHORTEST_HEADER, VERSIONS};
 use std::collections::BTreeSet;
 
@@ -86,7 +87,7 @@ fn in_the_largest_buffer(chance: &mut Chance) -> Ground {
     let n = chance.between(0, 12);
     let draft = sound(chance, n);
     let bytes = draft.bytes();
-    let more = LARGEST_BUFFER - bytes.len();
+    let more = LONGEST - bytes.len();
     Ground {
         lent: lend(chance, bytes, more),
         draft,
@@ -117,8 +118,7 @@ fn spoilt(chance: &mut Chance) -> Ground {
 
 /// A hull that is too slender; half of them have more at fault behind the header.
 fn too_slender(chance: &mut Chance) -> Ground {
-    let versions = VERSIONS.iter().filter(|version| version.has_depth());
-    let version = *chance.of(&versions.collect::<Vec<_>>());
+    let version = version_with_depth(chance);
     let n = chance.between(3, 6);
     let draft = sound_in(chance, version, n);
     let mut slender = draft.clone();

@@ -30,7 +30,7 @@ pub fn field_to_an_end(chance: &mut Chance, draft: &mut Draft) {
     }
 }
 
-fn header_field_to_an_end(chance: &mut Chance, header: &mut Form) {
+pub fn header_field_to_an_end(chance: &mut Chance, header: &mut Form) {
     let index = chance.below(header.layout.len());
     let name = header.layout[index].0;
     let allowed = in_header(header, name);
@@ -40,7 +40,7 @@ fn header_field_to_an_end(chance: &mut Chance, header: &mut Form) {
     }
 }
 
-fn record_field_to_an_end(chance: &mut Chance, record: &mut Form) {
+pub fn record_field_to_an_end(chance: &mut Chance, record: &mut Form) {
     if record_layout(record.get("kind")) != Some(record.layout) {
         // Its kind is spoilt already: the data has no ranges any more.
         return;
@@ -113,10 +113,22 @@ fn second_record(chance: &mut Chance, draft: &mut Draft) {
     let before = draft.records[0].get("id");
     let record = &mut draft.records[1];
     match chance.below(3) {
-        0 => record.set("kind", *chance.of(&NO_KINDS)),
+        0 => no_kind(chance, record),
         1 => record.set("T", *chance.of(&[0, T_HIGHEST + 1])),
         _ => record.set("id", before),
     }
+}
+
+pub fn no_kind(chance: &mut Chance, record: &mut Form) {
+    record.set("kind", *chance.of(&NO_KINDS));
+}
+
+/// An id that is not above the one before, in a sheet of two records or more.
+pub fn order(chance: &mut Chance, draft: &mut Draft) {
+    let index = 1 + chance.below(draft.records.len() - 1);
+    let before = draft.records[index - 1].get("id");
+    let any = chance.between(1, before);
+    draft.records[index].set("id", *chance.of(&[before, any]));
 }
 
 /// A kind that does not exist, or another one than the data was written for.
@@ -140,7 +152,7 @@ fn set_zero_bits(chance: &mut Chance, draft: &mut Draft, index: usize) {
 }
 
 /// A count that is not the number of records behind the header.
-fn wrong_count(chance: &mut Chance, header: &mut Form) {
+pub fn wrong_count(chance: &mut Chance, header: &mut Form) {
     let n = header.get("n");
     let highest = Version::of(header).n_highest;
     let any = chance.between(0, 511);

@@ -33,6 +33,12 @@ pub fn full(chance: &mut Chance) -> Draft {
     sound_in(chance, version, version.n_highest)
 }
 
+pub fn version_with_depth(chance: &mut Chance) -> &'static Version {
+    let versions = VERSIONS.iter().filter(|version| version.has_depth());
+    let versions: Vec<&Version> = versions.collect();
+    versions[chance.below(versions.len())]
+}
+
 /// A sound sheet of this version.
 pub fn sound_in(chance: &mut Chance, version: &Version, n: i128) -> Draft {
     let header = vessel::header(chance, version);
