@@ -54,8 +54,8 @@ linesFor (ns ∷ rest) = row (map decimalOf ns) (linesFor rest)
 
 -- every line has a number
 pub data Full : List (List ℕ) → Type 0 where
-  none : Full []
-  next : {n : ℕ} {ns : List ℕ} {rest : List (List ℕ)} → Full rest → Full ((n ∷ ns) ∷ rest)
+  no-lines : Full []
+  full : {n : ℕ} {ns : List ℕ} {rest : List (List ℕ)} → Full rest → Full ((n ∷ ns) ∷ rest)
 
 -- what stands behind a line: nothing, or a text that is read as some lines
 data Behind : List ℕ → Lines → Type 0 where
@@ -81,8 +81,8 @@ begins n ns t = go (decimalOf n) (decimal-some n)
 
 text-behind : {rest : List (List ℕ)} → Full rest → Behind (linesText rest) (linesFor rest)
 unfolding linesText linesFor
-text-behind none = nothing
-text-behind (next {n = n} {ns = ns} {rest = rest} f) =
+text-behind no-lines = nothing
+text-behind (full {n = n} {ns = ns} {rest = rest} f) =
     let b = begins n ns (linesText rest) in
     let back = text-behind f in
     subst (λ (t : List ℕ). Behind t (row (map decimalOf (n ∷ ns)) (linesFor rest))) (sym (b .2))
