@@ -89,21 +89,30 @@ header-fields h = go (h .own)
     go One = refl
     go (Two s) = refl
 
--- and how long its line is
-pub header-most : (h : Header) → headerFault h ≡ 0 → length (line (headerCells h)) ≤ longestLine
-header-most h e = go (h .own) (header-fit h e .1)
-  where
-    first : Small (take 8 (firstValues h 0))
-    first = small-take 8 (firstValues h 0) (fit-small firstWidths (firstValues h 0) refl (header-fit h e .0))
+pub header-few : (o : Own) → (1 ≤ firstCount + ownCount (versionOf o)) × (firstCount + ownCount (versionOf o) ≤ 13)
+header-few One = (omega arith, omega arith)
+header-few (Two s) = (omega arith, omega arith)
 
+-- they are small, and there are as many as the version has
+pub header-small : (h : Header) → headerFault h ≡ 0 → Small (headerCells h) × (length (headerCells h) ≡ firstCount + ownCount (versionOf (h .own)))
+header-small h e = go (h .own) (header-fit h e .1)
+  where
     ones : List ℕ
     ones = take 8 (firstValues h 0)
 
-    go : (o : Own) → Fit (ownWidths (versionOf o)) (ownValues o 0) → length (line (take (firstCount + ownCount (versionOf o)) (ones ++ ownNumbers o))) ≤ longestLine
-    go One f = omega (arith, line-most ones (omega arith) first)
+    first : Small ones
+    first = small-take 8 (firstValues h 0) (fit-small firstWidths (firstValues h 0) refl (header-fit h e .0))
+
+    go : (o : Own) → Fit (ownWidths (versionOf o)) (ownValues o 0)
+        → Small (take (firstCount + ownCount (versionOf o)) (ones ++ ownNumbers o)) × (length (take (firstCount + ownCount (versionOf o)) (ones ++ ownNumbers o)) ≡ firstCount + ownCount (versionOf o))
+    go One f = (first, refl)
     go (Two s) f =
         let own = small-take 2 (ownValues (Two s) 0) (fit-small (ownWidths (versionOf (Two s))) (ownValues (Two s) 0) refl f) in
-        omega (arith, line-most (ones ++ take 2 (ownValues (Two s) 0)) (omega arith) (small-append ones (take 2 (ownValues (Two s) 0)) first own))
+        (small-append ones (take 2 (ownValues (Two s) 0)) first own, refl)
+
+-- so how long its line is
+pub header-most : (h : Header) → headerFault h ≡ 0 → length (line (headerCells h)) ≤ longestLine
+header-most h e = let m = header-small h e in let f = header-few (h .own) in omega (arith, line-most (headerCells h) (omega arith) (m .0))
 
 -- ---- a record
 
@@ -123,18 +132,22 @@ count-few kind = go (ltb kind 5)
     go true = (omega arith, omega arith)
     go false = (omega arith, omega arith)
 
-pub record-most : (r : Record) → recordFault r 0 ≡ 0 → length (line (recordCells r)) ≤ longestLine
-record-most r e = go (r .body) e (record-fit r e)
+pub record-small : (r : Record) → recordFault r 0 ≡ 0 → Small (recordCells r) × (length (recordCells r) ≡ recordCount (r .kind))
+record-small r e = go (r .body) e (record-fit r e)
   where
-    go : (b : Body) → bodyFault (r .kind) (r .id) b 0 ≡ 0 → Fit (widthsIn b) (valuesIn (r .kind) (r .id) b) → length (line (take (recordCount (r .kind)) (bodyNumbers (r .kind) (r .id) b))) ≤ longestLine
+    go : (b : Body) → bodyFault (r .kind) (r .id) b 0 ≡ 0 → Fit (widthsIn b) (valuesIn (r .kind) (r .id) b)
+        → Small (take (recordCount (r .kind)) (bodyNumbers (r .kind) (r .id) b)) × (length (take (recordCount (r .kind)) (bodyNumbers (r .kind) (r .id) b)) ≡ recordCount (r .kind))
     go (isPlate p) f fit =
         let vs = plateValues (r .kind) (r .id) p 0 in
         let t : ltb (r .kind) 5 ≡ true = lt-ltb (r .kind) 5 (omega (arith, plate-ranges (r .kind) (r .id) p 0 f .kind-high)) in
-        rw t (omega (arith, line-most (take 11 vs) (omega arith) (small-take 11 vs (fit-small plateWidths vs refl fit))))
+        rw t (small-take 11 vs (fit-small plateWidths vs refl fit), refl)
     go (isMember m) f fit =
         let vs = memberValues (r .kind) (r .id) m in
         let t : ltb (r .kind) 5 ≡ false = le-ltb (r .kind) 5 (member-ranges (r .kind) (r .id) m f .kind-low) in
-        rw t (omega (arith, line-most vs (omega arith) (fit-small memberWidths vs refl fit)))
+        rw t (fit-small memberWidths vs refl fit, refl)
+
+pub record-most : (r : Record) → recordFault r 0 ≡ 0 → length (line (recordCells r)) ≤ longestLine
+record-most r e = let m = record-small r e in let f = count-few (r .kind) in omega (arith, line-most (recordCells r) (omega arith) (m .0))
 
 -- ---- the records of a sheet
 
@@ -167,10 +180,6 @@ unfolding recordsText linesText
 texts-taken b i before [] t = refl
 texts-taken b i before (r ∷ rs) (next e o t) =
     ap₂ {C = List ℕ} (λ x y. x ++ y) (sym (text-given (recordPart b i) r (sym (record-read-any i (recordPart b i) r e 0)))) (texts-taken b (i + 1) (r .id) rs t)
-
-pub header-few : (o : Own) → (1 ≤ firstCount + ownCount (versionOf o)) × (firstCount + ownCount (versionOf o) ≤ 13)
-header-few One = (omega arith, omega arith)
-header-few (Two s) = (omega arith, omega arith)
 
 -- ---- a sheet that is not turned away
 

@@ -1,2 +1,3 @@
 pub mod Spelled
 pub mod LinesBack
+pub mod RowsBack
