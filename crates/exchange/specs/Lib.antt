@@ -3,3 +3,6 @@ pub mod LinesBack
 pub mod RowsBack
 pub mod SheetBytes
 pub mod SheetAgain
+pub mod Form
+pub mod RowForms
+pub mod TextAgain
