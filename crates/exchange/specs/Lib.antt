@@ -6,3 +6,5 @@ pub mod SheetAgain
 pub mod Form
 pub mod RowForms
 pub mod TextAgain
+pub mod Faults
+pub mod Exactly
