@@ -134,7 +134,7 @@ fault-records p (row fs ls) n q (F.later j f) =
     ap (λ (x : Answer (List ℕ)). x then λ c. recordsMade (nextLine p) ls then λ bs. given (c ++ bs)) (b .1)
     ∙ stays (recordsMade (nextLine p) ls) _ n q (fault-records (nextLine p) ls n q f)
 
-sheet-fault : (ls : Lines) (n q : ℕ) → sheetMade ls ≡ refused (suc n) q → (ls ≡ none → ⊥) → FirstFaulty true 1 ls (suc n) q
+pub sheet-fault : (ls : Lines) (n q : ℕ) → sheetMade ls ≡ refused (suc n) q → (ls ≡ none → ⊥) → FirstFaulty true 1 ls (suc n) q
 unfolding sheetMade
 sheet-fault none n q e some = absurd (some refl)
 sheet-fault bad n q e some = subst (λ (k : ℕ). FirstFaulty true 1 bad k q) (refused-number e) (subst (λ (k : ℕ). FirstFaulty true 1 bad 14 k) (refused-place e) F.quotes)
@@ -148,7 +148,7 @@ sheet-fault (row fs ls) n q e some = go (by (answer true 1 fs) _ (suc n) q e)
         rest (first h) = records-fault 2 ls n q h
         rest (later bs h i) = given-refused i
 
-fault-sheet : (ls : Lines) (n q : ℕ) → FirstFaulty true 1 ls n q → sheetMade ls ≡ refused n q
+pub fault-sheet : (ls : Lines) (n q : ℕ) → FirstFaulty true 1 ls n q → sheetMade ls ≡ refused n q
 unfolding sheetMade _then_
 fault-sheet bad n q F.quotes = refl
 fault-sheet (row fs ls) (suc n) q (F.line j) = stays (answer true 1 fs) _ (suc n) 1 (line-exactly true 1 fs n 1 .1 (j, refl))

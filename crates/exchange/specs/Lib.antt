@@ -8,3 +8,4 @@ pub mod RowForms
 pub mod TextAgain
 pub mod Faults
 pub mod Exactly
+pub mod Turned
