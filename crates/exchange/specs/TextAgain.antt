@@ -49,7 +49,7 @@ bytes-append [] b f g = g
 bytes-append (x ∷ a) b f g = (f .0, bytes-append a b (f .1) g)
 
 -- a record's line makes sixteen of them
-record-bytes : (p : ℕ) (fs : List (List ℕ)) (b : List ℕ) → recordLine p (length fs) (map valueIn fs) ≡ given b → Bytes b × (length b ≡ 16)
+pub record-bytes : (p : ℕ) (fs : List (List ℕ)) (b : List ℕ) → recordLine p (length fs) (map valueIn fs) ≡ given b → Bytes b × (length b ≡ 16)
 unfolding recordLine
 record-bytes p fs b e =
     let vs = map valueIn fs in
@@ -74,14 +74,14 @@ header-bytes p fs b e =
 -- ---- the lines of records
 
 -- the first line and those behind it
-record Rows (p : ℕ) (fs : List (List ℕ)) (ls : Lines) (b : List ℕ) : Type 0 where
-  first : List ℕ
-  rest : List ℕ
-  line-is : recordLine p (length fs) (map valueIn fs) ≡ given first
-  rest-is : recordsMade (nextLine p) ls ≡ given rest
-  bytes-are : first ++ rest ≡ b
+pub record Rows (p : ℕ) (fs : List (List ℕ)) (ls : Lines) (b : List ℕ) : Type 0 where
+  pub first : List ℕ
+  pub rest : List ℕ
+  pub line-is : recordLine p (length fs) (map valueIn fs) ≡ given first
+  pub rest-is : recordsMade (nextLine p) ls ≡ given rest
+  pub bytes-are : first ++ rest ≡ b
 
-rows : (p : ℕ) (fs : List (List ℕ)) (ls : Lines) (b : List ℕ) → recordsMade p (row fs ls) ≡ given b → Rows p fs ls b
+pub rows : (p : ℕ) (fs : List (List ℕ)) (ls : Lines) (b : List ℕ) → recordsMade p (row fs ls) ≡ given b → Rows p fs ls b
 unfolding recordsMade
 rows p fs ls b e =
     let x = then-given (recordLine p (length fs) (map valueIn fs)) _ b e in
@@ -119,14 +119,14 @@ records-form b i before p (row fs ls) (r ∷ rs) c e d (next f o t) l =
 -- ---- all lines
 
 -- the header's line and those behind it
-record Lined (fs : List (List ℕ)) (ls : Lines) (s : List ℕ) : Type 0 where
-  first : List ℕ
-  rest : List ℕ
-  line-is : headerLine 1 (length fs) (map valueIn fs) ≡ given first
-  rest-is : recordsMade 2 ls ≡ given rest
-  bytes-are : first ++ rest ≡ s
+pub record Lined (fs : List (List ℕ)) (ls : Lines) (s : List ℕ) : Type 0 where
+  pub first : List ℕ
+  pub rest : List ℕ
+  pub line-is : headerLine 1 (length fs) (map valueIn fs) ≡ given first
+  pub rest-is : recordsMade 2 ls ≡ given rest
+  pub bytes-are : first ++ rest ≡ s
 
-lined : (fs : List (List ℕ)) (ls : Lines) (s : List ℕ) → sheetMade (row fs ls) ≡ given s → Lined fs ls s
+pub lined : (fs : List (List ℕ)) (ls : Lines) (s : List ℕ) → sheetMade (row fs ls) ≡ given s → Lined fs ls s
 unfolding sheetMade
 lined fs ls s e =
     let x = then-given (headerLine 1 (length fs) (map valueIn fs)) _ s e in

@@ -55,7 +55,7 @@ records-not m n f i before (b ∷ ps) w =
     in-order r false p e = n (sym (refused-number e))
 
 -- nor a sheet whose header is not
-sheet-not : (m : ℕ) (s : List ℕ) → (m ≡ 8 → ⊥) → ((i : ℕ) (b : List ℕ) → 16 ≤ length b → Not m (readRecord i b)) → Not m (headerFor s room) → Not m (soundSheet s)
+pub sheet-not : (m : ℕ) (s : List ℕ) → (m ≡ 8 → ⊥) → ((i : ℕ) (b : List ℕ) → 16 ≤ length b → Not m (readRecord i b)) → Not m (headerFor s room) → Not m (soundSheet s)
 unfolding soundSheet sheetIn
 sheet-not m s n f g =
     then-not m (headerFor s room) _ g
