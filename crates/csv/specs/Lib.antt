@@ -4,3 +4,4 @@ pub mod Steps
 pub mod ReadLaws
 pub mod HeldLaws
 pub mod WriteLaws
+pub mod Only

@@ -9,3 +9,4 @@ pub mod TextAgain
 pub mod Faults
 pub mod Exactly
 pub mod Turned
+pub mod Places

@@ -4,3 +4,4 @@ pub mod Forms
 pub mod Rows
 pub mod Steps
 pub mod RowLaws
+pub mod Only

@@ -8,7 +8,7 @@ use Rattle.fields.specs.declared.Field.{Field}
 use Rattle.fields.specs.Field.{fieldAt}
 use Rattle.text.specs.declared.Reader.{Reader}
 use Rattle.text.specs.declared.Line.{Line}
-use Rattle.text.specs.Line.{Numbers, Reads}
+use Rattle.text.specs.Line.{Numbers, lineStart, Reads}
 
 -- `Reader::new`, at the place 0, and `Reader::moved`
 pub reader-only : (text : RefT (List ℕ)) (at : ℕ) (q r : Reader) → (q .text ≡ text) × (q .at ≡ at) → (r .text ≡ text) × (r .at ≡ at) → q ≡ r
@@ -23,3 +23,6 @@ line-at-only l nums q r a b e f = (
   ap₂ {C = Line} (λ c d. record { count = c; end = d }) (e .count ∙ sym (f .count)) (e .end ∙ sym (f .end)),
   e .numbers ∙ sym (f .numbers),
 )
+
+pub line-start-only : (s : List ℕ) (line a b : ℕ) → a ≡ lineStart s line → b ≡ lineStart s line → a ≡ b
+line-start-only s line a b e f = e ∙ sym f
