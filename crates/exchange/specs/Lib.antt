@@ -10,3 +10,4 @@ pub mod Faults
 pub mod Exactly
 pub mod Turned
 pub mod Places
+mod Cases
