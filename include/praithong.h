@@ -26,6 +26,10 @@ extern "C" {
 #define YARD_RECORD_BYTES 16
 #define YARD_VERDICT_BYTES 4
 
+/* How many bytes hold any sheet, and any sheet's text. */
+#define YARD_LONGEST_SHEET 6420
+#define YARD_LONGEST_TEXT 52531
+
 /* Checks a whole sheet, of version 1 (12 + 16n bytes) or version 2 (20 + 16n): n * 2^16 + failed. Each record's verdict goes into its own four bytes of
    out, whose first 4n bytes are written and no others. Refused: 1, 2 and 3 as yard_read_header refuses the header; 9, at place 0, in version 2 where L is
    above 35 * depth at H 60 or above 25 * depth at H 120; then 4 to 8 of the table, 4 for a sheet of another length and 5 for an out under 4n bytes. */
@@ -71,11 +75,28 @@ uint64_t yard_put(uint8_t *buf, uint64_t buf_len, uint64_t len, const uint32_t f
    Refused as yard_put refuses the sheet; then 10, at place 0, where no record has the id, however great it is. */
 uint64_t yard_remove(uint8_t *buf, uint64_t buf_len, uint64_t len, uint32_t id);
 
+/* Makes comma-separated text into the sheet that it is, in the first bytes of out: the answer is the sheet's length, and no other byte is written. 6,420
+   bytes of out hold any sheet. The text has a line for the header's numbers and one for each record's, in the order of the fields that are read above
+   without those that are always 0: 8 numbers in version 1, 10 in version 2, 11 for a plate, 13 for a member, in decimal with no leading zero. A line ends
+   with LF or CR LF, the last one also with the text; a line end with nothing behind it starts no line. A field may stand in quotes, a quote in it being
+   doubled; a line end in quotes ends no line, and a CR that no LF follows is a byte of its field.
+   Refused, lines in turn, by the first faulty one, whose number from 1 is the place, the empty text being one line (2^32 - 1 stands for all lines past it):
+   14 for a quote that is unclosed, out of place, or followed by anything but a comma, a line end or the text's end; else 15 for another count of fields
+   than the version of the first line, or the kind of another, has; else 14 for a field that is no number so written, or is too wide for its bits. Where
+   there is no such version or kind only the line's first field is judged. Then as yard_check refuses the sheet that the lines make, 4 where the lines of
+   records are not n; and then 5, at place 0, where out is too short for it. */
+uint64_t yard_read_text(const uint8_t *text, uint64_t text_len, uint8_t *out, uint64_t out_len);
+
+/* Makes a sheet into its text, in the first bytes of out: lines as above, without quotes, each with CR LF after it. The answer is the text's length, and no
+   other byte is written. 52,531 bytes of out hold any text. Read again it is the same sheet. Refused as yard_check refuses the sheet, but not by 5; then 5,
+   at place 0, where out is too short for the text. */
+uint64_t yard_write_text(const uint8_t *sheet, uint64_t sheet_len, uint8_t *out, uint64_t out_len);
+
 #ifdef __cplusplus
 }
 #endif
 
-/* Whether an answer is a refusal; the refusal's number, from 1 to 11, and its place. */
+/* Whether an answer is a refusal; the refusal's number, from 1 to 15, and its place. */
 static inline int yard_is_refused(uint64_t answer) { return (answer >> 40) != 0; }
 static inline uint32_t yard_number(uint64_t answer) { return (uint32_t)(answer >> 40); }
 static inline uint32_t yard_place(uint64_t answer) { return (uint32_t)answer; }

@@ -7,6 +7,8 @@ int printf(const char *format, ...);
 int strcmp(const char *a, const char *b);
 long read(int fd, void *buffer, unsigned long count);
 long write(int fd, const void *buffer, unsigned long count);
+void *malloc(unsigned long size);
+void free(void *memory);
 void exit(int status);
 
 #define GUARD 16
@@ -637,6 +639,354 @@ static void edits(const uint32_t *header) {
   full();
 }
 
+/* The text of a sheet, with a guard on each side. */
+#define TEXT 65536
+static uint8_t guarded_text[GUARD + TEXT + GUARD];
+static uint8_t *const text = guarded_text + GUARD;
+
+static void clear_text(void) {
+  for (int i = 0; i < (int)sizeof guarded_text; i++) guarded_text[i] = CANARY;
+}
+
+/* Bytes into a sheet, in an output of so many. */
+static void read_bytes(const char *name, const uint8_t *bytes, uint64_t count, uint64_t room) {
+  fill();
+  uint64_t answer = yard_read_text(bytes, count, out, room);
+  if (yard_is_refused(answer)) {
+    refused(name, answer);
+    return;
+  }
+  printf("%s: length %lu\n", name, answer);
+  show_bytes(name, (int)answer);
+}
+
+static void read_into(const char *name, const char *words, uint64_t room) {
+  uint64_t count = 0;
+  clear_text();
+  for (; words[count]; count++) text[count] = (uint8_t)words[count];
+  read_bytes(name, text, count, room);
+}
+
+static void read_text(const char *name, const char *words) { read_into(name, words, ROOM); }
+
+/* What stands in the output becomes the sheet, so that it can be written again. */
+static uint64_t read_back(const char *name, const char *words) {
+  uint64_t count = 0;
+  clear_text();
+  clear_sheet();
+  fill();
+  for (; words[count]; count++) text[count] = (uint8_t)words[count];
+  uint64_t answer = yard_read_text(text, count, out, ROOM);
+  if (yard_is_refused(answer)) {
+    printf("%s: not read\n", name);
+    exit(1);
+  }
+  for (uint64_t i = 0; i < answer; i++) sheet[i] = out[i];
+  return answer;
+}
+
+/* The sheet, of so many bytes, into text, which is shown with its line ends. */
+static void write_text(const char *name, uint64_t count, uint64_t room) {
+  fill();
+  clear_text();
+  uint64_t answer = yard_write_text(sheet, count, text, room);
+  uint64_t written = yard_is_refused(answer) ? 0 : answer;
+  for (int i = 0; i < (int)sizeof guarded_text; i++)
+    if ((i < GUARD || GUARD + written <= (uint64_t)i) && guarded_text[i] != CANARY) broken(name, "byte of the text", i - GUARD);
+  if (yard_is_refused(answer)) {
+    refused(name, answer);
+    return;
+  }
+  intact(name, 0, 0);
+  printf("%s: length %lu\n", name, answer);
+  if (answer > 200) return;
+  printf("%s: ", name);
+  for (uint64_t i = 0; i < answer; i++) {
+    if (text[i] == '\r') printf("<CR>");
+    else if (text[i] == '\n') printf("<LF>");
+    else printf("%c", text[i]);
+  }
+  printf("\n");
+}
+
+/* The lines of the example, and of the two bottoms in version 2. */
+#define HEADER(n) "1,8000,250,60,0,20000,200000," n
+#define HEADER_2(n) "2,8000,250,60,0,20000,200000," n ",400000,300"
+#define PLATE "2,7,1000,0,500,600,0,0,0,0,0"
+#define INNER "4,9,1000,0,500,600,0,0,0,0,30000"
+#define MEMBER "5,12,0,500,300,420,100,100,90,50,560,168,1000"
+#define EXAMPLE HEADER("2") "\r\n" PLATE "\r\n" MEMBER "\r\n"
+#define BOTTOMS HEADER_2("2") "\r\n" PLATE "\r\n" INNER "\r\n"
+
+static void texts_read(void) {
+  read_text("text of the example", EXAMPLE);
+  read_into("text into no more room", EXAMPLE, 44);
+  read_into("text into 43 bytes", EXAMPLE, 43);
+  read_into("text into no bytes", EXAMPLE, 0);
+  read_text("text of version 2", BOTTOMS);
+  read_into("text of version 2 into 52 bytes", BOTTOMS, 52);
+  read_into("text of version 2 into 51 bytes", BOTTOMS, 51);
+  read_text("a header with no record", HEADER("0"));
+  read_text("version 2 with no record", HEADER_2("0") "\n");
+}
+
+static void line_ends(void) {
+  read_text("LF alone", HEADER("2") "\n" PLATE "\n" MEMBER "\n");
+  read_text("both line ends, the last one missing", HEADER("2") "\r\n" PLATE "\n" MEMBER);
+  read_text("empty text", "");
+  read_text("a LF", "\n");
+  read_text("a CR LF", "\r\n");
+  read_text("a CR", "\r");
+  read_text("two LF", "\n\n");
+  read_text("an empty line at the end", HEADER("0") "\n\n");
+  read_text("an empty line at the end, with CR LF", HEADER("0") "\r\n\r\n");
+  read_text("an empty line in between", HEADER("1") "\r\n\r\n" PLATE "\r\n");
+  read_text("an empty line in front", "\n" HEADER("0") "\n");
+  read_text("a CR at the end", HEADER("0") "\r");
+  read_text("a CR between two lines", HEADER("1") "\r" PLATE "\r\n");
+  read_text("a CR before a comma", "1\r,8000,250,60,0,20000,200000,0\n");
+  read_text("two CR before a LF", HEADER("0") "\r\r\n");
+  read_text("a byte-order mark", "\xEF\xBB\xBF" HEADER("0") "\n");
+}
+
+static void quotes(void) {
+  read_text("fields in quotes", "\"1\",\"8000\",250,\"60\",\"0\",20000,200000,\"2\"\r\n" PLATE "\n\"5\",\"12\",0,500,300,420,100,100,90,50,560,168,\"1000\"");
+  read_text("a quote that is not closed", "1,8000,250,60,0,20000,200000,\"0\n");
+  read_text("a quote that is not closed, in a line of two fields", "1,\"8000");
+  read_text("a quote inside a field", "1,80\"00,250,60,0,20000,200000,0\n");
+  read_text("a quote inside a field of a line of two", "1,80\"00\n");
+  read_text("a quote at the end of a field", "1,8000\",250,60,0,20000,200000,0\n");
+  read_text("a blank behind a closing quote", "\"1\" ,8000,250,60,0,20000,200000,0\n");
+  read_text("a CR behind a closing quote", "\"1\"\r,8000,250,60,0,20000,200000,0\n");
+  read_text("a CR LF behind a closing quote", "1,8000,250,60,0,20000,200000,\"0\"\r\n");
+  read_text("an empty field in quotes", "1,8000,250,60,\"\",20000,200000,0\n");
+  read_text("a doubled quote", "1,8000,250,60,\"0\"\"\",20000,200000,0\n");
+  read_text("a doubled quote and a comma in a line of two fields", "1,\"80\"\",00\"\n");
+  read_text("a doubled quote that closes nothing", "1,\"80\"\"\n");
+  read_text("three quotes behind each other at the end", "1,8000,250,60,0,20000,200000,\"0\"\"\"");
+  read_text("a quote in the second line", HEADER("1") "\n2,7,10\"00,0,500,600,0,0,0,0,0\n");
+  read_text("a line end in quotes is none", HEADER("2") "\n9,\"a\r\nb\nc\"\nx\n");
+}
+
+static void numbers_written(void) {
+  read_text("a leading zero", "1,08000,250,60,0,20000,200000,0\n");
+  read_text("two zeros", "1,8000,250,60,00,20000,200000,0\n");
+  read_text("a version with a leading zero, and two fields", "01,8000\n");
+  read_text("a blank before a number", "1, 8000,250,60,0,20000,200000,0\n");
+  read_text("a sign", "1,+8000,250,60,0,20000,200000,0\n");
+  read_text("a minus", "1,8000,250,60,-0,20000,200000,0\n");
+  read_text("a fraction", "1,8000.0,250,60,0,20000,200000,0\n");
+  read_text("a colon", "1,800:,250,60,0,20000,200000,0\n");
+  read_text("an empty field", "1,8000,250,60,,20000,200000,0\n");
+  read_text("an empty first field", ",8000\n");
+  read_text("L in nine digits", "1,100008000,250,60,0,20000,200000,0\n");
+  read_text("L in ten digits", "1,4294975296,250,60,0,20000,200000,0\n");
+  read_text("L 16384", "1,16384,250,60,0,20000,200000,0\n");
+  read_text("L 16383", "1,16383,250,60,0,20000,200000,0\n");
+  read_text("runs 2 in a text", "1,8000,250,60,2,20000,200000,0\n");
+  read_text("n 512", HEADER("512") "\n");
+  read_text("n 511", HEADER("511") "\n");
+  read_text("ZDB 2^27", "2,8000,250,60,0,20000,200000,0,134217728,300\n");
+  read_text("ZDB 2^27 - 1", "2,8000,250,60,0,20000,200000,0,134217727,300\n");
+  read_text("depth 1024", "2,8000,250,60,0,20000,200000,0,400000,1024\n");
+  read_text("z 1024 of a plate", HEADER("1") "\n2,7,1000,1024,500,600,0,0,0,0,0\n");
+  read_text("W 131072", HEADER("1") "\n5,12,0,500,300,420,100,100,90,50,131072,168,1000\n");
+  read_text("W 131071", HEADER("1") "\n5,12,0,500,300,420,100,100,90,50,131071,168,1000\n");
+}
+
+static void counts(void) {
+  read_text("7 numbers in version 1", "1,8000,250,60,0,20000,200000\n");
+  read_text("9 numbers in version 1", HEADER("0") ",0\n");
+  read_text("a comma behind the header", HEADER("0") ",\n");
+  read_text("the numbers of version 2 in version 1", HEADER("0") ",400000,300\n");
+  read_text("8 numbers in version 2", "2,8000,250,60,0,20000,200000,0\n");
+  read_text("9 numbers in version 2", "2,8000,250,60,0,20000,200000,0,400000\n");
+  read_text("11 numbers in version 2", HEADER_2("0") ",0\n");
+  read_text("10 numbers for a plate", HEADER("1") "\n2,7,1000,0,500,600,0,0,0,0\n");
+  read_text("a plate's zero bits", HEADER("1") "\n" PLATE ",0\n");
+  read_text("13 numbers for a plate", HEADER("1") "\n" PLATE ",0,0\n");
+  read_text("11 numbers for a member", HEADER("1") "\n5,12,0,500,300,420,100,100,90,50,560\n");
+  read_text("12 numbers for a member", HEADER("1") "\n5,12,0,500,300,420,100,100,90,50,560,168\n");
+  read_text("14 numbers for a member", HEADER("1") "\n" MEMBER ",0\n");
+  read_text("version 0 in a text", "0,x,y\n");
+  read_text("version 3 in a text", "3\n");
+  read_text("version 15 in a text", "15,\"a\"\"\",b,1,1,1,1,1,1,1,1,1,1,1\n");
+  read_text("version 16 in a text", "16\n");
+  read_text("version 3 and a record of no kind", "3\n9\n");
+  read_text("version 3 and a plate of two numbers", "3\n2,7\n");
+  read_text("version 3 and a number too wide", "3\n2,1024,1000,0,500,600,0,0,0,0,0\n");
+  read_text("kind 0 in a text", HEADER("1") "\n0\n");
+  read_text("kind 9 in a text", HEADER("1") "\n9,9999999999,x\n");
+  read_text("kind 15 in a text", HEADER("1") "\n15,,,,,,,,,,,,,,,\n");
+  read_text("kind 16 in a text", HEADER("1") "\n16\n");
+  read_text("kind 9 behind a plate", HEADER("2") "\n" PLATE "\n9\n");
+}
+
+static void in_turn(void) {
+  read_text("two fields, one of them no number", "1,x\n");
+  read_text("two fields, the first no number", "x,1\n");
+  read_text("two fields, the first empty in quotes", "\"\",1\n");
+  read_text("15 in line 1 and 14 in line 2", "1,8000\nx\n");
+  read_text("14 in line 2 and 15 in line 3", HEADER("2") "\nx\n2,7\n");
+  read_text("15 in line 2 and a quote in line 3", HEADER("2") "\n2,7\n\"\n");
+  read_text("D0 0 and 14 in line 2", "1,8000,0,60,0,20000,200000,1\nx\n");
+  read_text("D0 0 and no record", "1,8000,0,60,0,20000,200000,1\n");
+  read_text("kind 9 in line 2 and 15 in line 3", HEADER("2") "\n9\n" PLATE ",0\n");
+  read_text("kind 9 and one record of two", HEADER("2") "\n9\n");
+  read_into("14 into no bytes", "x", 0);
+  read_into("15 into no bytes", "1,8000", 0);
+  read_into("4 into no bytes", HEADER("1") "\n", 0);
+  read_into("kind 9 into no bytes", HEADER("1") "\n9\n", 0);
+}
+
+static void by_the_table(void) {
+  read_text("one record of two", HEADER("2") "\n" PLATE "\n");
+  read_text("a record of none", HEADER("0") "\n" PLATE "\n");
+  read_text("three records of two", EXAMPLE MEMBER "\n");
+  read_text("one record of two in version 2", HEADER_2("2") "\n" PLATE "\n");
+  read_text("a slender hull in a text", "2,8000,250,60,0,20000,200000,0,400000,228\n");
+  read_text("a slender hull and a record of none", "2,8000,250,60,0,20000,200000,0,400000,228\n" PLATE "\n");
+  read_text("a depth of 229 in a text", "2,8000,250,60,0,20000,200000,0,400000,229\n");
+  read_text("ZDB 0 in a text", "2,8000,250,60,0,20000,200000,0,0,300\n");
+  read_text("K 232 in record 1 of a text", HEADER("2") "\n" PLATE "\n5,12,0,500,300,420,100,100,90,50,560,168,232\n");
+  read_text("equal ids in a text", HEADER("2") "\n" PLATE "\n" PLATE "\n");
+  read_text("ids that fall", HEADER("2") "\n" MEMBER "\n" PLATE "\n");
+}
+
+static void texts_written(void) {
+  example();
+  write_text("example as text", 44, TEXT);
+  write_text("example as text, into no more room", 44, 109);
+  write_text("example as text, into 108 bytes", 44, 108);
+  write_text("example as text, into no bytes", 44, 0);
+  write_text("text of a sheet with a byte too few", 43, TEXT);
+  write_text("text of a sheet with a byte too many", 45, TEXT);
+  write_text("text of 11 bytes", 11, TEXT);
+  write_text("text of no bytes", 0, 0);
+  sheet[28] = 0xF0;
+  write_text("text of kind 15", 44, TEXT);
+  write_text("text of kind 15 into no bytes", 44, 0);
+  example();
+  sheet[42] &= 0xFC;
+  write_text("text of K 232 in record 1", 44, TEXT);
+  example();
+  sheet[11] |= 1;
+  write_text("text of a spare bit", 44, TEXT);
+  sheet[0] = 0x37;
+  write_text("text of version 3", 44, TEXT);
+  bottoms(vessel_2);
+  write_text("two bottoms as text", 52, TEXT);
+  write_text("two bottoms as text, into no more room", 52, 107);
+  write_text("two bottoms as text, into 106 bytes", 52, 106);
+  for (int i = 36; i < 52; i++) sheet[i] = sheet[i - YARD_RECORD_BYTES];
+  write_text("text of equal ids", 52, TEXT);
+  bottoms(header_with(vessel_2, 9, 228));
+  write_text("text of a slender hull", 52, TEXT);
+  bottoms(header_with(vessel, 7, 0));
+  write_text("text of no record", YARD_HEADER_1_BYTES, TEXT);
+  write_text("quoted fields, written again", read_back("quoted", "\"1\",8000,\"250\",60,0,20000,200000,\"1\"\n\"2\",\"7\",1000,0,500,600,0,0,0,0,\"0\""), TEXT);
+  write_text("a text, written again", read_back("text", EXAMPLE), TEXT);
+}
+
+/* A sheet of 400 plates into text and back, and what a record more or another line at the end comes to. */
+static void full_text(const char *name, const uint32_t *header) {
+  uint64_t bytes = header_bytes(header), length = bytes;
+  clear_sheet();
+  written(name, yard_write_header(header_with(header, 7, 400), sheet, bytes));
+  for (uint32_t id = 1; id <= 400; id++, length += YARD_RECORD_BYTES) written(name, yard_write_record(record_with(plate, 1, id), sheet + length, YARD_RECORD_BYTES));
+  write_text(name, length, TEXT);
+  uint64_t answer = yard_write_text(sheet, length, text, TEXT);
+  write_text(name, length, answer - 1);
+  yard_write_text(sheet, length, text, TEXT);
+  fill();
+  printf("%s, read again: length %lu\n", name, yard_read_text(text, answer, out, length));
+  for (uint64_t i = 0; i < length; i++)
+    if (out[i] != sheet[i]) broken(name, "byte read again", (int)i);
+  intact(name, (int)length, 0);
+  read_bytes(name, text, answer, length - 1);
+  text[answer] = '9';
+  read_bytes(name, text, answer + 1, length);
+  text[answer] = 'x';
+  read_bytes(name, text, answer + 1, length);
+}
+
+/* So many bytes of one kind behind the first words and before the last, in memory that has no byte more. */
+static void many(const char *name, const char *front, uint8_t byte, uint64_t count, const char *back) {
+  uint64_t length = 0, words = 0;
+  while (front[words]) words++;
+  for (uint64_t i = 0; back[i]; i++) words++;
+  uint8_t *bytes = malloc(words + count);
+  if (!bytes) {
+    printf("%s: no memory\n", name);
+    exit(1);
+  }
+  for (; front[length]; length++) bytes[length] = (uint8_t)front[length];
+  for (uint64_t i = 0; i < count; i++) bytes[length++] = byte;
+  for (uint64_t i = 0; back[i]; i++) bytes[length++] = (uint8_t)back[i];
+  read_bytes(name, bytes, length, ROOM);
+  free(bytes);
+}
+
+/* So many lines of one byte, a kind that is not known, behind a header, and then a line that is no number. */
+static void many_lines(const char *name, uint64_t count) {
+  const char *front = HEADER("400") "\n";
+  uint64_t length = 0;
+  uint8_t *bytes = malloc(2 * count + 64);
+  if (!bytes) {
+    printf("%s: no memory\n", name);
+    exit(1);
+  }
+  for (; front[length]; length++) bytes[length] = (uint8_t)front[length];
+  for (uint64_t i = 0; i < count; i++, length += 2) {
+    bytes[length] = '9';
+    bytes[length + 1] = '\n';
+  }
+  read_bytes(name, bytes, length, ROOM);
+  bytes[length] = 'x';
+  read_bytes(name, bytes, length + 1, ROOM);
+  free(bytes);
+}
+
+static void long_texts(uint64_t count) {
+  printf("%lu bytes\n", count);
+  many("digits", "", '1', count, "");
+  many("zeros", "", '0', count, "");
+  many("quotes", "", '"', count, "");
+  many("quotes, and one more", "\"", '"', count, "");
+  many("commas", "", ',', count, "");
+  many("LF", "", '\n', count, "");
+  many("CR", "", '\r', count, "");
+  many("digits in quotes", "\"", '1', count, "\"");
+  many("digits in quotes that are not closed", "\"", '1', count, "");
+  many("quotes in a field", "1,\"", '"', count, "\"\n");
+  many("commas behind a version", "1", ',', count, "\n");
+  many("commas behind no version", "3", ',', count, "\n");
+  many("digits in line 2", HEADER("1") "\n", '1', count, "\n");
+  many("quotes in line 2", HEADER("1") "\n", '"', count, "\n");
+  many("commas in line 2", HEADER("1") "\n", ',', count, "\n");
+  many("LF behind a header", HEADER("1") "\n", '\n', count, "");
+  many("commas behind a kind", HEADER("1") "\n2", ',', count, "\n");
+  many("commas behind no kind", HEADER("1") "\n9", ',', count, "\n");
+  many("commas in quotes behind no kind", HEADER("1") "\n9,\"", ',', count, "\"\n");
+  many("LF in quotes behind no kind", HEADER("1") "\n9,\"", '\n', count, "\"\nx");
+  many_lines("lines of no kind", count / 2);
+}
+
+static void texts(void) {
+  texts_read();
+  line_ends();
+  quotes();
+  numbers_written();
+  counts();
+  in_turn();
+  by_the_table();
+  texts_written();
+  full_text("400 plates", vessel);
+  full_text("400 plates in version 2", vessel_2);
+  long_texts(65536);
+  long_texts(1000000);
+}
+
 /* What ./barge prints of the sheet on standard input. */
 static void as_barge(void) {
   fill();
@@ -676,7 +1026,7 @@ static void helpers(void) {
   taken_apart("the greatest that is no refusal", (one << 40) - 1);
   taken_apart("the least refusal", one << 40);
   taken_apart("the last record's last field", (7 * one << 40) + 32 * 399 + 13);
-  taken_apart("the greatest number", 11 * one << 40);
+  taken_apart("the greatest number", 15 * one << 40);
   taken_apart("the greatest place", (8 * one << 40) + 4294967295u);
 }
 
@@ -699,6 +1049,7 @@ int main(int count, char **words) {
     verdicts();
     edits(vessel);
     edits(vessel_2);
+    texts();
     helpers();
   }
   return 0;

@@ -70,7 +70,7 @@ header-by-own p h One k e f g =
     subst (λ (j : ℕ). Fit firstWidths (j ∷ (tail h ++ 0 ∷ [])) → headerLine p 8 (j ∷ tail h) ≡ given (unpack (bytes firstBytes) (pack firstWidths (j ∷ (tail h ++ 0 ∷ []))) ++ [])) (sym e) (one-line p h) f
 header-by-own p h (Two s) k e f g =
     subst (λ (j : ℕ). Fit firstWidths (j ∷ (tail h ++ 0 ∷ [])) → headerLine p 10 (j ∷ (tail h ++ ownNumbers (Two s)))
-        ≡ given (unpack (bytes firstBytes) (pack firstWidths (j ∷ (tail h ++ 0 ∷ []))) ++ unpack (bytes 8) (pack (ownWidths two) (ownValues (Two s) 0)))) (sym e) (λ d. two-line p h s d g) f
+    ≡ given (unpack (bytes firstBytes) (pack firstWidths (j ∷ (tail h ++ 0 ∷ []))) ++ unpack (bytes 8) (pack (ownWidths two) (ownValues (Two s) 0)))) (sym e) (λ d. two-line p h s d g) f
 
 pub header-line : (p : ℕ) (h : Header) → headerFault h ≡ 0 → headerLine p (length (headerCells h)) (headerCells h) ≡ given (headerBytes h)
 header-line p h e =

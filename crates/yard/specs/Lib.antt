@@ -2,8 +2,10 @@ pub mod Packed
 pub mod Fields
 pub mod Writing
 pub mod Editing
+pub mod Converting
 pub mod PackedLaws
 pub mod Only
 pub mod Back
 pub mod Answers
 pub mod EditAnswers
+pub mod ConvertAnswers

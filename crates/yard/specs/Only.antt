@@ -3,15 +3,19 @@
 use Prim.Native.Nat.{ℕ}
 use mathlib.Core.Path.{_≡_, sym, _∙_}
 use mathlib.Core.List.{List}
+use lib.ListN.{length}
 use Rattle.sheet.specs.Refusals.{Answer, Wrote as WroteBy}
 use Rattle.sheet.specs.Header.{readHeader}
 use Rattle.sheet.specs.Record.{readRecord}
 use Rattle.checker.specs.Entry.{entryValues, readEntry}
 use Rattle.numbers.specs.Fields.{headerNumbers, recordNumbers}
 use Rattle.edit.specs.Edit.{After, putNumbersIn, removeIn}
+use Rattle.csv.specs.Read.{sheetFrom}
+use Rattle.csv.specs.Write.{textFrom}
 use Rattle.yard.specs.Packed.{Checks, Reads, Wrote}
 use Rattle.yard.specs.Fields.{numbered}
 use Rattle.yard.specs.Editing.{Edits}
+use Rattle.yard.specs.Converting.{Converts}
 use Rattle.yard.specs.Writing.{writeHeaderNumbers, writeRecordNumbers}
 
 pub check-only : (s out : List ℕ) (q r : ℕ) (x y : List ℕ) → Checks s out q x → Checks s out r y → (q ≡ r) × (x ≡ y)
@@ -49,3 +53,12 @@ put-only b len ns = edits-only (putNumbersIn b len ns) b
 
 pub remove-only : (b : List ℕ) (len id : ℕ) (q r : ℕ) (x y : List ℕ) → Edits (removeIn b len id) b q x → Edits (removeIn b len id) b r y → (q ≡ r) × (x ≡ y)
 remove-only b len id = edits-only (removeIn b len id) b
+
+converts-only : (a : Answer (List ℕ)) (o : List ℕ) (q r : ℕ) (x y : List ℕ) → Converts a o q x → Converts a o r y → (q ≡ r) × (x ≡ y)
+converts-only a o q r x y f g = (f .answer ∙ sym (g .answer), f .bytes ∙ sym (g .bytes))
+
+pub read-text-only : (s o : List ℕ) (q r : ℕ) (x y : List ℕ) → Converts (sheetFrom s (length o)) o q x → Converts (sheetFrom s (length o)) o r y → (q ≡ r) × (x ≡ y)
+read-text-only s o = converts-only (sheetFrom s (length o)) o
+
+pub write-text-only : (s o : List ℕ) (q r : ℕ) (x y : List ℕ) → Converts (textFrom s (length o)) o q x → Converts (textFrom s (length o)) o r y → (q ≡ r) × (x ≡ y)
+write-text-only s o = converts-only (textFrom s (length o)) o

@@ -6,6 +6,7 @@ use native.Mathlib.Omega.{arith}
 use Rattle.sheet.specs.Versions.{mostRecords, longestSheet}
 use Rattle.sheet.specs.Refusals.{Answer, given, refused}
 use Rattle.checker.specs.Check.{Totals}
+use Rattle.csv.specs.Steps.{longestLine}
 use Rattle.yard.specs.Packed.{numberUnit, packed, fine}
 use Rattle.yard.specs.Editing.{resized}
 
@@ -29,6 +30,20 @@ abbrev pub Resized : Answer ℕ → Type 0
 Resized (given n) = n ≤ longestSheet
 Resized (refused k p) = EditRow k p
 
+-- and those of a text made into a sheet, or a sheet into a text: a line's place is a number of 32 bits, and no text is longer than the longest
+pub record TextRow (number place : ℕ) : Type 0 where
+  pub some : 1 ≤ number
+  pub last : number ≤ 15
+  pub inside : place ≤ 4294967295
+
+-- a line for the header and for each of the most records
+abbrev pub longestText : ℕ
+longestText = longestLine * (1 + mostRecords)
+
+abbrev pub Converted : Answer ℕ → Type 0
+Converted (given n) = n ≤ longestText
+Converted (refused k p) = TextRow k p
+
 pub packed-same : (a b : Answer Totals) → Answered a → Answered b → packed a ≡ packed b → a ≡ b
 packed-same (given t) (given u) x y e = ap₂ (λ (n f : ℕ). given (record { n = n; failed = f })) (omega (arith, x, y)) (omega (arith, x, y))
 packed-same (given t) (refused k p) x y e = absurd (omega (arith, x, y))
@@ -51,3 +66,10 @@ resized-same (given m) (given n) x y e = ap given e
 resized-same (given m) (refused k p) x y e = absurd (omega (arith, x, y .some))
 resized-same (refused k p) (given n) x y e = absurd (omega (arith, x .some, y))
 resized-same (refused k p) (refused l q) x y e = ap₂ refused (omega (arith, x .inside, y .inside)) (omega (arith, x .inside, y .inside))
+
+-- of a text or a sheet
+pub converted-same : (a b : Answer ℕ) → Converted a → Converted b → resized a ≡ resized b → a ≡ b
+converted-same (given m) (given n) x y e = ap given e
+converted-same (given m) (refused k p) x y e = absurd (omega (arith, x, y .some))
+converted-same (refused k p) (given n) x y e = absurd (omega (arith, x .some, y))
+converted-same (refused k p) (refused l q) x y e = ap₂ refused (omega (arith, x .inside, y .inside)) (omega (arith, x .inside, y .inside))

@@ -1,14 +1,16 @@
-// The checker, the header, the records, the verdicts and the edits of a sheet for programs in C or Rust: an answer crosses as one number, the fields as
-// numbers in layout order. include/praithong.h declares these functions.
+// The checker, the header, the records, the verdicts, the edits and the text of a sheet for programs in C or Rust: an answer crosses as one number, the
+// fields as numbers in layout order. include/praithong.h declares these functions.
 use checker::Checked;
 use checker::Entry;
 use checker::EntryRead;
+use csv::Converted;
 use edit::Edited;
 use sheet::HeaderRead;
 use sheet::Outcome;
 use sheet::RecordRead;
 use sheet::Refusal;
 ghost use mathlib.Core.Path.{_≡_};
+ghost use lib.ListN.{length};
 ghost use Rattle.checker.specs.Check.{toldChecked};
 ghost use Rattle.checker.specs.Entry.{entryValues, readEntry};
 ghost use Rattle.sheet.specs.Refusals.{told, toldOutcome};
@@ -18,7 +20,10 @@ ghost use Rattle.yard.specs.Packed.{packed, fine, Checks, Reads, Wrote};
 ghost use Rattle.yard.specs.Writing.{writeHeaderNumbers, writeRecordNumbers};
 ghost use Rattle.yard.specs.Fields.{numbered};
 ghost use Rattle.yard.specs.Editing.{resized, Edits};
+ghost use Rattle.yard.specs.Converting.{Converts};
 ghost use Rattle.edit.specs.Edit.{putNumbersIn, removeIn, toldEdited};
+ghost use Rattle.csv.specs.Read.{sheetFrom, toldConverted};
+ghost use Rattle.csv.specs.Write.{textFrom};
 ghost use Rattle.numbers.specs.Fields.{headerNumbers, recordNumbers};
 
 // A refusal's number counts these.
@@ -160,4 +165,27 @@ pub extern "C" fn yard_remove(buf: &mut [u8], len: usize, id: u32) -> u64
     ensures { λ r. ⌜ Edits (removeIn (now (buf .entry)) len id) (now (buf .entry)) r (now (buf .exit)) ⌝ }
 {
     packed_edited(edit::remove(buf, len, id))
+}
+
+fn packed_converted(c: Converted) -> u64
+    ensures { λ r. ⌜ r ≡ resized (toldConverted c) ⌝ }
+{
+    match c {
+        Converted::Length(n) => n as u64,
+        Converted::Refused(r) => packed_refusal(r),
+    }
+}
+
+#[no_mangle]
+pub extern "C" fn yard_read_text(text: &[u8], out: &mut [u8]) -> u64
+    ensures { λ r. ⌜ Converts (sheetFrom (now (text .entry)) (length (now (out .entry)))) (now (out .entry)) r (now (out .exit)) ⌝ }
+{
+    packed_converted(csv::read_sheet(text, out))
+}
+
+#[no_mangle]
+pub extern "C" fn yard_write_text(sheet: &[u8], out: &mut [u8]) -> u64
+    ensures { λ r. ⌜ Converts (textFrom (now (sheet .entry)) (length (now (out .entry)))) (now (out .entry)) r (now (out .exit)) ⌝ }
+{
+    packed_converted(csv::write_text(sheet, out))
 }

@@ -31,10 +31,11 @@ put-header-spec =
     (λ c κs.
     let t = c .before in
     let s = t .before .before .before .before in
-    let few = header-few (s .args .h .own) in
-    (omega (arith, t .before .before .header-count .ensures, few .0),
-    omega (arith, t .before .before .header-count .ensures, few .1),
-    omega (arith, ap (λ (ns : List ℕ). length (line ns)) (cells t), header-most (s .args .h) (s .pre .0), s .pre .1)))
+    let few = header-few (s .args .h .own) in (
+      omega (arith, t .before .before .header-count .ensures, few .0),
+      omega (arith, t .before .before .header-count .ensures, few .1),
+      omega (arith, ap (λ (ns : List ℕ). length (line ns)) (cells t), header-most (s .args .h) (s .pre .0), s .pre .1),
+    ))
     (λ c. search needs)
     (λ c.
     let p = c .before .before in

@@ -40,10 +40,11 @@ put-record-spec =
     let n = c .before in
     let k = n .before in
     let s = k .before .before .before .before .before .before .before in
-    let few = count-few (k .before .before .read .given .0 .0 .kind) in
-    (omega (arith, k .record-count .ensures, few .0),
-    omega (arith, k .record-count .ensures, few .1),
-    omega (arith, ap length (cells n), text-most (now (s .args .bytes)), s .pre)))
+    let few = count-few (k .before .before .read .given .0 .0 .kind) in (
+      omega (arith, k .record-count .ensures, few .0),
+      omega (arith, k .record-count .ensures, few .1),
+      omega (arith, ap length (cells n), text-most (now (s .args .bytes)), s .pre),
+    ))
     (λ c.
     let r = c .before .before in
     let s = r .before .before .before in
