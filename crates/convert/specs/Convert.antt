@@ -1,7 +1,7 @@
 -- What is known of the input and of what is made of it, and what is printed of a text.
 use Prim.Native.Nat.{ℕ, _≤_}
 use mathlib.Core.Path.{_≡_}
-use mathlib.Core.Bool.{cond}
+use mathlib.Core.Bool.{Bool, false, cond}
 use mathlib.Core.List.{List}
 use lib.ListN.{length, take}
 use lib.Dec.{eqb}
@@ -32,6 +32,11 @@ Inside (notConverted r) size = Unit {0}
 abbrev pub lineIn : Answer ℕ → ℕ
 lineIn (given n) = 0
 lineIn (refused number place) = cond (eqb number 14) place (cond (eqb number 15) place 0)
+
+-- whether it is turned away by 15
+abbrev pub isCount : Answer ℕ → Bool
+isCount (given n) = false
+isCount (refused number place) = eqb number 15
 
 -- ---- what is printed of a text
 

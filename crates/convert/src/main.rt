@@ -1,6 +1,7 @@
 // The drawing office's converter. Its word says what standard input is turned into: `sheet` a text into the sheet that it is, `csv` a sheet into its text,
 // `check` a text into what `barge` prints of that sheet. A refusal of the first two goes to standard error, with nothing on standard output, and of a text
 // that is turned away by a line the line goes there too. So does whatever else is wrong.
+mod fill;
 mod say;
 mod show;
 
@@ -17,9 +18,10 @@ ghost use lib.ListN.{length, take};
 ghost use Rattle.sheet.specs.Refusals.{told};
 ghost use Rattle.checker.specs.Longer.{enough};
 ghost use Rattle.report.specs.Pieces.{refusalText};
-ghost use Rattle.csv.specs.Read.{toldConverted, Converts};
+ghost use Rattle.csv.specs.Read.{sheetFrom, lengthOf, toldConverted, Converts};
+ghost use Rattle.sheet.specs.Versions.{longestSheet};
 ghost use Rattle.csv.specs.Write.{textFrom};
-ghost use Rattle.convert.specs.Convert.{Loaded, Inside, lineIn, printedBy, Shows, Replies};
+ghost use Rattle.convert.specs.Convert.{Loaded, Inside, isCount, lineIn, printedBy, Shows, Replies};
 
 // Where the word stands.
 const COMMAND: usize = 1;
@@ -180,13 +182,55 @@ fn check(text: &[u8]) {
     show::line(text, r.line);
 }
 
-fn from_text(text: &[u8], checks: bool) {
-    if LONGEST < text.len() {
-        say::text(b"the text has more than 65536 bytes, and no sheet's text has so many");
-    } else if checks {
+fn take(text: &[u8], checks: bool) {
+    if checks {
         check(text);
     } else {
         make_sheet(text);
+    }
+}
+
+fn is_miscount(c: Converted) -> bool
+    ensures { λ r. ⌜ r ≡ isCount (toldConverted c) ⌝ }
+{
+    match c {
+        Converted::Length(_) => false,
+        Converted::Refused(r) => r.number() == 15,
+    }
+}
+
+// Whether a text is turned away by the count of a line's fields, as one that a spreadsheet program has filled up is.
+fn miscounted(text: &[u8]) -> bool
+    ensures { λ r. ⌜ r ≡ isCount (lengthOf (sheetFrom (now (text .entry)) longestSheet)) ⌝ }
+{
+    let mut sheet = [0u8; SHEET];
+    let c = csv::read_sheet(text, &mut sheet);
+    is_miscount(c)
+}
+
+// A text without its filling, which is put into a space as long as it.
+fn take_unfilled(text: &[u8], space: &mut [u8], checks: bool)
+    requires { ⌜ length (now space) ≡ length (now text) ⌝ }
+{
+    let at = fill::unfill(text, space);
+    take(&space[at..], checks);
+}
+
+fn take_filled(text: &[u8], checks: bool)
+    requires { ⌜ length (now text) ≤ 65536 ⌝ }
+{
+    let mut space = [0u8; LONGEST];
+    let len = text.len();
+    take_unfilled(text, &mut space[..len], checks);
+}
+
+fn from_text(text: &[u8], checks: bool) {
+    if LONGEST < text.len() {
+        say::text(b"the text has more than 65536 bytes, and no sheet's text has so many");
+    } else if miscounted(text) {
+        take_filled(text, checks);
+    } else {
+        take(text, checks);
     }
 }
 
