@@ -25,7 +25,7 @@ impl Pressure {
 }
 
 /// Quotient rounded up, for a numerator of 0 or more.
-fn rounded_up(numerator: i128, denominator: i128) -> i128 {
+pub fn rounded_up(numerator: i128, denominator: i128) -> i128 {
     (numerator + denominator - 1) / denominator
 }
 

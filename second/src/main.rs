@@ -1,21 +1,24 @@
-//! `second`: checks and edits sheets, reads and writes them as text, makes them, and
-//! counts what they bring up.
+//! `second`: checks, explains and edits sheets, reads and writes them as text, makes
+//! them, and counts what they bring up.
 
 use second::edit_stream::{self, parts, Lent, Part};
 use second::fields::lines;
-use second::make::{edit_cases, sheets, text_cases};
+use second::make::{edit_cases, full_sheet, sheets, text_cases};
+use second::pencil::explained;
 use second::print::{answer, fields, length};
 use second::stream::{framed, pieces, Piece};
 use second::tally::Tally;
 use second::tally_edits::EditTally;
 use second::tally_texts::TextTally;
+use second::tally_trails::TrailTally;
 use second::text_stream::{self, cases, Broken, What};
 use std::io::{self, BufWriter, Read, Write};
 use std::process::ExitCode;
 
 const USAGE: &str = "usage: second check | answer | make SEED COUNT | tally
        second edits | make-edits SEED COUNT | tally-edits
-       second texts | make-texts SEED COUNT | tally-texts | fields";
+       second texts | make-texts SEED COUNT | tally-texts | fields
+       second explain [ID] | make-full SEED INDEX | tally-trails";
 
 fn standard_input() -> io::Result<Vec<u8>> {
     let mut bytes = Vec::new();
@@ -25,6 +28,10 @@ fn standard_input() -> io::Result<Vec<u8>> {
 
 fn answer_sheet(out: &mut impl Write) -> io::Result<()> {
     write!(out, "{}", answer(&standard_input()?))
+}
+
+fn explain(out: &mut impl Write, id: Option<i128>) -> io::Result<()> {
+    write!(out, "{}", explained(&standard_input()?, id))
 }
 
 fn answer_stream(out: &mut impl Write) -> io::Result<()> {
@@ -110,9 +117,21 @@ fn tally_texts(out: &mut impl Write) -> io::Result<ExitCode> {
     Ok(verdict(tally.complaints(), tally.broken))
 }
 
-/// A stream made from a seed, piece by piece; none if there is no such command.
-fn made(command: &str, seed: &str, count: &str) -> Option<Box<dyn Iterator<Item = Vec<u8>>>> {
-    let (seed, count) = (seed.parse().ok()?, count.parse().ok()?);
+fn tally_trails(out: &mut impl Write) -> io::Result<ExitCode> {
+    let tally = TrailTally::of(&String::from_utf8_lossy(&standard_input()?));
+    write!(out, "{}", tally.table())?;
+    Ok(verdict(tally.complaints(), false))
+}
+
+/// A stream, or one sheet, made from a seed, piece by piece; none if there is no such
+/// command.
+fn made(command: &str, seed: &str, number: &str) -> Option<Box<dyn Iterator<Item = Vec<u8>>>> {
+    let seed = seed.parse().ok()?;
+    if command == "make-full" {
+        let sheet = full_sheet(seed, number.parse().ok()?);
+        return Some(Box::new(std::iter::once(sheet)));
+    }
+    let count = number.parse().ok()?;
     Some(match command {
         "make" => Box::new(sheets(seed).map(|sheet| framed(&sheet)).take(count)),
         "make-edits" => {
@@ -128,8 +147,8 @@ fn made(command: &str, seed: &str, count: &str) -> Option<Box<dyn Iterator<Item 
 }
 
 fn make(out: &mut impl Write, words: [&str; 3]) -> io::Result<ExitCode> {
-    let [command, seed, count] = words;
-    let Some(pieces) = made(command, seed, count) else {
+    let [command, seed, number] = words;
+    let Some(pieces) = made(command, seed, number) else {
         return Ok(usage());
     };
     for piece in pieces {
@@ -146,6 +165,11 @@ fn usage() -> ExitCode {
 fn run(words: &[&str], out: &mut impl Write) -> io::Result<ExitCode> {
     match *words {
         ["check"] => answer_sheet(out)?,
+        ["explain"] => explain(out, None)?,
+        ["explain", id] => match id.parse() {
+            Ok(id) => explain(out, Some(id))?,
+            Err(_) => return Ok(usage()),
+        },
         ["answer"] => answer_stream(out)?,
         ["edits"] => answer_edits(out)?,
         ["texts"] => answer_texts(out)?,
@@ -153,7 +177,8 @@ fn run(words: &[&str], out: &mut impl Write) -> io::Result<ExitCode> {
         ["tally"] => return tally_sheets(out),
         ["tally-edits"] => return tally_edits(out),
         ["tally-texts"] => return tally_texts(out),
-        [command, seed, count] => return make(out, [command, seed, count]),
+        ["tally-trails"] => return tally_trails(out),
+        [command, seed, number] => return make(out, [command, seed, number]),
         _ => return Ok(usage()),
     }
     Ok(ExitCode::SUCCESS)

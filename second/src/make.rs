@@ -11,6 +11,7 @@ mod edits;
 mod faults;
 mod headers;
 mod hulls;
+mod laden;
 mod page;
 mod record;
 mod refused;
@@ -76,6 +77,11 @@ pub fn text_cases(seed: u64) -> impl Iterator<Item = Case> {
     let mut chance = Chance::new(seed);
     let mut texts = Texts::new();
     std::iter::repeat_with(move || texts.case(&mut chance))
+}
+
+/// A sheet with hundreds of records that no check turns away.
+pub fn full_sheet(seed: u64, index: u64) -> Vec<u8> {
+    laden::sheet(seed, index).bytes()
 }
 
 fn one(chance: &mut Chance, edges: &mut Edges, headers: &mut Headers) -> Vec<u8> {

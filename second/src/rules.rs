@@ -29,10 +29,19 @@ fn rule_2(kind: i128, K: i128, S: i128, P: i128, T: i128) -> bool {
     }
 }
 
+/// Whether rule 3 has its second form, which only the bottom has.
+pub fn has_second_form(kind: i128, K: i128, R: i128) -> bool {
+    match kind {
+        1 => 1156 * K * R > 121_000_000_000,
+        2 => 6084 * K * R > 625_000_000_000,
+        _ => false,
+    }
+}
+
 /// Rule 3, thickness t3 under hull girder stress. At R of 210,000 or more the
 /// left of a second form is 0 or less and its right above 0: no T meets it.
 fn rule_3_transverse(kind: i128, K: i128, S: i128, R: i128, K2: i128, T: i128) -> bool {
-    if kind == 1 && 1156 * K * R > 121_000_000_000 {
+    if has_second_form(kind, K, R) {
         T * T * K2 * K2 * (210_000 - R) >= 504_100_000 * S * S * K
     } else {
         25 * T * T * K2 * K2 >= 1156 * S * S * R
@@ -40,7 +49,7 @@ fn rule_3_transverse(kind: i128, K: i128, S: i128, R: i128, K2: i128, T: i128) -
 }
 
 fn rule_3_longitudinal(kind: i128, K: i128, S: i128, R: i128, T: i128) -> bool {
-    if kind == 2 && 6084 * K * R > 625_000_000_000 {
+    if has_second_form(kind, K, R) {
         10 * T * T * (210_000 - R) >= 1681 * S * S * K
     } else {
         100_000_000 * T * T >= 1521 * S * S * R

@@ -77,7 +77,7 @@ fn put_line(e: Edited, text: &mut [u8]) -> usize
     ensures { λ r. ⌜ Laid (now (text .entry)) 0 (editedText e) r (now (text .exit)) ⌝ }
 {
     match e {
-        Edited::Length(n) => decimal::write_number(n as u32, b"\n", text),
+        Edited::Length(n) => decimal::write_number(n as u64, b"\n", text),
         Edited::Refused(x) => {
             let told = report::write_refusal(x, text);
             match told {

@@ -2,3 +2,4 @@ pub mod Rules
 pub mod Bounds
 pub mod Shapes
 pub mod Laws
+pub mod Work

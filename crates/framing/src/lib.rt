@@ -11,20 +11,20 @@ use quantity::Thickness;
 use sheet::Header;
 use sheet::Member;
 use sheet::Outcome;
+use sheet::Refusal;
 use verdict::Judged;
 use verdict::Verdict;
 ghost use mathlib.Core.Path.{_≡_};
 ghost use Prim.Native.Nat.{_*_, _<_, _≤_, _^_};
-ghost use Rattle.quantity.specs.Range.{thickness, modulus, shearArea};
 ghost use Rattle.gauge.specs.Ceil.{ceilOf};
-ghost use Rattle.gauge.specs.ShapeLaws.{Says};
 ghost use Rattle.loads.specs.Sources.{toldLoad};
 ghost use Rattle.sheet.specs.Record.{ofMember};
 ghost use Rattle.sheet.specs.Ranges.{HeaderRanges, MemberRanges};
 ghost use Rattle.verdict.specs.Verdict.{verdictOf};
 ghost use Rattle.verdict.specs.Judged.{toldJudged, judgedBy};
-ghost use Rattle.framing.specs.Rules.{rule4 as rule4Of, rule5 as rule5Of, rule6 as rule6Of, memberPressure, memberNamed, memberRules, memberFinding};
-ghost use Rattle.framing.specs.Shapes.{stressedShape};
+ghost use Rattle.framing.specs.Rules.{memberPressure, memberNamed, memberRules, memberFinding};
+ghost use Rattle.framing.specs.Shapes.{stressedShape, shape4, shape5, shape6};
+ghost use Rattle.framing.specs.Work.{toldWork, workOf, toldWorked};
 ghost use Rattle.framing.specs.Bounds.{Product, Bounded};
 
 // a·x ≥ p.
@@ -56,7 +56,7 @@ fn product(n: u64, ends: u8, eta: u8, q: LineLoad, x: u64) -> u64
 
 // The web.
 fn rule4(kind: u8, length: Span, factor: SteelFactor, spacing: Spacing) -> Shape
-    ensures { λ d. ⌜ Says d (thickness .high) (rule4Of kind (length .0) (factor .0) (spacing .0)) ⌝ }
+    ensures { λ d. ⌜ d ≡ shape4 kind (length .0) (factor .0) (spacing .0) ⌝ }
 {
     let l = length.0 as u64;
     let l2 = l * l;
@@ -74,7 +74,7 @@ fn rule4(kind: u8, length: Span, factor: SteelFactor, spacing: Spacing) -> Shape
 // The section modulus.
 fn rule5(kind: u8, bending: u8, eta: u8, stress: u8, q: LineLoad, span: Span) -> Shape
     requires { ⌜ Bounded bending eta (q .0) (span .0) ⌝ }
-    ensures { λ d. ⌜ Says d (modulus .high) (rule5Of kind bending eta stress (q .0) (span .0)) ⌝ }
+    ensures { λ d. ⌜ d ≡ shape5 kind bending eta stress (q .0) (span .0) ⌝ }
 {
     let l = span.0 as u64;
     let l2 = l * l;
@@ -90,7 +90,7 @@ fn rule5(kind: u8, bending: u8, eta: u8, stress: u8, q: LineLoad, span: Span) ->
 // The shear area. A girder's has no η.
 fn rule6(kind: u8, shear: u8, eta: u8, q: LineLoad, span: Span) -> Shape
     requires { ⌜ Bounded shear eta (q .0) (span .0) ⌝ }
-    ensures { λ d. ⌜ Says d (shearArea .high) (rule6Of kind shear eta (q .0) (span .0)) ⌝ }
+    ensures { λ d. ⌜ d ≡ shape6 kind shear eta (q .0) (span .0) ⌝ }
 {
     let l = span.0 as u64;
     if kind < 6 {
@@ -134,6 +134,49 @@ fn member_verdict(h: Header, kind: u8, m: Member, load: Load) -> Verdict
         rule: 0,
         required: 0,
     }
+}
+
+// What a member's rules go by, and what they ask of its web, its modulus and its shear area.
+pub struct MemberWork {
+    pub load: Load,
+    // q
+    pub line: LineLoad,
+    pub web: Shape,
+    pub bending: Shape,
+    pub shear: Shape,
+}
+
+pub enum MemberWorked {
+    Work(MemberWork),
+    Refused(Refusal),
+}
+
+fn member_work(h: Header, kind: u8, m: Member, load: Load) -> MemberWork
+    requires { ⌜ HeaderRanges h × MemberRanges kind m × (toldLoad load ≡ memberNamed h kind m) ⌝ }
+    ensures { λ w. ⌜ toldWork w ≡ workOf h kind m ⌝ }
+{
+    let line = loads::line_load(load, m.spacing);
+    let web = rule4(kind, h.length, m.factor, m.spacing);
+    let bending = rule5(kind, m.bending, m.eta, m.stress, line, m.span);
+    let shear = rule6(kind, m.shear, m.eta, line, m.span);
+    MemberWork {
+        load,
+        line,
+        web,
+        bending,
+        shear,
+    }
+}
+
+// How a member's scantlings are worked out, or why the header or the member's record is turned away.
+pub fn worked(h: Header, kind: u8, id: u16, m: Member) -> MemberWorked
+    ensures { λ w. ⌜ toldWorked w ≡ judgedBy h (ofMember kind id m) (workOf h kind m) ⌝ }
+{
+    let admitted = verdict::admitted_member(h, kind, id, m);
+    if let Outcome::Refused(r) = admitted {
+        return MemberWorked::Refused(r);
+    }
+    MemberWorked::Work(member_work(h, kind, m, member_load(h, kind, m)))
 }
 
 // The verdict on a member and what its pressure comes from, or why the header or the member's record is turned away.

@@ -1,7 +1,9 @@
 // What a rule asks of a scantling, as one of three shapes, and the least number of a gauge that meets it.
+ghost use Prim.Native.Nat.{_<_};
 ghost use mathlib.Core.Path.{_≡_};
 ghost use Rattle.gauge.specs.Shape.{squaresOf, meetsOf, leastOf};
 ghost use Rattle.gauge.specs.Ceil.{ceilOf};
+ghost use Rattle.gauge.specs.Worked.{Works, LastStep};
 
 pub enum Shape {
     // No x meets it.
@@ -18,6 +20,23 @@ pub enum Least {
     Nothing,
 }
 
+// How the least number that meets a shape is worked out, as the printed formula does it.
+pub struct Worked {
+    // the root that is taken, rounded down; 0 where none is
+    pub root: u64,
+    // the first number that may meet the shape: of a square, root and short over the step, rounded up
+    pub first: u64,
+    pub least: Least,
+}
+
+// v² ≥ n, where the square fits.
+fn small_squares(v: u64, n: u64) -> bool
+    requires { ⌜ v < 4294967296 ⌝ }
+    ensures { λ r. ⌜ r ≡ squaresOf v n ⌝ }
+{
+    n <= v * v
+}
+
 // v² ≥ n. From 2³² on the square is past every u64.
 fn squares(v: u64, n: u64) -> bool
     ensures { λ r. ⌜ r ≡ squaresOf v n ⌝ }
@@ -25,7 +44,7 @@ fn squares(v: u64, n: u64) -> bool
     if 4294967296 <= v {
         return true;
     }
-    n <= v * v
+    small_squares(v, n)
 }
 
 pub fn meets(d: Shape, x: u32) -> bool
@@ -60,44 +79,6 @@ fn floor_in(n: u64, top: u32) -> Least
     Least::At(n as u32)
 }
 
-// The least of 1, 2, .., top that meets the shape, by halves. The gauge's top is tried first, so that the search always has a number that meets it.
-fn found_in(d: Shape, top: u32) -> Least
-    ensures { λ r. ⌜ r ≡ leastOf d top ⌝ }
-{
-    if top == 0 {
-        return Least::Nothing;
-    }
-    if !meets(d, top) {
-        return Least::Nothing;
-    }
-    let mut lo: u32 = 1;
-    let mut hi = top;
-    while lo < hi {
-        let mid = lo + (hi - lo) / 2;
-        if meets(d, mid) {
-            hi = mid;
-        } else {
-            lo = mid + 1;
-        }
-    }
-    Least::At(lo)
-}
-
-// The least of 1, 2, .., top that meets the shape.
-pub fn least_in(d: Shape, top: u32) -> Least
-    ensures { λ r. ⌜ r ≡ leastOf d top ⌝ }
-{
-    match d {
-        Shape::Never => found_in(d, top),
-        Shape::Floor(n) => floor_in(n, top),
-        Shape::Square {
-            step: _,
-            short: _,
-            n: _,
-        } => found_in(d, top),
-    }
-}
-
 // p / a, rounded up; 0 where a is 0.
 pub fn ceil_div(p: u64, a: u64) -> u64
     ensures { λ r. ⌜ r ≡ ceilOf p a ⌝ }
@@ -111,7 +92,85 @@ pub fn ceil_div(p: u64, a: u64) -> u64
     (p - 1) / a + 1
 }
 
-// X = step·x − short, X ≥ 0 and a·X² ≥ p: no root is taken, and the quotient that the square is held against is rounded up.
+// The last step: the first number that may meet the shape if it does, else the next one; none where that is past the gauge's top.
+fn tested(d: Shape, first: u64, top: u32) -> Least
+    requires { ⌜ LastStep d first ⌝ }
+    ensures { λ r. ⌜ r ≡ leastOf d top ⌝ }
+{
+    let begin = floor_in(first, top);
+    let Least::At(x) = begin else {
+        return Least::Nothing;
+    };
+    if meets(d, x) {
+        return Least::At(x);
+    }
+    if x == top {
+        return Least::Nothing;
+    }
+    Least::At(x + 1)
+}
+
+// Of a square: the root first, then root and short over the step, rounded up, then the last step tested.
+fn square_in(step: u32, short: u64, n: u64, top: u32) -> Worked
+    ensures { λ w. ⌜ Works (Shape.Square step short n) top w ⌝ }
+{
+    let root = root::root(n);
+    let most = step as u64 * top as u64;
+    // Even the gauge's last number is under short.
+    if most < short {
+        let least = Least::Nothing;
+        return Worked {
+            root,
+            first: 0,
+            least,
+        };
+    }
+    let sum = short + root;
+    let first = ceil_div(sum, step as u64);
+    // It reaches short, but not the root.
+    if most < sum {
+        let least = Least::Nothing;
+        return Worked { root, first, least };
+    }
+    let d = Shape::Square { step, short, n };
+    let least = tested(d, first, top);
+    Worked { root, first, least }
+}
+
+// How the least of 1, 2, .., top that meets the shape is worked out.
+pub fn worked_in(d: Shape, top: u32) -> Worked
+    ensures { λ w. ⌜ Works d top w ⌝ }
+{
+    match d {
+        Shape::Never => {
+            let least = Least::Nothing;
+            Worked {
+                root: 0,
+                first: 0,
+                least,
+            }
+        }
+        Shape::Floor(n) => {
+            let least = floor_in(n, top);
+            Worked {
+                root: 0,
+                first: n,
+                least,
+            }
+        }
+        Shape::Square { step, short, n } => square_in(step, short, n, top),
+    }
+}
+
+// The least of 1, 2, .., top that meets the shape.
+pub fn least_in(d: Shape, top: u32) -> Least
+    ensures { λ r. ⌜ r ≡ leastOf d top ⌝ }
+{
+    let w = worked_in(d, top);
+    w.least
+}
+
+// X = step·x − short, X ≥ 0 and a·X² ≥ p: the quotient that the square is held against is rounded up.
 pub fn squared(step: u32, short: u64, p: u64, a: u64) -> Shape
     ensures { λ d. ⌜ d ≡ Shape.Square step short (ceilOf p a) ⌝ }
 {

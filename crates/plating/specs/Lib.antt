@@ -1,3 +1,6 @@
 pub mod Rules
 pub mod Bounds
 pub mod Laws
+pub mod Shapes
+pub mod ShapeLaws
+pub mod Work

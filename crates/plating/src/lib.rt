@@ -8,14 +8,13 @@ use quantity::Thickness;
 use sheet::Header;
 use sheet::Outcome;
 use sheet::Plate;
+use sheet::Refusal;
 use verdict::Judged;
 use verdict::Verdict;
 ghost use mathlib.Core.Path.{_≡_};
-ghost use mathlib.Core.Bool.{_&&_};
-ghost use Prim.Native.Nat.{ℕ, _-_, _*_, _^_, _≤_, _<_};
-ghost use lib.Dec.{leb};
+ghost use mathlib.Core.Bool.{false};
+ghost use Prim.Native.Nat.{_*_, _^_, _≤_, _<_};
 ghost use Rattle.quantity.specs.Range.{thickness, pressure, steelFactor};
-ghost use Rattle.gauge.specs.ShapeLaws.{Says};
 ghost use Rattle.loads.specs.Sources.{toldLoad};
 ghost use Rattle.sheet.specs.Kinds.{isLong, isBottom};
 ghost use Rattle.sheet.specs.Lines.{plateSpacing};
@@ -23,7 +22,9 @@ ghost use Rattle.sheet.specs.Record.{ofPlate};
 ghost use Rattle.sheet.specs.Ranges.{HeaderRanges, PlateRanges};
 ghost use Rattle.verdict.specs.Verdict.{verdictOf};
 ghost use Rattle.verdict.specs.Judged.{toldJudged, judgedBy};
-ghost use Rattle.plating.specs.Rules.{R, plateModulus, K2, allowance, rule1, rule2, isSecond, firstForm, secondForm, rule3, platePressure, plateNamed, plateRules, plateFinding};
+ghost use Rattle.plating.specs.Rules.{R, plateModulus, K2, allowance, isSecond, platePressure, plateNamed, plateRules, plateFinding};
+ghost use Rattle.plating.specs.Shapes.{squareShape, overShape, excessShape, shape1, shape2, firstShape, secondShape, shape3};
+ghost use Rattle.plating.specs.Work.{panelK2, toldWork, workOf, toldWorked};
 ghost use Rattle.plating.specs.Bounds.{Panel, greatestR};
 
 // The stress R at which the hull's bending leaves nothing for the plate's own.
@@ -34,8 +35,7 @@ const K2_HIGH: u64 = 26000;
 
 // a·T² ≥ n.
 fn square(a: u64, n: u64) -> Shape
-    requires { ⌜ 0 < a ⌝ }
-    ensures { λ d. ⌜ Says d (thickness .high) (λ (T : ℕ). leb n (a * (T * T))) ⌝ }
+    ensures { λ d. ⌜ d ≡ squareShape a n ⌝ }
 {
     gauge::squared(1, 0, n, a)
 }
@@ -43,7 +43,7 @@ fn square(a: u64, n: u64) -> Shape
 // a·T² ≥ b·c, where b·c may be past 64 bits: it is formed only where the thickest plate of the gauge meets the rule.
 fn square_over(a: u64, b: u64, c: u64) -> Shape
     requires { ⌜ (0 < a) × (0 < b) × (a * (thickness .high * thickness .high) < 2 ^ 64) ⌝ }
-    ensures { λ d. ⌜ Says d (thickness .high) (λ (T : ℕ). leb (b * c) (a * (T * T))) ⌝ }
+    ensures { λ d. ⌜ d ≡ overShape a b c ⌝ }
 {
     let top = Thickness::HIGH as u64;
     if a * (top * top) / b < c {
@@ -54,8 +54,7 @@ fn square_over(a: u64, b: u64, c: u64) -> Shape
 
 // X = 100T − short, X ≥ 0 and a·X² ≥ n.
 fn excess(short: u64, a: u64, n: u64) -> Shape
-    requires { ⌜ 0 < a ⌝ }
-    ensures { λ d. ⌜ Says d (thickness .high) (λ (T : ℕ). leb short (100 * T) && leb n (a * ((100 * T - short) * (100 * T - short)))) ⌝ }
+    ensures { λ d. ⌜ d ≡ excessShape short a n ⌝ }
 {
     gauge::squared(100, short, n, a)
 }
@@ -85,7 +84,7 @@ fn allowance(kind: u8) -> u64
 
 // Rule 1: what the vessel's length asks.
 fn rule1(kind: u8, length: Span, factor: SteelFactor, spacing: Spacing) -> Shape
-    ensures { λ d. ⌜ Says d (thickness .high) (rule1 kind (length .0) (factor .0) (spacing .0)) ⌝ }
+    ensures { λ d. ⌜ d ≡ shape1 kind (length .0) (factor .0) (spacing .0) ⌝ }
 {
     let l = length.0 as u64;
     let k = factor.0 as u64;
@@ -101,7 +100,7 @@ fn rule1(kind: u8, length: Span, factor: SteelFactor, spacing: Spacing) -> Shape
 // Rule 2: what the pressure asks.
 fn rule2(kind: u8, factor: SteelFactor, spacing: Spacing, load: Load) -> Shape
     requires { ⌜ (factor .0 ≤ steelFactor .high) × (spacing .0 ≤ plateSpacing .high) × (load .pressure .0 ≤ pressure .high) ⌝ }
-    ensures { λ d. ⌜ Says d (thickness .high) (rule2 kind (factor .0) (spacing .0) (load .pressure .0)) ⌝ }
+    ensures { λ d. ⌜ d ≡ shape2 kind (factor .0) (spacing .0) (load .pressure .0) ⌝ }
 {
     let k = factor.0 as u64;
     let s = spacing.0 as u64;
@@ -158,7 +157,7 @@ fn is_second(kind: u8, factor: SteelFactor, r: u64) -> bool
 // Rule 3 while the hull's stress is small.
 fn first_form(kind: u8, spacing: Spacing, b1: Span, b2: Span, r: u64) -> Shape
     requires { ⌜ Panel kind (spacing .0) (b1 .0) ⌝ }
-    ensures { λ d. ⌜ Says d (thickness .high) (firstForm kind (spacing .0) (K2 (b1 .0) (b2 .0)) r) ⌝ }
+    ensures { λ d. ⌜ d ≡ firstShape kind (spacing .0) (K2 (b1 .0) (b2 .0)) r ⌝ }
 {
     let s = spacing.0 as u64;
     let n = s * s;
@@ -172,7 +171,7 @@ fn first_form(kind: u8, spacing: Spacing, b1: Span, b2: Span, r: u64) -> Shape
 // Rule 3 on the bottom where the hull's stress is great.
 fn second_form(kind: u8, factor: SteelFactor, spacing: Spacing, b1: Span, b2: Span, r: u64) -> Shape
     requires { ⌜ Panel kind (spacing .0) (b1 .0) × (factor .0 ≤ steelFactor .high) ⌝ }
-    ensures { λ d. ⌜ Says d (thickness .high) (secondForm kind (factor .0) (spacing .0) (K2 (b1 .0) (b2 .0)) r) ⌝ }
+    ensures { λ d. ⌜ d ≡ secondShape kind (factor .0) (spacing .0) (K2 (b1 .0) (b2 .0)) r ⌝ }
 {
     if LIMIT <= r {
         return Shape::Never;
@@ -191,7 +190,7 @@ fn second_form(kind: u8, factor: SteelFactor, spacing: Spacing, b1: Span, b2: Sp
 // Rule 3: what the hull's bending asks. A greater moment may ask for less, where the second form sets in.
 fn rule3(kind: u8, factor: SteelFactor, spacing: Spacing, b1: Span, b2: Span, r: u64) -> Shape
     requires { ⌜ Panel kind (spacing .0) (b1 .0) × (factor .0 ≤ steelFactor .high) × (r ≤ greatestR) ⌝ }
-    ensures { λ d. ⌜ Says d (thickness .high) (rule3 kind (factor .0) (spacing .0) (K2 (b1 .0) (b2 .0)) r) ⌝ }
+    ensures { λ d. ⌜ d ≡ shape3 kind (factor .0) (spacing .0) (K2 (b1 .0) (b2 .0)) r ⌝ }
 {
     if is_second(kind, factor, r) {
         return second_form(kind, factor, spacing, b1, b2, r);
@@ -233,6 +232,68 @@ fn plate_verdict(h: Header, kind: u8, p: Plate, load: Load) -> Verdict
         rule: 0,
         required: 0,
     }
+}
+
+// What a plate's rules go by, and what they ask of its thickness.
+pub struct PlateWork {
+    pub load: Load,
+    // R
+    pub stress: u64,
+    // K2, 0 under longitudinal framing
+    pub k2: u64,
+    // whether rule 3 takes its second form
+    pub is_second: bool,
+    pub first: Shape,
+    pub second: Shape,
+    pub third: Shape,
+}
+
+pub enum PlateWorked {
+    Work(PlateWork),
+    Refused(Refusal),
+}
+
+// K2 where the plate's framing is transverse.
+fn panel_k2(kind: u8, b1: Span, b2: Span) -> u64
+    requires { ⌜ (isLong kind ≡ false → 0 < b1 .0) ⌝ }
+    ensures { λ r. ⌜ r ≡ panelK2 kind (b1 .0) (b2 .0) ⌝ }
+{
+    if is_long(kind) {
+        return 0;
+    }
+    k2(b1, b2)
+}
+
+fn plate_work(h: Header, kind: u8, p: Plate, load: Load) -> PlateWork
+    requires { ⌜ HeaderRanges h × PlateRanges kind p × (toldLoad load ≡ plateNamed h kind p) ⌝ }
+    ensures { λ w. ⌜ toldWork w ≡ workOf h kind p ⌝ }
+{
+    let stress = hull_stress(h.moment, plate_modulus(h, kind));
+    let k2 = panel_k2(kind, p.b1, p.b2);
+    let is_second = is_second(kind, p.factor, stress);
+    let first = rule1(kind, h.length, p.factor, p.spacing);
+    let second = rule2(kind, p.factor, p.spacing, load);
+    let third = rule3(kind, p.factor, p.spacing, p.b1, p.b2, stress);
+    PlateWork {
+        load,
+        stress,
+        k2,
+        is_second,
+        first,
+        second,
+        third,
+    }
+}
+
+// How a plate's thickness is worked out, or why the header or the plate's record is turned away.
+pub fn worked(h: Header, kind: u8, id: u16, p: Plate) -> PlateWorked
+    ensures { λ w. ⌜ toldWorked w ≡ judgedBy h (ofPlate kind id p) (workOf h kind p) ⌝ }
+{
+    let admitted = verdict::admitted_plate(h, kind, id, p);
+    if let Outcome::Refused(r) = admitted {
+        return PlateWorked::Refused(r);
+    }
+    PlateWorked::Work(plate_work(h, kind, p, load(h, kind, p)))
 }
 
 // The verdict on a plate and what its pressure comes from, or why the header or the plate's record is turned away.

@@ -39,7 +39,7 @@ fn put_number(page: &mut [u8], at: usize, n: u32, after: &[u8]) -> usize
     requires { ⌜ at + length (decimalOf n ++ now after) ≤ length (now page) ⌝ }
     ensures { λ r. ⌜ Laid (now (page .entry)) at (decimalOf n ++ now (after .entry)) r (now (page .exit)) ⌝ }
 {
-    at + decimal::write_number(n, after, &mut page[at..])
+    at + decimal::write_number(n as u64, after, &mut page[at..])
 }
 
 // Two numbers, and what comes after them.

@@ -40,7 +40,7 @@ fn put_line(c: Converted, line: &mut [u8]) -> usize
     ensures { λ r. ⌜ Laid (now (line .entry)) 0 (lineFor (toldConverted c)) r (now (line .exit)) ⌝ }
 {
     match c {
-        Converted::Length(n) => decimal::write_number(n as u32, b"\n", line),
+        Converted::Length(n) => decimal::write_number(n as u64, b"\n", line),
         Converted::Refused(x) => {
             let told = report::write_refusal(x, line);
             match told {

@@ -11,6 +11,12 @@ impl Chance {
         Chance { state: seed }
     }
 
+    /// For one of many things made from a seed, each by itself.
+    pub fn one_of(seed: u64, index: u64) -> Chance {
+        let first = Chance::new(seed).next();
+        Chance::new(first.wrapping_add(index))
+    }
+
     fn next(&mut self) -> u64 {
         self.state = self.state.wrapping_add(0x9e37_79b9_7f4a_7c15);
         let mut mixed = self.state;

@@ -11,15 +11,26 @@ use crate::sheet::{Header, Record};
 pub fn record(chance: &mut Chance, header: &Form, id: i128) -> Form {
     let header = Header::of(header);
     let kind = chance.between(1, 8);
-    let mut form = if kind <= 4 {
-        plate(chance, &header, kind)
-    } else {
-        member(chance, &header, kind)
-    };
+    let mut form = of_kind(chance, &header, kind);
     form.set("id", id);
-    // What the rules need does not rest on the T, W and A entered.
-    let demands = demands(&header, &Record::of(&form));
+    fit(chance, &header, &mut form);
+    form
+}
+
+/// One of this kind; its T, W and A, and its id, are still to be filled in.
+pub fn of_kind(chance: &mut Chance, header: &Header, kind: i128) -> Form {
     if kind <= 4 {
+        plate(chance, header, kind)
+    } else {
+        member(chance, header, kind)
+    }
+}
+
+/// Fills in T, W and A.
+pub fn fit(chance: &mut Chance, header: &Header, form: &mut Form) {
+    // What the rules need does not rest on the T, W and A entered.
+    let demands = demands(header, &Record::of(form));
+    if form.get("kind") <= 4 {
         let T = thickness(chance, &demands);
         form.set("T", T);
     } else {
@@ -28,7 +39,6 @@ pub fn record(chance: &mut Chance, header: &Form, id: i128) -> Form {
         form.set("W", W);
         form.set("A", A);
     }
-    form
 }
 
 /// The least number of the gauge that meets a rule, as `Demand::least` has it. Here

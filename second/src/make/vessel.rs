@@ -120,7 +120,7 @@ fn least_depth(header: &Form) -> i128 {
 }
 
 /// Of a hull as slender as it may be, a little or far less slender.
-fn depth(chance: &mut Chance, header: &Form) -> i128 {
+pub fn depth(chance: &mut Chance, header: &Form) -> i128 {
     let least = least_depth(header);
     match chance.below(3) {
         0 => *chance.of(&[least, least + 1, 999, 1000]),

@@ -8,7 +8,7 @@ use crate::limits::ID_HIGHEST;
 use crate::version::{Version, VERSIONS};
 
 /// Ids that rise strictly and end at or under the highest one.
-fn rising_ids(chance: &mut Chance, n: i128) -> Vec<i128> {
+pub fn rising_ids(chance: &mut Chance, n: i128) -> Vec<i128> {
     let widest_step = ID_HIGHEST / n.max(1);
     let mut ids: Vec<i128> = Vec::new();
     for _ in 0..n {

@@ -6,11 +6,12 @@ use mathlib.Core.Path.{_≡_, sym, ap, _∙_}
 use borrow.Author.Needs.{needs}
 use borrow.Author.Tests.{not-true, not-false}
 use Rattle.quantity.specs.Range.{thickness, modulus, shearArea, lineLoad}
-use Rattle.gauge.specs.ShapeLaws.{Says}
+use Rattle.gauge.specs.ShapeLaws.{Says, said}
 use Rattle.loads.specs.Loads.{lineLoad as lineLoadOf}
 use Rattle.verdict.specs.Verdict.{Rule, verdictOf, failedOf}
 use Rattle.framing.specs.Rules.{memberLine, webRule, bendingRule, shearRule}
 use Rattle.framing.specs.Bounds.{member-line-high}
+use Rattle.framing.specs.Shapes.{shape5, shape6, says4, says5, says6}
 use Rattle.verdict.specs.Steps.{first-failed, first-met}
 use Rattle.framing.proofs.member_verdict.Statement.{statement}
 use Rattle.framing.proofs.member_verdict.Tie as tie
@@ -42,17 +43,26 @@ line-high c =
     rw (line c) (member-line-high (s .args .h) (s .args .kind) (s .args .m) (s .pre .0) (s .pre .1))
 
 bending-said : (c : tie.After-rule5) → Says (c .rule5 .result) (modulus .high) (bending (start (c .before .before)) .asks)
-bending-said c = rw (line (c .before)) at (c .rule5 .ensures)
+bending-said c =
+    let a = start (c .before .before) .args in
+    said (c .rule5 .ensures ∙ ap (λ (q : ℕ). shape5 (a .kind) (a .m .bending) (a .m .eta) (a .m .stress) q (a .m .span .0)) (line (c .before)))
+    (says5 (a .kind) (a .m .bending) (a .m .eta) (a .m .stress) _ (a .m .span .0))
 
 shear-said : (c : tie.After-rule6) → Says (c .rule6 .result) (shearArea .high) (shear (start2 (c .before)) .asks)
-shear-said c = rw (line (c .before .before .before .before)) at (c .rule6 .ensures)
+shear-said c =
+    let a = start2 (c .before) .args in
+    said (c .rule6 .ensures ∙ ap (λ (q : ℕ). shape6 (a .kind) (a .m .shear) (a .m .eta) q (a .m .span .0)) (line (c .before .before .before .before)))
+    (says6 (a .kind) (a .m .shear) (a .m .eta) _ (a .m .span .0))
+
+web-said : (c : tie.After-rule4) → Says (c .rule4 .result) (thickness .high) (web (c .before) .asks)
+web-said c = let a = c .before .args in said (c .rule4 .ensures) (says4 (a .kind) (a .h .length .0) (a .m .factor .0) (a .m .spacing .0))
 
 web-met : (c : tie.Else1) →
     verdictOf (bending (start c) ∷ shear (start c) ∷ []) ≡ verdictOf (web (start c) ∷ bending (start c) ∷ shear (start c) ∷ [])
 web-met c =
     let s = start c in
-    let r = c .before .before .before .rule4 in
-    first-met (r .result) (web s) (bending s ∷ shear s ∷ []) (r .ensures) (s .pre .1 .thickness-low) (s .pre .1 .thickness-high)
+    let r = c .before .before .before in
+    first-met (r .rule4 .result) (web s) (bending s ∷ shear s ∷ []) (web-said r) (s .pre .1 .thickness-low) (s .pre .1 .thickness-high)
     (sym (c .before .meets .ensures) ∙ not-false _ (c .if1 .left))
 
 bending-met : (c : tie.Else2) →
@@ -68,10 +78,10 @@ returns : tie.Need-returns
 returns c =
     let w = c .before .before in
     let s = w .before .before .before in
-    let r = w .before .before .rule4 in
-    let named : c .failed .result ≡ failedOf 4 (r .result) (thickness .high) = c .failed .ensures in
+    let r = w .before .before in
+    let named : c .failed .result ≡ failedOf 4 (r .rule4 .result) (thickness .high) = c .failed .ensures in
     named
-    ∙ first-failed (r .result) (web s) (bending s ∷ shear s ∷ []) (r .ensures) (s .pre .1 .thickness-low) (s .pre .1 .thickness-high)
+    ∙ first-failed (r .rule4 .result) (web s) (bending s ∷ shear s ∷ []) (web-said r) (s .pre .1 .thickness-low) (s .pre .1 .thickness-high)
     (sym (w .meets .ensures) ∙ not-true _ (c .before .if1 .taken))
 
 rule5-requires : tie.Need-rule5-requires

@@ -5,9 +5,7 @@ use borrow.Author.Needs.{needs}
 use borrow.Author.Tests.{le-leb, lt-leb, lt-ltb, le-ltb}
 use native.Mathlib.Omega.{arith}
 use native.Mathlib.Nat.{mul-le-mul}
-use lib.Dec.{lit<}
-use Rattle.gauge.specs.ShapeLaws.{excess}
-use Rattle.framing.specs.Rules.{rule4}
+use Rattle.framing.specs.Shapes.{shape4}
 use Rattle.framing.proofs.rule4.Statement.{statement}
 use Rattle.framing.proofs.rule4.Tie as tie
 
@@ -23,16 +21,16 @@ cube c =
     mul-le-mul (square (c .before .before)) k
 
 returns : tie.Need-returns
-unfolding rule4
-returns c = λ x m n. rw (c .squared .ensures, le-leb _ _ (c .before .if1 .taken)) (excess _ _ _ _ x (lit< tt))
+unfolding shape4
+returns c = rw (c .squared .ensures, le-leb _ _ (c .before .if1 .taken))
 
 returns-2 : tie.Need-returns-2
-unfolding rule4
-returns-2 c = λ x m n. rw (c .squared2 .ensures, lt-leb _ _ (c .before .before .if1 .left), lt-ltb _ _ (c .before .if2 .taken)) (excess _ _ _ _ x (lit< tt))
+unfolding shape4
+returns-2 c = rw (c .squared2 .ensures, lt-leb _ _ (c .before .before .if1 .left), lt-ltb _ _ (c .before .if2 .taken))
 
 returns-3 : tie.Need-returns-3
-unfolding rule4
-returns-3 c = λ x m n. rw (c .squared3 .ensures, lt-leb _ _ (c .before .before .if1 .left), le-ltb _ _ (c .before .if2 .left)) (excess _ _ _ _ x (lit< tt))
+unfolding shape4
+returns-3 c = rw (c .squared3 .ensures, lt-leb _ _ (c .before .before .if1 .left), le-ltb _ _ (c .before .if2 .left))
 
 pub rule4-spec : {M : Type 1} → statement M
 rule4-spec =

@@ -6,10 +6,8 @@ use borrow.Author.Needs.{needs}
 use borrow.Author.Tests.{le-leb, lt-leb}
 use native.Mathlib.Omega.{arith}
 use native.Mathlib.Nat.{mul-le-mul}
-use lib.Dec.{lit<, lit≤}
-use Rattle.gauge.specs.ShapeLaws.{over-floor}
-use Rattle.framing.specs.Rules.{rule5}
-use Rattle.framing.specs.Shapes.{stressed-said}
+use lib.Dec.{lit≤}
+use Rattle.framing.specs.Shapes.{shape5}
 use Rattle.framing.specs.Bounds.{Bounded, Product}
 use Rattle.framing.proofs.Floors.{floors, above-floors, without-η}
 use Rattle.framing.proofs.rule5.Statement.{statement}
@@ -23,24 +21,24 @@ factors : {n e ends eta q l : ℕ} → n ≤ 1000 → e ≤ 100 → Bounded ends
 factors p r h = record { n-high = p; ends-high = h .ends-high; eta-high = r; load-high = h .load-high; x-high = square h }
 
 returns : tie.Need-returns
-unfolding rule5
+unfolding shape5
 returns c =
     let b = c .before .before in
-    λ x m n. rw (c .stressed .ensures, ← c .before .product .ensures, lt-leb _ _ (b .if1 .taken)) (stressed-said _ _ (b .before .before .args .stress) (c .before .product .result) x (lit< tt))
+    rw (c .stressed .ensures, ← c .before .product .ensures, lt-leb _ _ (b .if1 .taken))
 
 returns-2 : tie.Need-returns-2
-unfolding rule5
+unfolding shape5
 returns-2 c =
     let b = c .before .before in
     let a = b .before .before .before .args in
     let load : c .before .product2 .result ≡ 29 * a .bending * 1 * a .q .0 * (a .span .0 * a .span .0) = c .before .product2 .ensures in
-    λ x m n. rw (c .at-least .ensures, load ∙ without-η (29 * a .bending) (a .q .0) (a .span .0 * a .span .0), le-leb _ _ (b .before .if1 .left), floors _ (b .before .if1 .left) (b .if2 .taken)) (over-floor _ _ x (lit< tt))
+    rw (c .at-least .ensures, load ∙ without-η (29 * a .bending) (a .q .0) (a .span .0 * a .span .0), le-leb _ _ (b .before .if1 .left), floors _ (b .before .if1 .left) (b .if2 .taken))
 
 returns-3 : tie.Need-returns-3
-unfolding rule5
+unfolding shape5
 returns-3 c =
     let b = c .before .before in
-    λ x m n. rw (c .stressed2 .ensures, ← c .before .product3 .ensures, le-leb _ _ (b .before .if1 .left), above-floors _ (b .if2 .left)) (stressed-said _ _ (b .before .before .before .args .stress) (c .before .product3 .result) x (lit< tt))
+    rw (c .stressed2 .ensures, ← c .before .product3 .ensures, le-leb _ _ (b .before .if1 .left), above-floors _ (b .if2 .left))
 
 pub rule5-spec : {M : Type 1} → statement M
 rule5-spec =

@@ -4,33 +4,31 @@ use Prim.Native.Nat.{_*_}
 use mathlib.Core.Path.{_≡_, _∙_}
 use borrow.Author.Needs.{needs}
 use borrow.Author.Tests.{le-leb, lt-leb}
-use lib.Dec.{lit<}
-use Rattle.gauge.specs.ShapeLaws.{over-floor}
-use Rattle.framing.specs.Rules.{rule6}
+use Rattle.framing.specs.Shapes.{shape6}
 use Rattle.framing.proofs.Floors.{floors, above-floors, without-η}
 use Rattle.framing.proofs.rule6.Statement.{statement}
 use Rattle.framing.proofs.rule6.Tie as tie
 
 returns : tie.Need-returns
-unfolding rule6
+unfolding shape6
 returns c =
-    λ x m n. rw (c .at-least .ensures, c .before .product .ensures, lt-leb _ _ (c .before .before .if1 .taken)) (over-floor _ _ x (lit< tt))
+    rw (c .at-least .ensures, c .before .product .ensures, lt-leb _ _ (c .before .before .if1 .taken))
 
 returns-2 : tie.Need-returns-2
-unfolding rule6
+unfolding shape6
 returns-2 c =
     let b = c .before .before in
     let a = b .before .before .before .args in
     let load : c .before .product2 .result ≡ 9 * a .shear * 1 * a .q .0 * a .span .0 = c .before .product2 .ensures in
-    λ x m n. rw (c .at-least2 .ensures, load ∙ without-η (9 * a .shear) (a .q .0) (a .span .0), le-leb _ _ (b .before .if1 .left), floors _ (b .before .if1 .left) (b .if2 .taken)) (over-floor _ _ x (lit< tt))
+    rw (c .at-least2 .ensures, load ∙ without-η (9 * a .shear) (a .q .0) (a .span .0), le-leb _ _ (b .before .if1 .left), floors _ (b .before .if1 .left) (b .if2 .taken))
 
 returns-3 : tie.Need-returns-3
-unfolding rule6
+unfolding shape6
 returns-3 c =
     let b = c .before .before in
     let a = b .before .before .before .args in
     let load : c .before .product3 .result ≡ 7 * a .shear * 1 * a .q .0 * a .span .0 = c .before .product3 .ensures in
-    λ x m n. rw (c .at-least3 .ensures, load ∙ without-η (7 * a .shear) (a .q .0) (a .span .0), le-leb _ _ (b .before .if1 .left), above-floors _ (b .if2 .left)) (over-floor _ _ x (lit< tt))
+    rw (c .at-least3 .ensures, load ∙ without-η (7 * a .shear) (a .q .0) (a .span .0), le-leb _ _ (b .before .if1 .left), above-floors _ (b .if2 .left))
 
 pub rule6-spec : {M : Type 1} → statement M
 rule6-spec =

@@ -1,12 +1,12 @@
 -- `plating::first_form` meets its contract.
 -- Assumes nothing.
 use Prim.Native.Nat.{ℕ, _*_, _≤_, _<_}
-use mathlib.Core.Path.{sym, ap, _∙_}
+use mathlib.Core.Path.{sym, _∙_}
 use borrow.Author.Needs.{needs}
 use native.Mathlib.Omega.{arith}
-use native.Mathlib.Nat.{mul-le-mul, mul-right-comm}
-use lib.Dec.{leb}
+use native.Mathlib.Nat.{mul-le-mul}
 use Rattle.plating.specs.Bounds.{Panel}
+use Rattle.plating.specs.Shapes.{firstShape}
 use Rattle.plating.proofs.Products.{sides}
 use Rattle.plating.proofs.first_form.Statement.{statement}
 use Rattle.plating.proofs.first_form.Tie as tie
@@ -20,14 +20,16 @@ side : (c : tie.Else1) → 0 < c .before .before .before .args .b1 .0
 side c = c .before .before .before .pre .b1-low (sym (c .before .is-long .ensures) ∙ c .if1 .left)
 
 returns : tie.Need-returns
+unfolding firstShape
 returns c =
     let b = c .before in
-    λ T m h. rw (sym (b .before .is-long .ensures) ∙ b .if1 .taken) (c .square-over .ensures T m h)
+    rw (sym (b .before .is-long .ensures) ∙ b .if1 .taken) (c .square-over .ensures)
 
 returns-2 : tie.Need-returns-2
+unfolding firstShape
 returns-2 c =
     let b = c .before .before in
-    λ T m h. rw (sym (b .before .is-long .ensures) ∙ b .if1 .left, ← c .before .k2 .ensures) (c .square-over2 .ensures T m h ∙ ap (leb _) (mul-right-comm 25 _ (T * T)))
+    rw (sym (b .before .is-long .ensures) ∙ b .if1 .left, ← c .before .k2 .ensures) (c .square-over2 .ensures)
 
 pub first-form-spec : {M : Type 1} → statement M
 first-form-spec =

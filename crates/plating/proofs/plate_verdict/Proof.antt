@@ -2,29 +2,20 @@
 -- Assumes nothing.
 use Prim.Native.Nat.{ℕ, _≤_}
 use mathlib.Core.List.{[], _∷_}
-use mathlib.Core.Path.{_≡_, sym, ap, subst, _∙_}
-use mathlib.Core.Bool.{Bool, true, false, cond}
+use mathlib.Core.Path.{_≡_, sym, ap, _∙_}
 use borrow.Author.Needs.{needs}
-use native.Mathlib.Omega.{arith}
-use Rattle.quantity.specs.Range.{thickness, pressure}
-use Rattle.gauge.specs.ShapeLaws.{Says}
-use Rattle.sheet.specs.declared.Header.{Header}
-use Rattle.sheet.specs.declared.Plate.{Plate}
-use Rattle.sheet.specs.Kinds.{isBottom}
-use Rattle.sheet.specs.Ranges.{HeaderRanges, PlateRanges}
-use Rattle.loads.specs.Bounds.{either, bottom-bound, inner-bound}
+use Rattle.quantity.specs.Range.{thickness}
+use Rattle.gauge.specs.declared.Shape.{Shape}
+use Rattle.gauge.specs.ShapeLaws.{said}
 use Rattle.verdict.specs.Verdict.{Rule, verdictOf, failedOf}
-use Rattle.plating.specs.Rules.{R, K2, rule2, rule3, platePressure, asked1, asked2, asked3}
+use Rattle.plating.specs.Rules.{R, plateModulus, K2, platePressure, asked1, asked2, asked3}
 use Rattle.plating.specs.Laws.{R-high}
+use Rattle.plating.specs.Shapes.{shape2, shape3}
+use Rattle.plating.specs.ShapeLaws.{says1, says2, says3}
+use Rattle.plating.proofs.Ranges.{load-high, modulus-some, panel}
 use Rattle.plating.proofs.Steps.{Step, step}
 use Rattle.plating.proofs.plate_verdict.Statement.{statement}
 use Rattle.plating.proofs.plate_verdict.Tie as tie
-
-load-high : (h : Header) (kind : ℕ) (p : Plate) → HeaderRanges h → PlateRanges kind p → platePressure h kind p ≤ pressure .high
-load-high h kind p a b =
-    either (isBottom kind) _ _ _
-    (bottom-bound (h .draught .0) (h .wave .0) (a .draught-high) (a .wave-high) (p .z .0) (p .ballast) (p .«tank_top» .0) (b .tank-high))
-    (inner-bound (p .cargo) (p .z .0) (p .ballast) (p .«tank_top» .0) (b .cargo-high) (b .tank-high))
 
 -- from the test of each rule back to the start
 abbrev start1 : tie.After-meets → tie.Start
@@ -52,50 +43,43 @@ rule2-requires c κs =
     let p = s .pre .1 in
     (p .factor-high, p .spacing-high, rw (s .pre .2) (load-high (s .args .h) (s .args .kind) (s .args .p) (s .pre .0) p))
 
--- the modulus at the plate is not 0
-modulus-some : (c : tie.After-plate-modulus) → 1 ≤ c .plate-modulus .result
-modulus-some c =
+-- R is that of the modulus at the plate
+modulus-at : (c : tie.After-plate-modulus) → 1 ≤ c .plate-modulus .result
+modulus-at c =
     let s = start2 (c .before .before) in
-    let h = s .pre .0 in
-    subst (λ (Z : ℕ). 1 ≤ Z) (sym (c .plate-modulus .ensures)) (either-low (isBottom (s .args .kind)) _ _ (h .modulus-low) (h .inner-low))
-  where
-    either-low : (t : Bool) (x y : ℕ) → 1 ≤ x → 1 ≤ y → 1 ≤ cond t x y
-    either-low true x y a b = a
-    either-low false x y a b = b
+    rw (c .plate-modulus .ensures) (modulus-some (s .args .h) (s .args .kind) (s .args .p) (s .pre .0) (s .pre .1))
 
 rule3-requires : tie.Need-rule3-requires
 rule3-requires c κs =
     let s = start2 (c .before .before .before) in
     let h = s .pre .0 in
-    let p = s .pre .1 in (
-      record { spacing-low = p .spacing-low; spacing-high = p .spacing-high; b1-low = λ e. omega (arith, p .b1-low e) },
-      p .factor-high,
-      rw (c .hull-stress .ensures) (R-high (s .args .h .moment) _ (h .moment-high) (modulus-some (c .before))),
-    )
+    let p = s .pre .1 in
+    (panel (s .args .h) (s .args .kind) (s .args .p) h p, p .factor-high, rw (c .hull-stress .ensures) (R-high (s .args .h .moment) _ (h .moment-high) (modulus-at (c .before))))
 
 step1 : (c : tie.After-meets) → Step (c .before .rule1 .result) (r1 (start1 c)) (r2 (start1 c) ∷ r3 (start1 c) ∷ []) (c .meets .result)
 step1 c =
     let p = start1 c .pre .1 in
-    step _ (r1 (start1 c)) _ (c .before .rule1 .ensures) (p .thickness-low) (p .thickness-high) (c .meets .ensures)
+    let a = start1 c .args in
+    step _ (r1 (start1 c)) _ (said (c .before .rule1 .ensures) (says1 (a .kind) (a .h .length .0) (a .p .factor .0) (a .p .spacing .0))) (p .thickness-low) (p .thickness-high) (c .meets .ensures)
 
 step2 : (c : tie.After-meets2) → Step (c .before .rule2 .result) (r2 (start2 c)) (r3 (start2 c) ∷ []) (c .meets2 .result)
 step2 c =
     let p = start2 c .pre .1 in
     let a = start2 c .args in
-    let d = c .before .rule2 .result in
-    let says : Says d (thickness .high) (r2 (start2 c) .asks) =
-    subst (λ (P : ℕ). Says d (thickness .high) (rule2 (a .kind) (a .p .factor .0) (a .p .spacing .0) P)) (start2 c .pre .2) (c .before .rule2 .ensures) in
-    step d (r2 (start2 c)) _ says (p .thickness-low) (p .thickness-high) (c .meets2 .ensures)
+    let asks : ℕ → Shape = shape2 (a .kind) (a .p .factor .0) (a .p .spacing .0) in
+    let is : c .before .rule2 .result ≡ asks (platePressure (a .h) (a .kind) (a .p)) = c .before .rule2 .ensures ∙ ap asks (start2 c .pre .2) in
+    step _ (r2 (start2 c)) _ (said is (says2 (a .kind) (a .p .factor .0) (a .p .spacing .0) _)) (p .thickness-low) (p .thickness-high) (c .meets2 .ensures)
 
 step3 : (c : tie.After-meets3) → Step (c .before .rule3 .result) (r3 (start3 c)) [] (c .meets3 .result)
 step3 c =
     let p = start3 c .pre .1 in
     let a = start3 c .args in
-    let d = c .before .rule3 .result in
-    let says : Says d (thickness .high) (r3 (start3 c) .asks) =
-    subst (λ (r : ℕ). Says d (thickness .high) (rule3 (a .kind) (a .p .factor .0) (a .p .spacing .0) (K2 (a .p .b1 .0) (a .p .b2 .0)) r))
-    (c .before .before .hull-stress .ensures ∙ ap (R (a .h .moment)) (c .before .before .before .plate-modulus .ensures)) (c .before .rule3 .ensures) in
-    step d (r3 (start3 c)) _ says (p .thickness-low) (p .thickness-high) (c .meets3 .ensures)
+    let asks : ℕ → Shape = shape3 (a .kind) (a .p .factor .0) (a .p .spacing .0) (K2 (a .p .b1 .0) (a .p .b2 .0)) in
+    let stress : c .before .before .hull-stress .result ≡ R (a .h .moment) (plateModulus (a .h) (a .kind)) =
+    c .before .before .hull-stress .ensures ∙ ap (R (a .h .moment)) (c .before .before .before .plate-modulus .ensures) in
+    let is : c .before .rule3 .result ≡ asks (R (a .h .moment) (plateModulus (a .h) (a .kind))) = c .before .rule3 .ensures ∙ ap asks stress in
+    let says = says3 (a .p .b2 .0) (R (a .h .moment) (plateModulus (a .h) (a .kind))) (panel (a .h) (a .kind) (a .p) (start3 c .pre .0) p) (a .p .factor .0) in
+    step _ (r3 (start3 c)) _ (said is says) (p .thickness-low) (p .thickness-high) (c .meets3 .ensures)
 
 passed1 : (c : tie.Else1) → let s = start1 (c .before) in verdictOf (r1 s ∷ r2 s ∷ r3 s ∷ []) ≡ verdictOf (r2 s ∷ r3 s ∷ [])
 passed1 c = step1 (c .before) .passes (c .if1 .left)
@@ -141,7 +125,7 @@ plate-verdict-spec =
     (λ c κs. search needs)
     returns-2
     (λ c κs. search needs)
-    (λ c κs. modulus-some c)
+    (λ c κs. modulus-at c)
     rule3-requires
     (λ c κs. search needs)
     (λ c κs. search needs)

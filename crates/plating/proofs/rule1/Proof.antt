@@ -8,6 +8,7 @@ use native.Mathlib.Nat.{mul-le-mul}
 use lib.Dec.{eqb}
 use Rattle.loads.specs.Bounds.{either}
 use Rattle.plating.specs.Rules.{allowance}
+use Rattle.plating.specs.Shapes.{shape1}
 use Rattle.plating.proofs.rule1.Statement.{statement}
 use Rattle.plating.proofs.rule1.Tie as tie
 
@@ -27,14 +28,16 @@ add-short : tie.Need-add-short
 add-short c = omega (arith, allowed (c .before .before .before .before .args .kind), c .allowance .ensures)
 
 returns : tie.Need-returns
+unfolding shape1
 returns c =
     let b = c .before in
-    λ T m h. rw (sym (b .before .is-bottom .ensures) ∙ b .if1 .taken) (rw (b .before .before .allowance .ensures) at (c .excess .ensures T m h))
+    rw (sym (b .before .is-bottom .ensures) ∙ b .if1 .taken, ← b .before .before .allowance .ensures) (c .excess .ensures)
 
 returns-2 : tie.Need-returns-2
+unfolding shape1
 returns-2 c =
     let b = c .before in
-    λ T m h. rw (sym (b .before .is-bottom .ensures) ∙ b .if1 .left) (rw (b .before .before .allowance .ensures) at (c .excess2 .ensures T m h))
+    rw (sym (b .before .is-bottom .ensures) ∙ b .if1 .left, ← b .before .before .allowance .ensures) (c .excess2 .ensures)
 
 pub rule1-spec : {M : Type 1} → statement M
 rule1-spec =

@@ -5,6 +5,7 @@ use mathlib.Core.Path.{sym, _∙_}
 use borrow.Author.Needs.{needs}
 use native.Mathlib.Omega.{arith}
 use native.Mathlib.Nat.{mul-le-mul}
+use Rattle.plating.specs.Shapes.{shape2}
 use Rattle.plating.proofs.Products.{in-range}
 use Rattle.plating.proofs.rule2.Statement.{statement}
 use Rattle.plating.proofs.rule2.Tie as tie
@@ -15,14 +16,16 @@ load-in-range : (c : tie.Start) → let a = c .args in
 load-in-range c = mul-le-mul (in-range (c .pre .1) (c .pre .0) .1) (c .pre .2)
 
 returns : tie.Need-returns
+unfolding shape2
 returns c =
     let b = c .before in
-    λ T m h. rw (sym (b .before .is-long .ensures) ∙ b .if1 .taken) (c .square .ensures T m h)
+    rw (sym (b .before .is-long .ensures) ∙ b .if1 .taken) (c .square .ensures)
 
 returns-2 : tie.Need-returns-2
+unfolding shape2
 returns-2 c =
     let b = c .before in
-    λ T m h. rw (sym (b .before .is-long .ensures) ∙ b .if1 .left) (c .square2 .ensures T m h)
+    rw (sym (b .before .is-long .ensures) ∙ b .if1 .left) (c .square2 .ensures)
 
 pub rule2-spec : {M : Type 1} → statement M
 rule2-spec =

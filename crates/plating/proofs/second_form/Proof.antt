@@ -1,13 +1,13 @@
 -- `plating::second_form` meets its contract: below the limit the factors of T² are gathered into one divisor.
 -- Assumes nothing.
 use Prim.Native.Nat.{ℕ, _-_, _*_, _≤_, _<_}
-use mathlib.Core.Path.{sym, ap, _∙_}
+use mathlib.Core.Path.{sym, _∙_}
 use borrow.Author.Needs.{needs}
 use borrow.Author.Tests.{lt-ltb, le-ltb}
 use native.Mathlib.Omega.{arith}
-use native.Mathlib.Nat.{mul-le-mul, mul-comm, mul-right-comm}
-use lib.Dec.{leb}
+use native.Mathlib.Nat.{mul-le-mul}
 use Rattle.plating.specs.Rules.{limit}
+use Rattle.plating.specs.Shapes.{secondShape}
 use Rattle.plating.proofs.Products.{in-range, sides}
 use Rattle.plating.proofs.second_form.Statement.{statement}
 use Rattle.plating.proofs.second_form.Tie as tie
@@ -33,21 +33,22 @@ divisor c =
     (s .1, mul-le-mul one low, mul-le-mul (s .1) high)
 
 returns : tie.Need-returns
-returns c = λ T m h. rw (le-ltb _ limit (c .if1 .taken))
+unfolding secondShape
+returns c = rw (le-ltb _ limit (c .if1 .taken))
 
 returns-2 : tie.Need-returns-2
+unfolding secondShape
 returns-2 c =
     let b = c .before in
     let i = b .before .before .before .before in
-    λ T m h. rw (lt-ltb _ limit (i .if1 .left), sym (b .before .is-long .ensures) ∙ b .if2 .taken) (c .square .ensures T m h ∙ ap (leb _) (mul-right-comm 10 _ (T * T)))
+    rw (lt-ltb _ limit (i .if1 .left), sym (b .before .is-long .ensures) ∙ b .if2 .taken) (c .square .ensures)
 
 returns-3 : tie.Need-returns-3
+unfolding secondShape
 returns-3 c =
     let b = c .before .before in
     let i = b .before .before .before .before in
-    let k = c .before .k2 .result in
-    let left = limit - i .before .args .r in
-    λ T m h. rw (lt-ltb _ limit (i .if1 .left), sym (b .before .is-long .ensures) ∙ b .if2 .left, ← c .before .k2 .ensures) (c .square2 .ensures T m h ∙ ap (leb _) (mul-right-comm (k * k) left (T * T) ∙ ap (λ (n : ℕ). n * left) (mul-comm (k * k) (T * T))))
+    rw (lt-ltb _ limit (i .if1 .left), sym (b .before .is-long .ensures) ∙ b .if2 .left, ← c .before .k2 .ensures) (c .square2 .ensures)
 
 pub second-form-spec : {M : Type 1} → statement M
 second-form-spec =

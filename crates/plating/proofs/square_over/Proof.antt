@@ -1,17 +1,15 @@
 -- `plating::square_over` meets its contract: what is past the quotient, rounded down, nothing in the gauge meets; else the product fits.
 -- Assumes nothing.
 use borrow.Author.Needs.{needs}
+use borrow.Author.Tests.{lt-ltb, le-ltb}
 use native.Mathlib.Omega.{arith}
 use native.Mathlib.Nat.{le-div-iff-mul-le, mul-comm}
-use Rattle.quantity.specs.Range.{thickness}
-use Rattle.gauge.specs.ShapeLaws.{over-never}
 use Rattle.plating.proofs.square_over.Statement.{statement}
 use Rattle.plating.proofs.square_over.Tie as tie
 
 returns : tie.Need-returns
 returns c =
-    let s = c .before in
-    over-never (s .args .a) (s .args .b) (s .args .c) (thickness .high) (s .pre .1) (c .if1 .taken)
+    rw (lt-ltb _ _ (c .if1 .taken))
 
 mul-square : tie.Need-mul-square
 mul-square c =
@@ -29,4 +27,4 @@ square-over-spec =
     returns
     mul-square
     (λ c κs. search needs)
-    (λ c. search needs))
+    (λ c. rw (le-ltb _ _ (c .before .if1 .left)) (c .square .ensures)))

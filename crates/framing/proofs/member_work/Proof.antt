@@ -1,0 +1,47 @@
+-- `framing::member_work` meets its contract: each number and each shape is that of the member.
+-- Assumes nothing.
+use Prim.Native.Nat.{ℕ, _≤_}
+use mathlib.Core.Path.{_≡_, ap, _∙_}
+use borrow.Author.Needs.{needs}
+use Rattle.quantity.specs.Range.{lineLoad}
+use Rattle.loads.specs.Loads.{lineLoad as lineLoadOf}
+use Rattle.loads.specs.Sources.{Named}
+use Rattle.framing.specs.Rules.{memberLine}
+use Rattle.framing.specs.Laws.{member-pressure}
+use Rattle.framing.specs.Bounds.{member-line-high}
+use Rattle.framing.proofs.member_work.Statement.{statement}
+use Rattle.framing.proofs.member_work.Tie as tie
+
+-- q is the line load of the member's pressure
+line : (c : tie.After-line-load) → let s = c .before in c .line-load .result .0 ≡ memberLine (s .args .h) (s .args .kind) (s .args .m)
+unfolding memberLine
+line c =
+    let s = c .before in
+    let pressure = ap (λ (n : Named). n .pressure) (s .pre .2) ∙ member-pressure (s .args .h) (s .args .kind) (s .args .m) in
+    c .line-load .ensures ∙ ap (λ (P : ℕ). lineLoadOf P (s .args .m .spacing .0)) pressure
+
+line-high : (c : tie.After-line-load) → c .line-load .result .0 ≤ lineLoad .high
+line-high c =
+    let s = c .before in
+    rw (line c) (member-line-high (s .args .h) (s .args .kind) (s .args .m) (s .pre .0) (s .pre .1))
+
+rule5-requires : tie.Need-rule5-requires
+rule5-requires c κs =
+    let q = c .before in
+    let m = q .before .pre .1 in
+    record { ends-high = m .bending-high; eta-high = m .eta-high; load-high = line-high q; span-high = m .span-high }
+
+rule6-requires : tie.Need-rule6-requires
+rule6-requires c κs =
+    let q = c .before .before in
+    let m = q .before .pre .1 in
+    record { ends-high = m .shear-high; eta-high = m .eta-high; load-high = line-high q; span-high = m .span-high }
+
+returns : tie.Need-returns
+returns c =
+    let b = c .before in
+    let q = b .before .before in
+    rw (q .before .pre .2, b .before .rule4 .ensures, b .rule5 .ensures, c .rule6 .ensures, line q)
+
+pub member-work-spec : {M : Type 1} → statement M
+member-work-spec = tie.close (tie.spec (λ c κs. search needs) (λ c κs. search needs) rule5-requires rule6-requires returns)

@@ -1,0 +1,15 @@
+-- `wording::put_hundredths` meets its contract: one number behind another.
+-- Assumes nothing.
+use borrow.Author.Needs.{needs}
+use Prim.Native.Nat.{_+_}
+use native.Mathlib.Omega.{arith}
+use Rattle.wording.specs.Writes.{Writes}
+use Rattle.wording.specs.WritesLaws.{and-then, within}
+use Rattle.wording.proofs.put_hundredths.Statement.{statement}
+use Rattle.wording.proofs.put_hundredths.Tie as tie
+
+returns : tie.Need-returns
+returns c = within _ (omega arith) (and-then (and-then (and-then (c .before .before .before .before .before .before .before .before .before .before .before .before .before .before .before .before .put-number .ensures) (c .before .before .before .before .before .before .before .before .before .before .before .put-number2 .ensures)) (c .before .before .before .before .before .before .put-number3 .ensures)) (c .before .before .put-number4 .ensures))
+
+pub put-hundredths-spec : {M : Type 1} → statement M
+put-hundredths-spec = tie.close (tie.spec (λ c. search needs) (λ c κs. search needs) (λ c. search needs) (λ c κs. search needs) (λ c. search needs) (λ c κs. search needs) (λ c κs. search needs) (λ c. search needs) returns)
