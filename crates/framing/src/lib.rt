@@ -144,6 +144,7 @@ pub struct MemberWork {
     pub web: Shape,
     pub bending: Shape,
     pub shear: Shape,
+    pub verdict: Verdict,
 }
 
 pub enum MemberWorked {
@@ -159,12 +160,14 @@ fn member_work(h: Header, kind: u8, m: Member, load: Load) -> MemberWork
     let web = rule4(kind, h.length, m.factor, m.spacing);
     let bending = rule5(kind, m.bending, m.eta, m.stress, line, m.span);
     let shear = rule6(kind, m.shear, m.eta, line, m.span);
+    let verdict = member_verdict(h, kind, m, load);
     MemberWork {
         load,
         line,
         web,
         bending,
         shear,
+        verdict,
     }
 }
 

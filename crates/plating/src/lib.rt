@@ -65,7 +65,7 @@ fn is_bottom(kind: u8) -> bool
     kind <= 2
 }
 
-fn is_long(kind: u8) -> bool
+pub fn is_long(kind: u8) -> bool
     ensures { λ r. ⌜ r ≡ isLong kind ⌝ }
 {
     kind == 2 || kind == 4
@@ -237,6 +237,8 @@ fn plate_verdict(h: Header, kind: u8, p: Plate, load: Load) -> Verdict
 // What a plate's rules go by, and what they ask of its thickness.
 pub struct PlateWork {
     pub load: Load,
+    // ZB or ZDB
+    pub modulus: u32,
     // R
     pub stress: u64,
     // K2, 0 under longitudinal framing
@@ -246,6 +248,7 @@ pub struct PlateWork {
     pub first: Shape,
     pub second: Shape,
     pub third: Shape,
+    pub verdict: Verdict,
 }
 
 pub enum PlateWorked {
@@ -268,20 +271,24 @@ fn plate_work(h: Header, kind: u8, p: Plate, load: Load) -> PlateWork
     requires { ⌜ HeaderRanges h × PlateRanges kind p × (toldLoad load ≡ plateNamed h kind p) ⌝ }
     ensures { λ w. ⌜ toldWork w ≡ workOf h kind p ⌝ }
 {
-    let stress = hull_stress(h.moment, plate_modulus(h, kind));
+    let modulus = plate_modulus(h, kind);
+    let stress = hull_stress(h.moment, modulus);
     let k2 = panel_k2(kind, p.b1, p.b2);
     let is_second = is_second(kind, p.factor, stress);
     let first = rule1(kind, h.length, p.factor, p.spacing);
     let second = rule2(kind, p.factor, p.spacing, load);
     let third = rule3(kind, p.factor, p.spacing, p.b1, p.b2, stress);
+    let verdict = plate_verdict(h, kind, p, load);
     PlateWork {
         load,
+        modulus,
         stress,
         k2,
         is_second,
         first,
         second,
         third,
+        verdict,
     }
 }
 

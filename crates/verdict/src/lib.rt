@@ -27,7 +27,8 @@ pub enum Judged {
     Refused(Refusal),
 }
 
-fn number(l: Least) -> u32
+// The number of an answer, 0 where there is none.
+pub fn number(l: Least) -> u32
     ensures { λ r. ⌜ r ≡ numberOf l ⌝ }
 {
     match l {

@@ -6,19 +6,19 @@ use borrow.Author.Needs.{needs}
 use Rattle.quantity.specs.Range.{lineLoad}
 use Rattle.loads.specs.Loads.{lineLoad as lineLoadOf}
 use Rattle.loads.specs.Sources.{Named}
-use Rattle.framing.specs.Rules.{memberLine}
+use Rattle.framing.specs.Rules.{memberLine, memberPressure}
 use Rattle.framing.specs.Laws.{member-pressure}
 use Rattle.framing.specs.Bounds.{member-line-high}
 use Rattle.framing.proofs.member_work.Statement.{statement}
 use Rattle.framing.proofs.member_work.Tie as tie
 
+load-pressure : (s : tie.Start) → s .args .load .pressure .0 ≡ memberPressure (s .args .h) (s .args .kind) (s .args .m)
+load-pressure s = ap (λ (n : Named). n .pressure) (s .pre .2) ∙ member-pressure (s .args .h) (s .args .kind) (s .args .m)
+
 -- q is the line load of the member's pressure
 line : (c : tie.After-line-load) → let s = c .before in c .line-load .result .0 ≡ memberLine (s .args .h) (s .args .kind) (s .args .m)
 unfolding memberLine
-line c =
-    let s = c .before in
-    let pressure = ap (λ (n : Named). n .pressure) (s .pre .2) ∙ member-pressure (s .args .h) (s .args .kind) (s .args .m) in
-    c .line-load .ensures ∙ ap (λ (P : ℕ). lineLoadOf P (s .args .m .spacing .0)) pressure
+line c = let s = c .before in c .line-load .ensures ∙ ap (λ (P : ℕ). lineLoadOf P (s .args .m .spacing .0)) (load-pressure s)
 
 line-high : (c : tie.After-line-load) → c .line-load .result .0 ≤ lineLoad .high
 line-high c =
@@ -39,9 +39,10 @@ rule6-requires c κs =
 
 returns : tie.Need-returns
 returns c =
-    let b = c .before in
+    let s = c .before in
+    let b = s .before in
     let q = b .before .before in
-    rw (q .before .pre .2, b .before .rule4 .ensures, b .rule5 .ensures, c .rule6 .ensures, line q)
+    rw (q .before .pre .2, b .before .rule4 .ensures, b .rule5 .ensures, s .rule6 .ensures, line q, c .member-verdict .ensures)
 
 pub member-work-spec : {M : Type 1} → statement M
-member-work-spec = tie.close (tie.spec (λ c κs. search needs) (λ c κs. search needs) rule5-requires rule6-requires returns)
+member-work-spec = tie.close (tie.spec (λ c κs. search needs) (λ c κs. search needs) rule5-requires rule6-requires (λ c κs. let s = c .before .before .before .before in (s .pre .0, s .pre .1, load-pressure s)) returns)

@@ -43,12 +43,13 @@ rule3-requires c κs =
 
 returns : tie.Need-returns
 returns c =
-    let second = c .before in
+    let third = c .before in
+    let second = third .before in
     let formed = second .before .before in
     let r = formed .before .before in
     let s = r .before .before in
     let a = s .args in
-    rw (s .pre .2, formed .before .panel-k2 .ensures, formed .is-second .ensures, second .before .rule1 .ensures, second .rule2 .ensures, load-pressure s, c .rule3 .ensures, stress r)
+    rw (s .pre .2, formed .before .panel-k2 .ensures, formed .is-second .ensures, second .before .rule1 .ensures, second .rule2 .ensures, load-pressure s, third .rule3 .ensures, stress r, r .before .plate-modulus .ensures, c .plate-verdict .ensures)
 
 pub plate-work-spec : {M : Type 1} → statement M
 plate-work-spec =
@@ -61,4 +62,5 @@ plate-work-spec =
     (λ c κs. search needs)
     rule2-requires
     rule3-requires
+    (λ c κs. let s = c .before .before .before .before .before .before .before in (s .pre .0, s .pre .1, load-pressure s))
     returns)

@@ -1,0 +1,5 @@
+pub mod Page
+pub mod Head
+pub mod Plates
+pub mod Members
+pub mod Steps
