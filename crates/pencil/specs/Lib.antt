@@ -3,3 +3,5 @@ pub mod Head
 pub mod Plates
 pub mod Members
 pub mod Steps
+pub mod Trail
+pub mod TrailLaws

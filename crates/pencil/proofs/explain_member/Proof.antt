@@ -1,0 +1,43 @@
+-- `pencil::explain_member` meets its contract: what is given is the work of the member, and a refusal is the same refusal.
+-- Assumes nothing.
+use borrow.Author.Needs.{needs}
+use mathlib.Core.Path.{sym, ap, _∙_}
+use Rattle.sheet.specs.Record.{ofMember}
+use Rattle.sheet.specs.RefusalLaws.{given-same}
+use Rattle.verdict.specs.JudgedLaws.{given-sound, sound-given, refused-same}
+use Rattle.framing.specs.Work.{workOf, toldWorked}
+use Rattle.pencil.specs.Trail.{memberTrail, memberExplained}
+use Rattle.pencil.proofs.explain_member.Statement.{statement}
+use Rattle.pencil.proofs.explain_member.Tie as tie
+
+returns : tie.Need-returns
+unfolding memberExplained
+returns c =
+    let w = c .before .before .before .before .before .before .before in
+    let a = w .before .before .args in
+    let e = sym (w .worked .ensures) ∙ ap toldWorked (c .before .before .before .before .before .worked2 .given .1) in
+    rw (refused-same (a .h) (ofMember (a .kind) (a .id) (a .m)) (workOf (a .h) (a .kind) (a .m)) (memberTrail (a .h) (a .kind) (a .id) (a .m) (workOf (a .h) (a .kind) (a .m))) _ _ e) (c .before .before .put-refusal .ensures)
+
+returns-2 : tie.Need-returns-2
+unfolding memberExplained
+returns-2 c =
+    let w = c .before .before .before .before .before .before .before in
+    let a = w .before .before .args in
+    let e = sym (w .worked .ensures) ∙ ap toldWorked (c .before .before .before .before .before .worked3 .given .1) in
+    let sound = given-sound (a .h) (ofMember (a .kind) (a .id) (a .m)) (workOf (a .h) (a .kind) (a .m)) _ e in
+    let same = given-same (sym (sound-given (a .h) (ofMember (a .kind) (a .id) (a .m)) (workOf (a .h) (a .kind) (a .m)) sound) ∙ e) in
+    rw (sound-given (a .h) (ofMember (a .kind) (a .id) (a .m)) (memberTrail (a .h) (a .kind) (a .id) (a .m) (workOf (a .h) (a .kind) (a .m))) sound, same) (c .before .before .put-member .ensures)
+
+pub explain-member-spec : {M : Type 1} → statement M
+explain-member-spec =
+    tie.close
+    (tie.spec
+    (λ c κs. search needs)
+    (λ c. search needs)
+    (λ c κs. search needs)
+    (λ c. search needs)
+    (λ c κs. search needs)
+    (λ c. search needs)
+    returns
+    (λ c. search needs)
+    returns-2)

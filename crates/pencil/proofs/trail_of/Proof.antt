@@ -1,0 +1,21 @@
+-- `pencil::trail_of` meets its contract.
+-- Assumes nothing.
+use borrow.Author.Needs.{needs}
+use Prim.Native.Nat.{ℕ}
+use mathlib.Core.Path.{_≡_, ap, _∙_}
+use Rattle.pencil.specs.TrailLaws.{on-blank}
+use Rattle.pencil.proofs.trail_of.Statement.{statement}
+use Rattle.pencil.proofs.trail_of.Tie as tie
+
+returns : tie.Need-returns
+returns c =
+    let t = c .before in
+    on-blank _ _ (t .put-trail .ensures)
+
+pub trail-of-spec : {M : Type 1} → statement M
+trail-of-spec =
+    tie.close
+    (tie.spec
+    (λ c. search needs)
+    (λ c κs. search needs)
+    returns)
