@@ -5,3 +5,6 @@ pub mod Members
 pub mod Steps
 pub mod Trail
 pub mod TrailLaws
+pub mod True
+pub mod Only
+pub mod Cases
