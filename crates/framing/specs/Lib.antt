@@ -3,3 +3,4 @@ pub mod Bounds
 pub mod Shapes
 pub mod Laws
 pub mod Work
+pub mod WorkLaws

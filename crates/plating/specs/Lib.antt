@@ -4,3 +4,4 @@ pub mod Laws
 pub mod Shapes
 pub mod ShapeLaws
 pub mod Work
+pub mod WorkLaws

@@ -1,6 +1,6 @@
 -- `framing::rule4` meets its contract: each of its forms is a shape.
 -- Assumes nothing.
-use Prim.Native.Nat.{_*_, _≤_}
+use Prim.Native.Nat.{_*_, _≤_, _<_}
 use borrow.Author.Needs.{needs}
 use borrow.Author.Tests.{le-leb, lt-leb, lt-ltb, le-ltb}
 use native.Mathlib.Omega.{arith}
@@ -26,7 +26,9 @@ returns c = rw (c .squared .ensures, le-leb _ _ (c .before .if1 .taken))
 
 returns-2 : tie.Need-returns-2
 unfolding shape4
-returns-2 c = rw (c .squared2 .ensures, lt-leb _ _ (c .before .before .if1 .left), lt-ltb _ _ (c .before .if2 .taken))
+returns-2 c =
+    let short : c .before .before .before .before .before .before .args .length .0 < 12000 = c .before .if2 .taken in
+    rw (c .squared2 .ensures, lt-leb _ _ (c .before .before .if1 .left), lt-ltb _ _ short)
 
 returns-3 : tie.Need-returns-3
 unfolding shape4

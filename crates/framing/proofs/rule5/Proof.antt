@@ -7,7 +7,7 @@ use borrow.Author.Tests.{le-leb, lt-leb}
 use native.Mathlib.Omega.{arith}
 use native.Mathlib.Nat.{mul-le-mul}
 use lib.Dec.{lit≤}
-use Rattle.framing.specs.Shapes.{shape5}
+use Rattle.framing.specs.Shapes.{stressedShape, shape5}
 use Rattle.framing.specs.Bounds.{Bounded, Product}
 use Rattle.framing.proofs.Floors.{floors, above-floors, without-η}
 use Rattle.framing.proofs.rule5.Statement.{statement}
@@ -38,7 +38,9 @@ returns-3 : tie.Need-returns-3
 unfolding shape5
 returns-3 c =
     let b = c .before .before in
-    rw (c .stressed2 .ensures, ← c .before .product3 .ensures, le-leb _ _ (b .before .if1 .left), above-floors _ (b .if2 .left))
+    let a = b .before .before .before .args in
+    let asked : c .stressed2 .result ≡ stressedShape 2000000000 197 (a .stress) (c .before .product3 .result) = c .stressed2 .ensures in
+    rw (asked, ← c .before .product3 .ensures, le-leb _ _ (b .before .if1 .left), above-floors _ (b .if2 .left))
 
 pub rule5-spec : {M : Type 1} → statement M
 rule5-spec =

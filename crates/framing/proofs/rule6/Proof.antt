@@ -4,6 +4,8 @@ use Prim.Native.Nat.{_*_}
 use mathlib.Core.Path.{_≡_, _∙_}
 use borrow.Author.Needs.{needs}
 use borrow.Author.Tests.{le-leb, lt-leb}
+use Rattle.gauge.specs.Ceil.{ceilOf}
+use Rattle.gauge.specs.declared.Shape.the-variants.{Floor}
 use Rattle.framing.specs.Shapes.{shape6}
 use Rattle.framing.proofs.Floors.{floors, above-floors, without-η}
 use Rattle.framing.proofs.rule6.Statement.{statement}
@@ -20,7 +22,8 @@ returns-2 c =
     let b = c .before .before in
     let a = b .before .before .before .args in
     let load : c .before .product2 .result ≡ 9 * a .shear * 1 * a .q .0 * a .span .0 = c .before .product2 .ensures in
-    rw (c .at-least2 .ensures, load ∙ without-η (9 * a .shear) (a .q .0) (a .span .0), le-leb _ _ (b .before .if1 .left), floors _ (b .before .if1 .left) (b .if2 .taken))
+    let asked : c .at-least2 .result ≡ Floor (ceilOf (c .before .product2 .result) 20000000) = c .at-least2 .ensures in
+    rw (asked, load ∙ without-η (9 * a .shear) (a .q .0) (a .span .0), le-leb _ _ (b .before .if1 .left), floors _ (b .before .if1 .left) (b .if2 .taken))
 
 returns-3 : tie.Need-returns-3
 unfolding shape6

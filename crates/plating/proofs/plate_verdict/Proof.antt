@@ -6,6 +6,7 @@ use mathlib.Core.Path.{_≡_, sym, ap, _∙_}
 use borrow.Author.Needs.{needs}
 use Rattle.quantity.specs.Range.{thickness}
 use Rattle.gauge.specs.declared.Shape.{Shape}
+use Rattle.gauge.specs.Shape.{meetsOf}
 use Rattle.gauge.specs.ShapeLaws.{said}
 use Rattle.verdict.specs.Verdict.{Rule, verdictOf, failedOf}
 use Rattle.plating.specs.Rules.{R, plateModulus, K2, platePressure, asked1, asked2, asked3}
@@ -79,7 +80,8 @@ step3 c =
     c .before .before .hull-stress .ensures ∙ ap (R (a .h .moment)) (c .before .before .before .plate-modulus .ensures) in
     let is : c .before .rule3 .result ≡ asks (R (a .h .moment) (plateModulus (a .h) (a .kind))) = c .before .rule3 .ensures ∙ ap asks stress in
     let says = says3 (a .p .b2 .0) (R (a .h .moment) (plateModulus (a .h) (a .kind))) (panel (a .h) (a .kind) (a .p) (start3 c .pre .0) p) (a .p .factor .0) in
-    step _ (r3 (start3 c)) _ (said is says) (p .thickness-low) (p .thickness-high) (c .meets3 .ensures)
+    let tested : c .meets3 .result ≡ meetsOf (c .before .rule3 .result) (a .p .thickness .0) = c .meets3 .ensures in
+    step (c .before .rule3 .result) (r3 (start3 c)) [] (said is says) (p .thickness-low) (p .thickness-high) tested
 
 passed1 : (c : tie.Else1) → let s = start1 (c .before) in verdictOf (r1 s ∷ r2 s ∷ r3 s ∷ []) ≡ verdictOf (r2 s ∷ r3 s ∷ [])
 passed1 c = step1 (c .before) .passes (c .if1 .left)

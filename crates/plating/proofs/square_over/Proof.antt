@@ -1,15 +1,19 @@
 -- `plating::square_over` meets its contract: what is past the quotient, rounded down, nothing in the gauge meets; else the product fits.
 -- Assumes nothing.
+use Prim.Native.Nat.{_*_, _/_, _<_}
 use borrow.Author.Needs.{needs}
 use borrow.Author.Tests.{lt-ltb, le-ltb}
 use native.Mathlib.Omega.{arith}
 use native.Mathlib.Nat.{le-div-iff-mul-le, mul-comm}
+use Rattle.quantity.specs.Range.{thickness}
 use Rattle.plating.proofs.square_over.Statement.{statement}
 use Rattle.plating.proofs.square_over.Tie as tie
 
 returns : tie.Need-returns
 returns c =
-    rw (lt-ltb _ _ (c .if1 .taken))
+    let a = c .before .args in
+    let past : a .a * (thickness .high * thickness .high) / a .b < a .c = c .if1 .taken in
+    rw (lt-ltb _ _ past)
 
 mul-square : tie.Need-mul-square
 mul-square c =
