@@ -194,7 +194,15 @@ fn put_plate_first(h: Header, kind: u8, p: Plate, w: PlateWork, page: &mut [u8],
     let load = w.load;
     let factor = p.factor.0 as u64;
     let spacing = p.spacing.0 as u64;
-    let one = plates::rule1(kind, h.length.0 as u64, factor, spacing, right_side(first), page, at);
+    let one = plates::rule1(
+        kind,
+        h.length.0 as u64,
+        factor,
+        spacing,
+        right_side(first),
+        page,
+        at,
+    );
     let two = put_steps(first, top, has, 36, page, one);
     let three = plates::rule2(
         plating::is_long(kind),
@@ -208,7 +216,15 @@ fn put_plate_first(h: Header, kind: u8, p: Plate, w: PlateWork, page: &mut [u8],
     put_steps(second, top, has, 36, page, three)
 }
 
-fn put_plate(h: Header, kind: u8, id: u16, p: Plate, w: PlateWork, page: &mut [u8], at: usize) -> usize
+fn put_plate(
+    h: Header,
+    kind: u8,
+    id: u16,
+    p: Plate,
+    w: PlateWork,
+    page: &mut [u8],
+    at: usize,
+) -> usize
     ensures { λ r. ⌜ Adds 17 (plateTrail h kind id p (toldPlate w)) (now (page .entry)) at r (now (page .exit)) ⌝ }
 {
     let top = Thickness::HIGH as u32;
@@ -238,7 +254,16 @@ fn put_member_load(h: Header, kind: u8, m: Member, load: Load, page: &mut [u8], 
 }
 
 // Rule 4.
-fn put_web(kind: u8, length: Span, factor: SteelFactor, spacing: Spacing, has: Thickness, web: Shape, page: &mut [u8], at: usize) -> usize
+fn put_web(
+    kind: u8,
+    length: Span,
+    factor: SteelFactor,
+    spacing: Spacing,
+    has: Thickness,
+    web: Shape,
+    page: &mut [u8],
+    at: usize,
+) -> usize
     ensures { λ r. ⌜ Adds 4 (webPart kind (length .0) (factor .0) (spacing .0) (has .0) web) (now (page .entry)) at r (now (page .exit)) ⌝ }
 {
     let next = members::rule4(
@@ -276,11 +301,35 @@ fn put_member_last(kind: u8, m: Member, w: MemberWork, page: &mut [u8], at: usiz
         at,
     );
     let two = put_steps(bending, Modulus::HIGH, m.modulus.0, 37, page, one);
-    let three = members::rule6(kind, q, m.shear as u64, eta, span, right_side(shear), page, two);
-    put_steps(shear, ShearArea::HIGH as u32, m.area.0 as u32, 38, page, three)
+    let three = members::rule6(
+        kind,
+        q,
+        m.shear as u64,
+        eta,
+        span,
+        right_side(shear),
+        page,
+        two,
+    );
+    put_steps(
+        shear,
+        ShearArea::HIGH as u32,
+        m.area.0 as u32,
+        38,
+        page,
+        three,
+    )
 }
 
-fn put_member(h: Header, kind: u8, id: u16, m: Member, w: MemberWork, page: &mut [u8], at: usize) -> usize
+fn put_member(
+    h: Header,
+    kind: u8,
+    id: u16,
+    m: Member,
+    w: MemberWork,
+    page: &mut [u8],
+    at: usize,
+) -> usize
     ensures { λ r. ⌜ Adds 17 (memberTrail h kind id m (toldMember w)) (now (page .entry)) at r (now (page .exit)) ⌝ }
 {
     let load = w.load;
@@ -288,7 +337,16 @@ fn put_member(h: Header, kind: u8, id: u16, m: Member, w: MemberWork, page: &mut
     let verdict = w.verdict;
     let one = head::heading(kind, id as u64, page, at);
     let two = put_member_load(h, kind, m, load, page, one);
-    let three = put_web(kind, h.length, m.factor, m.spacing, m.thickness, web, page, two);
+    let three = put_web(
+        kind,
+        h.length,
+        m.factor,
+        m.spacing,
+        m.thickness,
+        web,
+        page,
+        two,
+    );
     let four = put_member_last(kind, m, w, page, three);
     put_verdict(verdict, page, four)
 }

@@ -7,7 +7,13 @@ ghost use Rattle.pencil.specs.Steps.{rootLine, testedOf, resultOf, verdi
 pub fn root(step: u64, short: u64, root: u64, first: u64, page: &mut [u8], at: usize) -> usize
     ensures { λ r. ⌜ Adds 1 (rootLine step short root first) (now (page .entry)) at r (now (page .exit)) ⌝ }
 {
-    wording::fill(b"  root, rounded down: #\n  T = (# + #)/#, rounded up: #\n", &[root, root, short, step, first], 35, page, at)
+    wording::fill(
+        b"  root, rounded down: #\n  T = (# + #)/#, rounded up: #\n",
+        &[root, root, short, step, first],
+        35,
+        page,
+        at,
+    )
 }
 
 // The last step: the least number meets the rule, and one less does not.
@@ -15,15 +21,39 @@ pub fn tested(first: u64, least: u64, top: u64, page: &mut [u8], at: usize) -> u
     ensures { λ r. ⌜ Adds 1 (testedOf first least top) (now (page .entry)) at r (now (page .exit)) ⌝ }
 {
     if least == 0 {
-        return wording::fill(b"  tested: #, the gauge's last, does not meet the rule\n", &[top], 35, page, at);
+        return wording::fill(
+            b"  tested: #, the gauge's last, does not meet the rule\n",
+            &[top],
+            35,
+            page,
+            at,
+        );
     }
     if least == 1 {
-        return wording::fill(b"  tested: 1 meets the rule, and the gauge begins there\n", &[], 35, page, at);
+        return wording::fill(
+            b"  tested: 1 meets the rule, and the gauge begins there\n",
+            &[],
+            35,
+            page,
+            at,
+        );
     }
     if least == first {
-        return wording::fill(b"  tested: # meets the rule, # does not\n", &[least, least - 1], 35, page, at);
+        return wording::fill(
+            b"  tested: # meets the rule, # does not\n",
+            &[least, least - 1],
+            35,
+            page,
+            at,
+        );
     }
-    wording::fill(b"  tested: # does not meet the rule, # does\n", &[first, least], 35, page, at)
+    wording::fill(
+        b"  tested: # does not meet the rule, # does\n",
+        &[first, least],
+        35,
+        page,
+        at,
+    )
 }
 
 // The least number beside what the member has.
@@ -34,9 +64,21 @@ pub fn result(unit: u8, least: u64, has: u64, page: &mut [u8], at: usize) -> usi
         return wording::fill(b"  least none, has @: fails\n", &[has], unit, page, at);
     }
     if least <= has {
-        return wording::fill(b"  least @, has @: met, margin @\n", &[least, has, has - least], unit, page, at);
+        return wording::fill(
+            b"  least @, has @: met, margin @\n",
+            &[least, has, has - least],
+            unit,
+            page,
+            at,
+        );
     }
-    wording::fill(b"  least @, has @: fails, short by @\n", &[least, has, least - has], unit, page, at)
+    wording::fill(
+        b"  least @, has @: fails, short by @\n",
+        &[least, has, least - has],
+        unit,
+        page,
+        at,
+    )
 }
 
 // The verdict.
@@ -47,9 +89,21 @@ pub fn verdict(rule: u64, required: u64, unit: u8, page: &mut [u8], at: usize) -
         return wording::fill(b"verdict: passes\n", &[], 35, page, at);
     }
     if required == 0 {
-        return wording::fill(b"verdict: fails rule #, and nothing in the gauge will do\n", &[rule], 35, page, at);
+        return wording::fill(
+            b"verdict: fails rule #, and nothing in the gauge will do\n",
+            &[rule],
+            35,
+            page,
+            at,
+        );
     }
-    wording::fill(b"verdict: fails rule #, required @\n", &[rule, required], unit, page, at)
+    wording::fill(
+        b"verdict: fails rule #, required @\n",
+        &[rule, required],
+        unit,
+        page,
+        at,
+    )
 }
 
 // A refusal.

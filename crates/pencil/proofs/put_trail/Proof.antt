@@ -1,7 +1,6 @@
 -- `pencil::put_trail` meets its contract.
 -- Assumes nothing.
 use borrow.Author.Needs.{needs}
-
 use Rattle.pencil.proofs.put_trail.Statement.{statement}
 use Rattle.pencil.proofs.put_trail.Tie as tie
 
