@@ -18,9 +18,9 @@ use Rattle.framing.specs.Rules.{rule4, rule5, rule6, memberLine}
 use Rattle.framing.specs.Shapes.{shape4, shape5, shape6}
 use Rattle.framing.specs.Work.{workOf as memberWork}
 use Rattle.hull.specs.Cases.{v, plate, member}
-use Rattle.pencil.specs.Head.{headingOf, seaOf, innerOf, deepOf}
-use Rattle.pencil.specs.Plates.{rule1Of, rule2Of, stressOf, firstFormOf, secondFormOf}
-use Rattle.pencil.specs.Members.{rule4Of, rule5Of, rule6Of}
+use Rattle.pencil.specs.Head.{plateHeading, memberHeading, headingOf, seaOf, innerOf, deepOf}
+use Rattle.pencil.specs.Plates.{rule1Of, rule2Of, stressOf, firstLong, firstFormOf, secondFormOf}
+use Rattle.pencil.specs.Members.{rule4Of, longitudinalBending, rule5Of, rule6Of}
 use Rattle.pencil.specs.Steps.{rootLine, testedOf, resultOf, verdictLine}
 use Rattle.pencil.specs.Trail.{stepsOf, verdictPart, plateLoad, plateFirst, bendingPart, plateTrail, memberLoad, webPart, memberLast, memberTrail}
 
@@ -52,7 +52,7 @@ pub plate-case : textOf (plateTrail v 2 7 (plate 600 0 0 0) (plateWork v 2 (plat
     ++ bytes "  tested: 616 does not meet the rule, 617 does\n"
     ++ bytes "  least 617 (6.17 mm), has 600 (6.00 mm): fails, short by 17 (0.17 mm)\n"
     ++ bytes "verdict: fails rule 3, required 617 (6.17 mm)\n"
-unfolding rootOf rootIn ceilOf firstFrom leastIn sea bottomPressure innerPressure bottomNamed innerNamed digitsIn decimalOf shown pieceOf pieces textOf K2 shape1 shape2 firstShape secondShape shape3 headingOf seaOf innerOf rule1Of rule2Of stressOf firstFormOf secondFormOf rootLine testedOf resultOf verdictLine stepsOf verdictPart plateLoad plateFirst bendingPart plateTrail
+unfolding rootOf rootIn ceilOf firstFrom leastIn sea bottomPressure innerPressure bottomNamed innerNamed digitsIn decimalOf shown pieceOf pieces textOf K2 shape1 shape2 firstShape secondShape shape3 plateHeading headingOf seaOf innerOf rule1Of rule2Of stressOf firstLong firstFormOf secondFormOf rootLine testedOf resultOf verdictLine stepsOf verdictPart plateLoad plateFirst bendingPart plateTrail
 plate-case = refl
 
 -- case 10, as id 12 at T 420, W 560, A 168
@@ -78,5 +78,5 @@ pub member-case : textOf (memberTrail v 5 12 (member 500 300 90 50 420 560 168) 
     ++ bytes "  tested: 168 meets the rule, 167 does not\n"
     ++ bytes "  least 168 (1.68 cm²), has 168 (1.68 cm²): met, margin 0 (0.00 cm²)\n"
     ++ bytes "verdict: fails rule 5, required 567 (56.7 cm³)\n"
-unfolding rootOf rootIn ceilOf firstFrom leastIn sea deepPressure lineLoad digitsIn decimalOf shown pieceOf pieces textOf rule4 rule5 rule6 memberLine shape4 shape5 shape6 headingOf seaOf deepOf rule4Of rule5Of rule6Of rootLine testedOf resultOf verdictLine stepsOf verdictPart memberLoad webPart memberLast memberTrail
+unfolding rootOf rootIn ceilOf firstFrom leastIn sea deepPressure lineLoad digitsIn decimalOf shown pieceOf pieces textOf rule4 rule5 rule6 memberLine shape4 shape5 shape6 memberHeading headingOf seaOf deepOf rule4Of longitudinalBending rule5Of rule6Of rootLine testedOf resultOf verdictLine stepsOf verdictPart memberLoad webPart memberLast memberTrail
 member-case = refl

@@ -5,17 +5,28 @@ use mathlib.Core.List.{List, [], _∷_}
 use lib.Dec.{leb, ltb, eqb}
 use Rattle.pencil.specs.Page.{line, lineIn}
 
--- which member it is
-unfoldable pub headingOf : ℕ → ℕ → List (List ℕ)
-headingOf kind id =
+-- which plate it is
+unfoldable pub plateHeading : ℕ → ℕ → List (List ℕ)
+plateHeading kind id =
     cond (eqb kind 1) (line "member #: kind 1, bottom plate, transverse framing\n" (id ∷ []))
     (cond (eqb kind 2) (line "member #: kind 2, bottom plate, longitudinal framing\n" (id ∷ []))
     (cond (eqb kind 3) (line "member #: kind 3, inner bottom plate, transverse framing\n" (id ∷ []))
-    (cond (eqb kind 4) (line "member #: kind 4, inner bottom plate, longitudinal framing\n" (id ∷ []))
-    (cond (eqb kind 5) (line "member #: kind 5, bottom longitudinal\n" (id ∷ []))
+    (line "member #: kind 4, inner bottom plate, longitudinal framing\n" (id ∷ []))))
+
+-- which other member
+unfoldable pub memberHeading : ℕ → ℕ → List (List ℕ)
+memberHeading kind id =
+    cond (eqb kind 5) (line "member #: kind 5, bottom longitudinal\n" (id ∷ []))
     (cond (eqb kind 6) (line "member #: kind 6, floor\n" (id ∷ []))
     (cond (eqb kind 7) (line "member #: kind 7, bottom transverse\n" (id ∷ []))
-    (line "member #: kind 8, centre or side girder\n" (id ∷ []))))))))
+    (line "member #: kind 8, centre or side girder\n" (id ∷ []))))
+
+-- which member it is
+unfoldable pub headingOf : ℕ → ℕ → List (List ℕ)
+headingOf kind id =
+    cond (ltb kind 5)
+    (plateHeading kind id)
+    (memberHeading kind id)
 
 -- the load on a bottom plate or a longitudinal: P by its source, with D0, H, z and zL
 unfoldable pub seaOf : ℕ → ℕ → ℕ → ℕ → ℕ → ℕ → List (List ℕ)

@@ -1,11 +1,11 @@
 // Which member it is, and the load that it bears.
 // Words of the document in its letters: the bytes past 127 are those of the text in `specs/Head.antt`, in UTF-8.
 ghost use Rattle.pencil.specs.Page.{Adds};
-ghost use Rattle.pencil.specs.Head.{headingOf, seaOf, innerOf, deepOf};
+ghost use Rattle.pencil.specs.Head.{plateHeading, memberHeading, headingOf, seaOf, innerOf, deepOf};
 
-// Which member it is.
-pub fn heading(kind: u8, id: u64, page: &mut [u8], at: usize) -> usize
-    ensures { λ r. ⌜ Adds 1 (headingOf kind id) (now (page .entry)) at r (now (page .exit)) ⌝ }
+// Which plate it is.
+pub fn plate_heading(kind: u8, id: u64, page: &mut [u8], at: usize) -> usize
+    ensures { λ r. ⌜ Adds 1 (plateHeading kind id) (now (page .entry)) at r (now (page .exit)) ⌝ }
 {
     match kind {
         1 => wording::fill(
@@ -29,13 +29,21 @@ pub fn heading(kind: u8, id: u64, page: &mut [u8], at: usize) -> usize
             page,
             at,
         ),
-        4 => wording::fill(
+        _ => wording::fill(
             b"member #: kind 4, inner bottom plate, longitudinal framing\n",
             &[id],
             35,
             page,
             at,
         ),
+    }
+}
+
+// Which other member.
+pub fn member_heading(kind: u8, id: u64, page: &mut [u8], at: usize) -> usize
+    ensures { λ r. ⌜ Adds 1 (memberHeading kind id) (now (page .entry)) at r (now (page .exit)) ⌝ }
+{
+    match kind {
         5 => wording::fill(
             b"member #: kind 5, bottom longitudinal\n",
             &[id],
@@ -59,6 +67,16 @@ pub fn heading(kind: u8, id: u64, page: &mut [u8], at: usize) -> usize
             at,
         ),
     }
+}
+
+// Which member it is.
+pub fn heading(kind: u8, id: u64, page: &mut [u8], at: usize) -> usize
+    ensures { λ r. ⌜ Adds 1 (headingOf kind id) (now (page .entry)) at r (now (page .exit)) ⌝ }
+{
+    if kind < 5 {
+        return plate_heading(kind, id, page, at);
+    }
+    member_heading(kind, id, page, at)
 }
 
 // The load on a bottom plate or a longitudinal, by what decides it: the sea below the draught, above it, or ballast.

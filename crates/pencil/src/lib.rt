@@ -311,14 +311,8 @@ fn put_member_last(kind: u8, m: Member, w: MemberWork, page: &mut [u8], at: usiz
         page,
         two,
     );
-    put_steps(
-        shear,
-        ShearArea::HIGH as u32,
-        m.area.0 as u32,
-        38,
-        page,
-        three,
-    )
+    let area = m.area.0 as u32;
+    put_steps(shear, ShearArea::HIGH as u32, area, 38, page, three)
 }
 
 fn put_member(

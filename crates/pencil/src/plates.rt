@@ -1,7 +1,7 @@
 // Rules 1, 2 and 3, each up to its right side.
 // Words of the document in its letters: the bytes past 127 are those of the text in `specs/Plates.antt`, in UTF-8.
 ghost use Rattle.pencil.specs.Page.{Adds};
-ghost use Rattle.pencil.specs.Plates.{rule1Of, rule2Of, stressOf, firstFormOf, secondFormOf};
+ghost use Rattle.pencil.specs.Plates.{rule1Of, rule2Of, stressOf, firstLong, firstTransverse, firstFormOf, secondLong, secondTransverse, secondFormOf};
 
 // Rule 1, up to its right side.
 pub fn rule1(
@@ -99,6 +99,59 @@ pub fn stress(
     )
 }
 
+// Rule 3 in its first form under longitudinal framing, up to its right side.
+pub fn first_long(never: bool, spacing: u64, right: u64, page: &mut [u8], at: usize) -> usize
+    ensures { λ r. ⌜ Adds 1 (firstLong never spacing right) (now (page .entry)) at r (now (page .exit)) ⌝ }
+{
+    if never {
+        return wording::fill(
+            b"  100000000T\xC2\xB2 \xE2\x89\xA5 1521S\xC2\xB2R\n  S # mm\n  right side: T\xC2\xB2 \xE2\x89\xA5 1521S\xC2\xB2R/100000000, above the square of the gauge's last\n",
+            &[spacing],
+            35,
+            page,
+            at,
+        );
+    }
+    wording::fill(
+        b"  100000000T\xC2\xB2 \xE2\x89\xA5 1521S\xC2\xB2R\n  S # mm\n  right side: T\xC2\xB2 \xE2\x89\xA5 1521S\xC2\xB2R/100000000, rounded up: #\n",
+        &[spacing, right],
+        35,
+        page,
+        at,
+    )
+}
+
+// The same under transverse framing.
+pub fn first_transverse(
+    never: bool,
+    spacing: u64,
+    k2: u64,
+    b1: u64,
+    b2: u64,
+    right: u64,
+    page: &mut [u8],
+    at: usize,
+) -> usize
+    ensures { λ r. ⌜ Adds 1 (firstTransverse never spacing k2 b1 b2 right) (now (page .entry)) at r (now (page .exit)) ⌝ }
+{
+    if never {
+        return wording::fill(
+            b"  25T\xC2\xB2K2\xC2\xB2 \xE2\x89\xA5 1156S\xC2\xB2R\n  S # mm, K2 # of b1 # cm, b2 # cm: 1000(b1\xC2\xB2 + b2\xC2\xB2)/b1\xC2\xB2, rounded down, at most 26000\n  right side: T\xC2\xB2 \xE2\x89\xA5 1156S\xC2\xB2R/(25K2\xC2\xB2), above the square of the gauge's last\n",
+            &[spacing, k2, b1, b2],
+            35,
+            page,
+            at,
+        );
+    }
+    wording::fill(
+        b"  25T\xC2\xB2K2\xC2\xB2 \xE2\x89\xA5 1156S\xC2\xB2R\n  S # mm, K2 # of b1 # cm, b2 # cm: 1000(b1\xC2\xB2 + b2\xC2\xB2)/b1\xC2\xB2, rounded down, at most 26000\n  right side: T\xC2\xB2 \xE2\x89\xA5 1156S\xC2\xB2R/(25K2\xC2\xB2), rounded up: #\n",
+        &[spacing, k2, b1, b2, right],
+        35,
+        page,
+        at,
+    )
+}
+
 // Rule 3 in its first form, up to its right side.
 pub fn first_form(
     is_long: bool,
@@ -114,40 +167,70 @@ pub fn first_form(
     ensures { λ r. ⌜ Adds 1 (firstFormOf «is_long» never spacing k2 b1 b2 right) (now (page .entry)) at r (now (page .exit)) ⌝ }
 {
     if is_long {
-        if never {
-            return wording::fill(
-                b"  100000000T\xC2\xB2 \xE2\x89\xA5 1521S\xC2\xB2R\n  S # mm\n  right side: T\xC2\xB2 \xE2\x89\xA5 1521S\xC2\xB2R/100000000, above the square of the gauge's last\n",
-                &[spacing],
-                35,
-                page,
-                at,
-            );
-        }
-        wording::fill(
-            b"  100000000T\xC2\xB2 \xE2\x89\xA5 1521S\xC2\xB2R\n  S # mm\n  right side: T\xC2\xB2 \xE2\x89\xA5 1521S\xC2\xB2R/100000000, rounded up: #\n",
-            &[spacing, right],
-            35,
-            page,
-            at,
-        )
-    } else {
-        if never {
-            return wording::fill(
-                b"  25T\xC2\xB2K2\xC2\xB2 \xE2\x89\xA5 1156S\xC2\xB2R\n  S # mm, K2 # of b1 # cm, b2 # cm: 1000(b1\xC2\xB2 + b2\xC2\xB2)/b1\xC2\xB2, rounded down, at most 26000\n  right side: T\xC2\xB2 \xE2\x89\xA5 1156S\xC2\xB2R/(25K2\xC2\xB2), above the square of the gauge's last\n",
-                &[spacing, k2, b1, b2],
-                35,
-                page,
-                at,
-            );
-        }
-        wording::fill(
-            b"  25T\xC2\xB2K2\xC2\xB2 \xE2\x89\xA5 1156S\xC2\xB2R\n  S # mm, K2 # of b1 # cm, b2 # cm: 1000(b1\xC2\xB2 + b2\xC2\xB2)/b1\xC2\xB2, rounded down, at most 26000\n  right side: T\xC2\xB2 \xE2\x89\xA5 1156S\xC2\xB2R/(25K2\xC2\xB2), rounded up: #\n",
-            &[spacing, k2, b1, b2, right],
-            35,
-            page,
-            at,
-        )
+        return first_long(never, spacing, right, page, at);
     }
+    first_transverse(never, spacing, k2, b1, b2, right, page, at)
+}
+
+// Rule 3 in its second form under longitudinal framing, up to its right side.
+pub fn second_long(
+    never: bool,
+    factor: u64,
+    spacing: u64,
+    right: u64,
+    page: &mut [u8],
+    at: usize,
+) -> usize
+    ensures { λ r. ⌜ Adds 1 (secondLong never factor spacing right) (now (page .entry)) at r (now (page .exit)) ⌝ }
+{
+    if never {
+        return wording::fill(
+            b"  second form, 6084KR being above 625000000000, with K #: at R of 210000 and above no T meets it\n",
+            &[factor],
+            35,
+            page,
+            at,
+        );
+    }
+    wording::fill(
+        b"  second form, 6084KR being above 625000000000: 10T\xC2\xB2(210000 \xE2\x88\x92 R) \xE2\x89\xA5 1681S\xC2\xB2K\n  K #, S # mm\n  right side: T\xC2\xB2 \xE2\x89\xA5 1681S\xC2\xB2K/(10(210000 \xE2\x88\x92 R)), rounded up: #\n",
+        &[factor, spacing, right],
+        35,
+        page,
+        at,
+    )
+}
+
+// The same under transverse framing.
+pub fn second_transverse(
+    never: bool,
+    factor: u64,
+    spacing: u64,
+    k2: u64,
+    b1: u64,
+    b2: u64,
+    right: u64,
+    page: &mut [u8],
+    at: usize,
+) -> usize
+    ensures { λ r. ⌜ Adds 1 (secondTransverse never factor spacing k2 b1 b2 right) (now (page .entry)) at r (now (page .exit)) ⌝ }
+{
+    if never {
+        return wording::fill(
+            b"  second form, 1156KR being above 121000000000, with K #: at R of 210000 and above no T meets it\n",
+            &[factor],
+            35,
+            page,
+            at,
+        );
+    }
+    wording::fill(
+        b"  second form, 1156KR being above 121000000000: T\xC2\xB2K2\xC2\xB2(210000 \xE2\x88\x92 R) \xE2\x89\xA5 504100000S\xC2\xB2K\n  K #, S # mm, K2 # of b1 # cm, b2 # cm: 1000(b1\xC2\xB2 + b2\xC2\xB2)/b1\xC2\xB2, rounded down, at most 26000\n  right side: T\xC2\xB2 \xE2\x89\xA5 504100000S\xC2\xB2K/(K2\xC2\xB2(210000 \xE2\x88\x92 R)), rounded up: #\n",
+        &[factor, spacing, k2, b1, b2, right],
+        35,
+        page,
+        at,
+    )
 }
 
 // Rule 3 in its second form, up to its right side.
@@ -166,38 +249,7 @@ pub fn second_form(
     ensures { λ r. ⌜ Adds 1 (secondFormOf «is_long» never factor spacing k2 b1 b2 right) (now (page .entry)) at r (now (page .exit)) ⌝ }
 {
     if is_long {
-        if never {
-            return wording::fill(
-                b"  second form, 6084KR being above 625000000000, with K #: at R of 210000 and above no T meets it\n",
-                &[factor],
-                35,
-                page,
-                at,
-            );
-        }
-        wording::fill(
-            b"  second form, 6084KR being above 625000000000: 10T\xC2\xB2(210000 \xE2\x88\x92 R) \xE2\x89\xA5 1681S\xC2\xB2K\n  K #, S # mm\n  right side: T\xC2\xB2 \xE2\x89\xA5 1681S\xC2\xB2K/(10(210000 \xE2\x88\x92 R)), rounded up: #\n",
-            &[factor, spacing, right],
-            35,
-            page,
-            at,
-        )
-    } else {
-        if never {
-            return wording::fill(
-                b"  second form, 1156KR being above 121000000000, with K #: at R of 210000 and above no T meets it\n",
-                &[factor],
-                35,
-                page,
-                at,
-            );
-        }
-        wording::fill(
-            b"  second form, 1156KR being above 121000000000: T\xC2\xB2K2\xC2\xB2(210000 \xE2\x88\x92 R) \xE2\x89\xA5 504100000S\xC2\xB2K\n  K #, S # mm, K2 # of b1 # cm, b2 # cm: 1000(b1\xC2\xB2 + b2\xC2\xB2)/b1\xC2\xB2, rounded down, at most 26000\n  right side: T\xC2\xB2 \xE2\x89\xA5 504100000S\xC2\xB2K/(K2\xC2\xB2(210000 \xE2\x88\x92 R)), rounded up: #\n",
-            &[factor, spacing, k2, b1, b2, right],
-            35,
-            page,
-            at,
-        )
+        return second_long(never, factor, spacing, right, page, at);
     }
+    second_transverse(never, factor, spacing, k2, b1, b2, right, page, at)
 }

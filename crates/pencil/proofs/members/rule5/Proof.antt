@@ -11,30 +11,20 @@ use Rattle.pencil.proofs.members.rule5.Tie as tie
 
 returns : tie.Need-returns
 unfolding most rule5Of
-returns c = rw (lt-ltb _ _ (c .before .before .before .before .before .before .before .if1 .taken), c .before .before .before .before .before .before .if2 .taken) (within _ (lit≤ tt) (c .before .before .fill .ensures))
+returns c = rw (lt-ltb _ _ (c .before .before .before .before .if1 .taken)) (c .before .before .longitudinal-bending .ensures)
 
 returns-2 : tie.Need-returns-2
 unfolding most rule5Of
-returns-2 c = rw (le-ltb _ _ (c .before .before .before .before .before .before .before .if1 .left), lt-ltb _ _ (c .before .before .before .before .before .before .if3 .taken)) (within _ (lit≤ tt) (c .before .before .fill3 .ensures))
+returns-2 c = rw (le-ltb _ _ (c .before .before .before .before .before .before .before .if1 .left), lt-ltb _ _ (c .before .before .before .before .before .before .if2 .taken)) (within _ (lit≤ tt) (c .before .before .fill .ensures))
 
 returns-3 : tie.Need-returns-3
 unfolding most rule5Of
-returns-3 c = rw (le-ltb _ _ (c .before .before .before .before .before .before .before .before .if1 .left), le-ltb _ _ (c .before .before .before .before .before .before .before .if3 .left), c .before .before .before .before .before .before .if4 .taken) (within _ (lit≤ tt) (c .before .before .fill4 .ensures))
-
-returns-4 : tie.Need-returns-4
-unfolding most rule5Of
-returns-4 c = rw (lt-ltb _ _ (c .before .before .before .before .before .before .before .if1 .taken), c .before .before .before .before .before .before .if2 .left) (within _ (lit≤ tt) (c .before .before .fill2 .ensures))
-
-returns-5 : tie.Need-returns-5
-unfolding most rule5Of
-returns-5 c = rw (le-ltb _ _ (c .before .before .before .before .before .before .before .before .if1 .left), le-ltb _ _ (c .before .before .before .before .before .before .before .if3 .left), c .before .before .before .before .before .before .if4 .left) (within _ (lit≤ tt) (c .before .before .fill5 .ensures))
+returns-3 c = rw (le-ltb _ _ (c .before .before .before .before .before .if1 .left), le-ltb _ _ (c .before .before .before .before .if2 .left)) (c .before .before .girder-bending .ensures)
 
 pub rule5-spec : {M : Type 1} → statement M
 rule5-spec =
     tie.close
     (tie.spec
-    (λ c. search needs)
-    (λ c. search needs)
     (λ c κs. search needs)
     (λ c. search needs)
     returns
@@ -42,19 +32,7 @@ rule5-spec =
     (λ c. search needs)
     (λ c κs. search needs)
     (λ c. search needs)
-    (λ c. search needs)
-    (λ c κs. search needs)
-    (λ c. search needs)
     returns-2
-    (λ c. search needs)
-    (λ c. search needs)
     (λ c κs. search needs)
     (λ c. search needs)
-    returns-3
-    (λ c. search needs)
-    (λ c. search needs)
-    (λ c κs. search needs)
-    (λ c. search needs)
-    returns-4
-    (λ c. search needs)
-    returns-5)
+    returns-3)

@@ -1,0 +1,32 @@
+-- `pencil::plates::second_long` meets its contract.
+-- Assumes nothing.
+use borrow.Author.Needs.{needs}
+use lib.Dec.{lit≤}
+use Rattle.wording.specs.Words.{most}
+use Rattle.wording.specs.WritesLaws.{within}
+use Rattle.pencil.specs.Plates.{secondLong}
+use Rattle.pencil.proofs.plates.second_long.Statement.{statement}
+use Rattle.pencil.proofs.plates.second_long.Tie as tie
+
+returns : tie.Need-returns
+unfolding most secondLong
+returns c = rw (c .before .before .before .before .before .before .if1 .taken) (within _ (lit≤ tt) (c .before .before .fill .ensures))
+
+returns-2 : tie.Need-returns-2
+unfolding most secondLong
+returns-2 c = rw (c .before .before .before .before .before .before .if1 .left) (within _ (lit≤ tt) (c .before .before .fill2 .ensures))
+
+pub second-long-spec : {M : Type 1} → statement M
+second-long-spec =
+    tie.close
+    (tie.spec
+    (λ c. search needs)
+    (λ c. search needs)
+    (λ c κs. search needs)
+    (λ c. search needs)
+    returns
+    (λ c. search needs)
+    (λ c. search needs)
+    (λ c κs. search needs)
+    (λ c. search needs)
+    returns-2)
