@@ -77,9 +77,9 @@ fn unit_of(rule: u8) -> u8
     ensures { λ r. ⌜ r ≡ unitOf rule ⌝ }
 {
     match rule {
-        5 => 37,
-        6 => 38,
-        _ => 36,
+        5 => b'%',
+        6 => b'&',
+        _ => b'$',
     }
 }
 
@@ -203,7 +203,7 @@ fn put_plate_first(h: Header, kind: u8, p: Plate, w: PlateWork, page: &mut [u8],
         page,
         at,
     );
-    let two = put_steps(first, top, has, 36, page, one);
+    let two = put_steps(first, top, has, b'$', page, one);
     let three = plates::rule2(
         plating::is_long(kind),
         spacing,
@@ -213,7 +213,7 @@ fn put_plate_first(h: Header, kind: u8, p: Plate, w: PlateWork, page: &mut [u8],
         page,
         two,
     );
-    put_steps(second, top, has, 36, page, three)
+    put_steps(second, top, has, b'$', page, three)
 }
 
 fn put_plate(
@@ -235,7 +235,7 @@ fn put_plate(
     let two = put_plate_load(h, kind, p, load, page, one);
     let three = put_plate_first(h, kind, p, w, page, two);
     let four = put_bending(h, kind, p, w, page, three);
-    let five = put_steps(third, top, p.thickness.0 as u32, 36, page, four);
+    let five = put_steps(third, top, p.thickness.0 as u32, b'$', page, four);
     put_verdict(verdict, page, five)
 }
 
@@ -275,7 +275,7 @@ fn put_web(
         page,
         at,
     );
-    put_steps(web, Thickness::HIGH as u32, has.0 as u32, 36, page, next)
+    put_steps(web, Thickness::HIGH as u32, has.0 as u32, b'$', page, next)
 }
 
 // Rules 5 and 6 of a member.
@@ -300,7 +300,7 @@ fn put_member_last(kind: u8, m: Member, w: MemberWork, page: &mut [u8], at: usiz
         page,
         at,
     );
-    let two = put_steps(bending, Modulus::HIGH, m.modulus.0, 37, page, one);
+    let two = put_steps(bending, Modulus::HIGH, m.modulus.0, b'%', page, one);
     let three = members::rule6(
         kind,
         q,
@@ -312,7 +312,7 @@ fn put_member_last(kind: u8, m: Member, w: MemberWork, page: &mut [u8], at: usiz
         two,
     );
     let area = m.area.0 as u32;
-    put_steps(shear, ShearArea::HIGH as u32, area, 38, page, three)
+    put_steps(shear, ShearArea::HIGH as u32, area, b'&', page, three)
 }
 
 fn put_member(

@@ -19,7 +19,7 @@ pub fn rule4(
         return wording::fill(
             b"rule 4: X = 100T \xE2\x88\x92 38000 \xE2\x89\xA5 0 and 3125X\xC2\xB2 \xE2\x89\xA5 8L\xC2\xB2K\n  L # cm, K #\n  right side: X\xC2\xB2 \xE2\x89\xA5 8L\xC2\xB2K/3125, rounded up: #\n",
             &[length, factor, right],
-            35,
+            b'#',
             page,
             at,
         );
@@ -28,7 +28,7 @@ pub fn rule4(
         return wording::fill(
             b"rule 4: X = 100T \xE2\x88\x92 16300 \xE2\x88\x92 45S \xE2\x89\xA5 0 and 6250X\xC2\xB2 \xE2\x89\xA5 L\xC2\xB2K\n  L # cm, K #, S # mm\n  right side: X\xC2\xB2 \xE2\x89\xA5 L\xC2\xB2K/6250, rounded up: #\n",
             &[length, factor, spacing, right],
-            35,
+            b'#',
             page,
             at,
         );
@@ -36,7 +36,7 @@ pub fn rule4(
     wording::fill(
         b"rule 4: X = 10T \xE2\x88\x92 S \xE2\x89\xA5 0 and X\xC2\xB2 \xE2\x89\xA5 15210K\n  L # cm, K #, S # mm\n  right side: X\xC2\xB2 \xE2\x89\xA5 15210K: #\n",
         &[length, factor, spacing, right],
-        35,
+        b'#',
         page,
         at,
     )
@@ -61,7 +61,7 @@ pub fn longitudinal_bending(
         return wording::fill(
             b"rule 5: 10\xC2\xB9\xC2\xB9W(214 \xE2\x88\x92 \xCF\x831) \xE2\x89\xA5 833\xCE\xB2b\xCE\xB7ql\xC2\xB2\n  q = PS/1000000, rounded up: # N/m, with S # mm; \xCE\xB2b #, \xCE\xB7 #, l # cm, \xCF\x831 # N/mm\xC2\xB2\n  at \xCF\x831 of 214 and above no W meets it\n",
             &[q, spacing, bending, eta, span, stress],
-            35,
+            b'#',
             page,
             at,
         );
@@ -69,7 +69,7 @@ pub fn longitudinal_bending(
     wording::fill(
         b"rule 5: 10\xC2\xB9\xC2\xB9W(214 \xE2\x88\x92 \xCF\x831) \xE2\x89\xA5 833\xCE\xB2b\xCE\xB7ql\xC2\xB2\n  q = PS/1000000, rounded up: # N/m, with S # mm; \xCE\xB2b #, \xCE\xB7 #, l # cm, \xCF\x831 # N/mm\xC2\xB2\n  right side: W \xE2\x89\xA5 833\xCE\xB2b\xCE\xB7ql\xC2\xB2/(10\xC2\xB9\xC2\xB9(214 \xE2\x88\x92 \xCF\x831)), rounded up: #\n",
         &[q, spacing, bending, eta, span, stress, right],
-        35,
+        b'#',
         page,
         at,
     )
@@ -94,7 +94,7 @@ pub fn girder_bending(
         return wording::fill(
             b"rule 5: 2\xC2\xB710\xE2\x81\xB9W(197 \xE2\x88\x92 \xCF\x831) \xE2\x89\xA5 25\xCE\xB2b\xCE\xB7ql\xC2\xB2\n  q = PS/1000000, rounded up: # N/m, with S # mm; \xCE\xB2b #, \xCE\xB7 #, l # cm, \xCF\x831 # N/mm\xC2\xB2\n  at \xCF\x831 of 197 and above no W meets it\n",
             &[q, spacing, bending, eta, span, stress],
-            35,
+            b'#',
             page,
             at,
         );
@@ -102,7 +102,7 @@ pub fn girder_bending(
     wording::fill(
         b"rule 5: 2\xC2\xB710\xE2\x81\xB9W(197 \xE2\x88\x92 \xCF\x831) \xE2\x89\xA5 25\xCE\xB2b\xCE\xB7ql\xC2\xB2\n  q = PS/1000000, rounded up: # N/m, with S # mm; \xCE\xB2b #, \xCE\xB7 #, l # cm, \xCF\x831 # N/mm\xC2\xB2\n  right side: W \xE2\x89\xA5 25\xCE\xB2b\xCE\xB7ql\xC2\xB2/(2\xC2\xB710\xE2\x81\xB9(197 \xE2\x88\x92 \xCF\x831)), rounded up: #\n",
         &[q, spacing, bending, eta, span, stress, right],
-        35,
+        b'#',
         page,
         at,
     )
@@ -142,7 +142,7 @@ pub fn rule5(
         return wording::fill(
             b"rule 5: 5\xC2\xB710\xE2\x81\xB9W \xE2\x89\xA5 29\xCE\xB2bql\xC2\xB2\n  q = PS/1000000, rounded up: # N/m, with S # mm; \xCE\xB2b #, l # cm\n  right side: W \xE2\x89\xA5 29\xCE\xB2bql\xC2\xB2/(5\xC2\xB710\xE2\x81\xB9), rounded up: #\n",
             &[q, spacing, bending, span, right],
-            35,
+            b'#',
             page,
             at,
         );
@@ -178,7 +178,7 @@ pub fn rule6(
         return wording::fill(
             b"rule 6: 2\xC2\xB710\xE2\x81\xB9A \xE2\x89\xA5 9\xCE\xB2s\xCE\xB7ql\n  q # N/m, \xCE\xB2s #, \xCE\xB7 #, l # cm\n  right side: A \xE2\x89\xA5 9\xCE\xB2s\xCE\xB7ql/(2\xC2\xB710\xE2\x81\xB9), rounded up: #\n",
             &[q, shear, eta, span, right],
-            35,
+            b'#',
             page,
             at,
         );
@@ -187,7 +187,7 @@ pub fn rule6(
         return wording::fill(
             b"rule 6: 2\xC2\xB710\xE2\x81\xB7A \xE2\x89\xA5 9\xCE\xB2sql\n  q # N/m, \xCE\xB2s #, l # cm\n  right side: A \xE2\x89\xA5 9\xCE\xB2sql/(2\xC2\xB710\xE2\x81\xB7), rounded up: #\n",
             &[q, shear, span, right],
-            35,
+            b'#',
             page,
             at,
         );
@@ -195,7 +195,7 @@ pub fn rule6(
     wording::fill(
         b"rule 6: 12500000A \xE2\x89\xA5 7\xCE\xB2sql\n  q # N/m, \xCE\xB2s #, l # cm\n  right side: A \xE2\x89\xA5 7\xCE\xB2sql/12500000, rounded up: #\n",
         &[q, shear, span, right],
-        35,
+        b'#',
         page,
         at,
     )

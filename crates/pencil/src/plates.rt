@@ -19,21 +19,21 @@ pub fn rule1(
         1 => wording::fill(
             b"rule 1: X = 100T \xE2\x88\x92 18500 \xE2\x88\x92 36S \xE2\x89\xA5 0 and 1000X\xC2\xB2 \xE2\x89\xA5 9L\xC2\xB2K\n  L # cm, K #, S # mm\n  right side: X\xC2\xB2 \xE2\x89\xA5 9L\xC2\xB2K/1000, rounded up: #\n",
             &[length, factor, spacing, right],
-            35,
+            b'#',
             page,
             at,
         ),
         2 => wording::fill(
             b"rule 1: X = 100T \xE2\x88\x92 11000 \xE2\x88\x92 36S \xE2\x89\xA5 0 and 1000X\xC2\xB2 \xE2\x89\xA5 9L\xC2\xB2K\n  L # cm, K #, S # mm\n  right side: X\xC2\xB2 \xE2\x89\xA5 9L\xC2\xB2K/1000, rounded up: #\n",
             &[length, factor, spacing, right],
-            35,
+            b'#',
             page,
             at,
         ),
         _ => wording::fill(
             b"rule 1: X = 100T \xE2\x88\x92 15000 \xE2\x88\x92 36S \xE2\x89\xA5 0 and 3125X\xC2\xB2 \xE2\x89\xA5 8L\xC2\xB2K\n  L # cm, K #, S # mm\n  right side: X\xC2\xB2 \xE2\x89\xA5 8L\xC2\xB2K/3125, rounded up: #\n",
             &[length, factor, spacing, right],
-            35,
+            b'#',
             page,
             at,
         ),
@@ -56,7 +56,7 @@ pub fn rule2(
         return wording::fill(
             b"rule 2: 625000000000T\xC2\xB2 \xE2\x89\xA5 9S\xC2\xB2KP\n  S # mm, K #, P # mPa\n  right side: T\xC2\xB2 \xE2\x89\xA5 9S\xC2\xB2KP/625000000000, rounded up: #\n",
             &[spacing, factor, pressure, right],
-            35,
+            b'#',
             page,
             at,
         );
@@ -64,7 +64,7 @@ pub fn rule2(
     wording::fill(
         b"rule 2: 39062500000T\xC2\xB2 \xE2\x89\xA5 S\xC2\xB2KP\n  S # mm, K #, P # mPa\n  right side: T\xC2\xB2 \xE2\x89\xA5 S\xC2\xB2KP/39062500000, rounded up: #\n",
         &[spacing, factor, pressure, right],
-        35,
+        b'#',
         page,
         at,
     )
@@ -85,7 +85,7 @@ pub fn stress(
         return wording::fill(
             b"rule 3: R = 1000000M/ZDB, rounded up: #, with M # kNm, ZDB # cm\xC2\xB3\n",
             &[stress, moment, modulus],
-            35,
+            b'#',
             page,
             at,
         );
@@ -93,7 +93,7 @@ pub fn stress(
     wording::fill(
         b"rule 3: R = 1000000M/ZB, rounded up: #, with M # kNm, ZB # cm\xC2\xB3\n",
         &[stress, moment, modulus],
-        35,
+        b'#',
         page,
         at,
     )
@@ -107,7 +107,7 @@ pub fn first_long(never: bool, spacing: u64, right: u64, page: &mut [u8], at: us
         return wording::fill(
             b"  100000000T\xC2\xB2 \xE2\x89\xA5 1521S\xC2\xB2R\n  S # mm\n  right side: T\xC2\xB2 \xE2\x89\xA5 1521S\xC2\xB2R/100000000, above the square of the gauge's last\n",
             &[spacing],
-            35,
+            b'#',
             page,
             at,
         );
@@ -115,7 +115,7 @@ pub fn first_long(never: bool, spacing: u64, right: u64, page: &mut [u8], at: us
     wording::fill(
         b"  100000000T\xC2\xB2 \xE2\x89\xA5 1521S\xC2\xB2R\n  S # mm\n  right side: T\xC2\xB2 \xE2\x89\xA5 1521S\xC2\xB2R/100000000, rounded up: #\n",
         &[spacing, right],
-        35,
+        b'#',
         page,
         at,
     )
@@ -138,7 +138,7 @@ pub fn first_transverse(
         return wording::fill(
             b"  25T\xC2\xB2K2\xC2\xB2 \xE2\x89\xA5 1156S\xC2\xB2R\n  S # mm, K2 # of b1 # cm, b2 # cm: 1000(b1\xC2\xB2 + b2\xC2\xB2)/b1\xC2\xB2, rounded down, at most 26000\n  right side: T\xC2\xB2 \xE2\x89\xA5 1156S\xC2\xB2R/(25K2\xC2\xB2), above the square of the gauge's last\n",
             &[spacing, k2, b1, b2],
-            35,
+            b'#',
             page,
             at,
         );
@@ -146,7 +146,7 @@ pub fn first_transverse(
     wording::fill(
         b"  25T\xC2\xB2K2\xC2\xB2 \xE2\x89\xA5 1156S\xC2\xB2R\n  S # mm, K2 # of b1 # cm, b2 # cm: 1000(b1\xC2\xB2 + b2\xC2\xB2)/b1\xC2\xB2, rounded down, at most 26000\n  right side: T\xC2\xB2 \xE2\x89\xA5 1156S\xC2\xB2R/(25K2\xC2\xB2), rounded up: #\n",
         &[spacing, k2, b1, b2, right],
-        35,
+        b'#',
         page,
         at,
     )
@@ -187,7 +187,7 @@ pub fn second_long(
         return wording::fill(
             b"  second form, 6084KR being above 625000000000, with K #: at R of 210000 and above no T meets it\n",
             &[factor],
-            35,
+            b'#',
             page,
             at,
         );
@@ -195,7 +195,7 @@ pub fn second_long(
     wording::fill(
         b"  second form, 6084KR being above 625000000000: 10T\xC2\xB2(210000 \xE2\x88\x92 R) \xE2\x89\xA5 1681S\xC2\xB2K\n  K #, S # mm\n  right side: T\xC2\xB2 \xE2\x89\xA5 1681S\xC2\xB2K/(10(210000 \xE2\x88\x92 R)), rounded up: #\n",
         &[factor, spacing, right],
-        35,
+        b'#',
         page,
         at,
     )
@@ -219,7 +219,7 @@ pub fn second_transverse(
         return wording::fill(
             b"  second form, 1156KR being above 121000000000, with K #: at R of 210000 and above no T meets it\n",
             &[factor],
-            35,
+            b'#',
             page,
             at,
         );
@@ -227,7 +227,7 @@ pub fn second_transverse(
     wording::fill(
         b"  second form, 1156KR being above 121000000000: T\xC2\xB2K2\xC2\xB2(210000 \xE2\x88\x92 R) \xE2\x89\xA5 504100000S\xC2\xB2K\n  K #, S # mm, K2 # of b1 # cm, b2 # cm: 1000(b1\xC2\xB2 + b2\xC2\xB2)/b1\xC2\xB2, rounded down, at most 26000\n  right side: T\xC2\xB2 \xE2\x89\xA5 504100000S\xC2\xB2K/(K2\xC2\xB2(210000 \xE2\x88\x92 R)), rounded up: #\n",
         &[factor, spacing, k2, b1, b2, right],
-        35,
+        b'#',
         page,
         at,
     )

@@ -10,7 +10,7 @@ pub fn root(step: u64, short: u64, root: u64, first: u64, page: &mut [u8], at: u
     wording::fill(
         b"  root, rounded down: #\n  T = (# + #)/#, rounded up: #\n",
         &[root, root, short, step, first],
-        35,
+        b'#',
         page,
         at,
     )
@@ -24,7 +24,7 @@ pub fn tested(first: u64, least: u64, top: u64, page: &mut [u8], at: usize) -> u
         return wording::fill(
             b"  tested: #, the gauge's last, does not meet the rule\n",
             &[top],
-            35,
+            b'#',
             page,
             at,
         );
@@ -33,7 +33,7 @@ pub fn tested(first: u64, least: u64, top: u64, page: &mut [u8], at: usize) -> u
         return wording::fill(
             b"  tested: 1 meets the rule, and the gauge begins there\n",
             &[],
-            35,
+            b'#',
             page,
             at,
         );
@@ -42,7 +42,7 @@ pub fn tested(first: u64, least: u64, top: u64, page: &mut [u8], at: usize) -> u
         return wording::fill(
             b"  tested: # meets the rule, # does not\n",
             &[least, least - 1],
-            35,
+            b'#',
             page,
             at,
         );
@@ -50,7 +50,7 @@ pub fn tested(first: u64, least: u64, top: u64, page: &mut [u8], at: usize) -> u
     wording::fill(
         b"  tested: # does not meet the rule, # does\n",
         &[first, least],
-        35,
+        b'#',
         page,
         at,
     )
@@ -86,13 +86,13 @@ pub fn verdict(rule: u64, required: u64, unit: u8, page: &mut [u8], at: usize) -
     ensures { λ r. ⌜ Adds 1 (verdictLine rule required unit) (now (page .entry)) at r (now (page .exit)) ⌝ }
 {
     if rule == 0 {
-        return wording::fill(b"verdict: passes\n", &[], 35, page, at);
+        return wording::fill(b"verdict: passes\n", &[], b'#', page, at);
     }
     if required == 0 {
         return wording::fill(
             b"verdict: fails rule #, and nothing in the gauge will do\n",
             &[rule],
-            35,
+            b'#',
             page,
             at,
         );
@@ -110,5 +110,5 @@ pub fn verdict(rule: u64, required: u64, unit: u8, page: &mut [u8], at: usize) -
 pub fn refusal(number: u64, place: u64, page: &mut [u8], at: usize) -> usize
     ensures { λ r. ⌜ Adds 1 (refusedLine number place) (now (page .entry)) at r (now (page .exit)) ⌝ }
 {
-    wording::fill(b"refused # #\n", &[number, place], 35, page, at)
+    wording::fill(b"refused # #\n", &[number, place], b'#', page, at)
 }
