@@ -61,7 +61,7 @@ fn rule4(kind: u8, length: Span, factor: SteelFactor, spacing: Spacing) -> Shape
     let l = length.0 as u64;
     let l2 = l * l;
     let k = factor.0 as u64;
-    let s = spacing.0 as u64;
+    let s = spacing.0 as u32;
     if 6 <= kind {
         return gauge::squared(100, 38000, 8 * l2 * k, 3125);
     }

@@ -61,7 +61,7 @@ rootPart (Square step short n) root first = rootLine step short root first
 -- from the right side to what the member has: the root, the rounding, the last step tested, the least number and the margin
 unfoldable pub stepsOf : Shape → (top has unit : ℕ) → List (List ℕ)
 stepsOf d top has unit =
-    let first = firstIn d top in
+    let first = firstIn d in
     let least = numberOf (leastOf d top) in
     rootPart d (rootIn d) first ++ testedOf first least top ++ resultOf unit least has
 

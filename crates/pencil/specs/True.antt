@@ -1,18 +1,20 @@
--- What a trail says of a rule is so: its least number is the rule's own, that number meets the rule and one less does not, and where there is none the gauge's
--- last does not meet it. The shapes that it goes by say what the rules do, and its verdict is the check's.
+-- What a trail says of a rule is so: its least number is the rule's own, that number meets the rule and one less does not, where there is none the gauge's
+-- last does not meet it, and what the member has is met or fails as the rule says. The shapes that it goes by say what the rules do, and its verdict is the check's.
 -- Assumes nothing.
 use Prim.Native.Nat.{ℕ, suc, _+_, _≤_}
 use mathlib.Core.Bool.{Bool, true, false}
 use mathlib.Core.Path.{_≡_, refl, sym, ap, _∙_}
 use native.Mathlib.Omega.{arith}
 use native.Mathlib.Decide.{decLe}
+use lib.Dec.{leb}
+use borrow.Author.Tests.{le-leb, lt-leb}
 use Rattle.quantity.specs.Range.{thickness, modulus, shearArea}
 use Rattle.gauge.specs.declared.Shape.{Shape}
 use Rattle.gauge.specs.declared.Least.the-variants.{At}
 use Rattle.gauge.specs.Least.{leastIn, numberOf}
-use Rattle.gauge.specs.LeastLaws.{least-is, smaller-fails, none-passes, number-zero, number-least}
-use Rattle.gauge.specs.Shape.{leastOf}
-use Rattle.gauge.specs.ShapeLaws.{Says, least-said}
+use Rattle.gauge.specs.LeastLaws.{least-is, smaller-fails, larger-passes, none-passes, number-zero, number-least}
+use Rattle.gauge.specs.Shape.{meetsOf, leastOf}
+use Rattle.gauge.specs.ShapeLaws.{Says, least-said, monotone}
 use Rattle.gauge.specs.Worked.{firstIn}
 use Rattle.gauge.specs.WorkedLaws.{first-near}
 use Rattle.sheet.specs.declared.Header.{Header}
@@ -41,14 +43,25 @@ module _ (d : Shape) (top : ℕ) (test : ℕ → Bool) (says : Says d top test) 
   told-less k e l = smaller-fails test top (suc k) (number-least test top k (sym least-told ∙ e)) k l (omega arith)
 
   -- `x does not meet the rule, k does`: where the least number is not the one from the rounding, it is the next
-  pub told-next : (k : ℕ) → numberOf (leastOf d top) ≡ suc k → (suc k ≡ firstIn d top → ⊥) → firstIn d top ≡ k
+  pub told-next : (k : ℕ) → numberOf (leastOf d top) ≡ suc k → (suc k ≡ firstIn d → ⊥) → firstIn d ≡ k
   told-next k e n =
       let near = first-near d top (suc k) (least-said d top test says ∙ number-least test top k (sym least-told ∙ e)) in
-      go (decLe (firstIn d top) k) near
+      go (decLe (firstIn d) k) near
     where
-      go : Dec (firstIn d top ≤ k) → (firstIn d top ≤ suc k) × (suc k ≤ firstIn d top + 1) → firstIn d top ≡ k
+      go : Dec (firstIn d ≤ k) → (firstIn d ≤ suc k) × (suc k ≤ firstIn d + 1) → firstIn d ≡ k
       go (yes l) near = omega (arith, near .0, near .1)
       go (no l) near = absurd (n (omega (arith, near .0, near .1)))
+
+  -- `has x: met` or `has x: fails`: a scantling meets the rule exactly where it is no less than the least number
+  pub told-met : (k : ℕ) → numberOf (leastOf d top) ≡ suc k → (x : ℕ) → 1 ≤ x → x ≤ top → test x ≡ leb (suc k) x
+  told-met k e x l h = go (decLe (suc k) x)
+    where
+      at : leastIn test top ≡ At (suc k)
+      at = number-least test top k (sym least-told ∙ e)
+
+      go : Dec (suc k ≤ x) → test x ≡ leb (suc k) x
+      go (yes m) = sym (says x l h) ∙ larger-passes (meetsOf d) (monotone d) top (suc k) (least-said d top test says ∙ at) x m ∙ sym (le-leb (suc k) x m)
+      go (no m) = smaller-fails test top (suc k) at x l (omega arith) ∙ sym (lt-leb (suc k) x (omega arith))
 
   -- `the gauge's last does not meet the rule`: nor does any other
   pub told-none : numberOf (leastOf d top) ≡ 0 → (j : ℕ) → 1 ≤ j → j ≤ top → test j ≡ false

@@ -91,7 +91,7 @@ fn put_root(d: Shape, root: u64, first: u64, page: &mut [u8], at: usize) -> usiz
         Shape::Never => at,
         Shape::Floor(_) => at,
         Shape::Square { step, short, n: _ } => {
-            steps::root(step as u64, short, root, first, page, at)
+            steps::root(step as u64, short as u64, root, first, page, at)
         }
     }
 }

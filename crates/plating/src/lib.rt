@@ -53,7 +53,7 @@ fn square_over(a: u64, b: u64, c: u64) -> Shape
 }
 
 // X = 100T − short, X ≥ 0 and a·X² ≥ n.
-fn excess(short: u64, a: u64, n: u64) -> Shape
+fn excess(short: u32, a: u64, n: u64) -> Shape
     ensures { λ d. ⌜ d ≡ excessShape short a n ⌝ }
 {
     gauge::squared(100, short, n, a)
@@ -72,7 +72,7 @@ pub fn is_long(kind: u8) -> bool
 }
 
 // c of rule 1.
-fn allowance(kind: u8) -> u64
+fn allowance(kind: u8) -> u32
     ensures { λ r. ⌜ r ≡ allowance kind ⌝ }
 {
     match kind {
@@ -88,7 +88,7 @@ fn rule1(kind: u8, length: Span, factor: SteelFactor, spacing: Spacing) -> Shape
 {
     let l = length.0 as u64;
     let k = factor.0 as u64;
-    let s = spacing.0 as u64;
+    let s = spacing.0 as u32;
     let n = l * l * k;
     let short = allowance(kind) + 36 * s;
     if is_bottom(kind) {

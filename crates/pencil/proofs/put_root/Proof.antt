@@ -14,6 +14,7 @@ put-root-spec =
     (λ c. search needs)
     (λ c. search needs)
     (λ c. search needs)
+    (λ c. search needs)
     (λ c κs. search needs)
     (λ c. rw (c .enum-told .given .1) (within _ (omega arith) none))
     (λ c. rw (c .enum-told2 .given .1) (within _ (omega arith) none))
