@@ -1,8 +1,8 @@
 -- What is read of an input says all; a sheet that is not turned away has the bytes that its header says; and a trail is within its page.
 -- Assumes nothing.
-use Prim.Native.Nat.{ℕ, _+_, _-_, _≤_}
+use Prim.Native.Nat.{ℕ, _-_, _≤_}
 use mathlib.Core.Path.{_≡_, sym, ap, subst, _∙_}
-use mathlib.Core.List.{List, _++_}
+use mathlib.Core.List.{List}
 use native.Mathlib.Omega.{arith}
 use lib.ListN.{length, take, length-append, replicate}
 use lib.Seq.{take-take}

@@ -1,9 +1,8 @@
 -- The trails of the document's two members, line by line.
 -- Assumes nothing.
-use Prim.Native.Nat.{ℕ}
 use mathlib.Core.Path.{_≡_, refl}
-use mathlib.Core.List.{List, _++_}
-use Rattle.root.specs.Root.{rootOf, rootIn, corrected}
+use mathlib.Core.List.{_++_}
+use Rattle.root.specs.Root.{rootOf, rootIn}
 use Rattle.gauge.specs.Ceil.{ceilOf}
 use Rattle.gauge.specs.Least.{firstFrom, leastIn}
 use Rattle.loads.specs.Loads.{sea, bottomPressure, innerPressure, deepPressure, lineLoad}

@@ -2,8 +2,8 @@
 use Prim.Native.Nat.{ℕ}
 use mathlib.Core.Bool.{Bool, cond}
 use mathlib.Core.List.{List, [], _∷_}
-use lib.Dec.{leb, ltb, eqb}
-use Rattle.pencil.specs.Page.{line, lineIn}
+use lib.Dec.{ltb, eqb}
+use Rattle.pencil.specs.Page.{line}
 
 -- which plate it is
 unfoldable pub plateHeading : ℕ → ℕ → List (List ℕ)

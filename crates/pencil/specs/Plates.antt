@@ -2,8 +2,8 @@
 use Prim.Native.Nat.{ℕ}
 use mathlib.Core.Bool.{Bool, cond}
 use mathlib.Core.List.{List, [], _∷_}
-use lib.Dec.{leb, ltb, eqb}
-use Rattle.pencil.specs.Page.{line, lineIn}
+use lib.Dec.{eqb}
+use Rattle.pencil.specs.Page.{line}
 
 -- rule 1: L, K, S and the right side
 unfoldable pub rule1Of : ℕ → ℕ → ℕ → ℕ → ℕ → List (List ℕ)

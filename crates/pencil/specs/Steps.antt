@@ -1,8 +1,8 @@
 -- From the right side to the verdict: the root, the rounding, the last step tested, the least number beside what the member has.
 use Prim.Native.Nat.{ℕ, _-_}
-use mathlib.Core.Bool.{Bool, cond}
+use mathlib.Core.Bool.{cond}
 use mathlib.Core.List.{List, [], _∷_}
-use lib.Dec.{leb, ltb, eqb}
+use lib.Dec.{leb, eqb}
 use Rattle.pencil.specs.Page.{line, lineIn}
 
 -- the root, and the first number that may meet the rule

@@ -2,7 +2,7 @@
 use Prim.Native.Nat.{ℕ, _-_}
 use mathlib.Core.Path.{_≡_}
 use mathlib.Core.Bool.{Bool, true, false, _&&_, cond}
-use mathlib.Core.List.{List, [], _∷_, _++_}
+use mathlib.Core.List.{List, [], _++_}
 use lib.ListN.{length, replicate}
 use lib.Dec.{leb, ltb, eqb}
 use Rattle.quantity.specs.Range.{thickness, modulus, shearArea}
@@ -28,7 +28,6 @@ use Rattle.plating.specs.Work.{Work as PlateWork, workOf as plateWork}
 use Rattle.framing.specs.Work.{Work as MemberWork, workOf as memberWork}
 use Rattle.wording.specs.Writes.{textOf}
 use Rattle.pencil.specs.declared.Trail.{Trail}
-use Rattle.pencil.specs.Page.{paragraph}
 use Rattle.pencil.specs.Head.{headingOf, seaOf, innerOf, deepOf}
 use Rattle.pencil.specs.Plates.{rule1Of, rule2Of, stressOf, firstFormOf, secondFormOf}
 use Rattle.pencil.specs.Members.{rule4Of, rule5Of, rule6Of}

@@ -1,17 +1,16 @@
 -- The page has room for every trail, so that none is cut.
 -- Assumes nothing.
 use Prim.Native.Nat.{ℕ, zero, suc, _+_, _-_, _≤_}
-use mathlib.Core.Path.{_≡_, refl, sym, ap, _∙_}
+use mathlib.Core.Path.{_≡_, sym, ap, _∙_}
 use mathlib.Core.List.{List, _++_}
 use native.Mathlib.Omega.{arith}
 use native.Mathlib.Nat.{sub-zero}
 use lib.ListN.{length, drop, replicate, length-replicate}
 use Rattle.decimal.specs.LaidLaws.{laid-front}
-use Rattle.wording.specs.Writes.{Spot, Writes, textOf}
-use Rattle.wording.specs.WritesLaws.{spot, all-laid}
+use Rattle.wording.specs.Writes.{Spot}
+use Rattle.wording.specs.WritesLaws.{all-laid}
 use Rattle.sheet.specs.declared.Header.{Header}
 use Rattle.sheet.specs.declared.Record.{Record}
-use Rattle.pencil.specs.declared.Trail.{Trail}
 use Rattle.pencil.specs.Page.{Adds}
 use Rattle.pencil.specs.Trail.{explained, trailText, room, Trails}
 

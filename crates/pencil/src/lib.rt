@@ -28,7 +28,6 @@ ghost use mathlib.Core.Path.{_≡_};
 ghost use mathlib.Core.Bool.{_&&_};
 ghost use lib.Dec.{ltb};
 ghost use Rattle.loads.specs.Sources.{toldLoad};
-ghost use Rattle.sheet.specs.Record.{ofPlate, ofMember};
 ghost use Rattle.plating.specs.Work.{toldWork as toldPlate};
 ghost use Rattle.framing.specs.Work.{toldWork as toldMember};
 ghost use Rattle.pencil.specs.Page.{Adds};

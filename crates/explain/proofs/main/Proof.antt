@@ -1,8 +1,7 @@
 -- `explain::main` is safe and ends: a sheet that is not turned away has the bytes that its header says.
 -- Assumes nothing.
 use borrow.Author.Needs.{needs}
-use Prim.Native.Nat.{ℕ, _≤_}
-use mathlib.Core.Path.{_≡_, sym, subst, _∙_}
+use mathlib.Core.Path.{sym, subst, _∙_}
 use lib.Seq.{length-take-le}
 use Rattle.sheet.specs.declared.HeaderRead.{HeaderRead}
 use Rattle.explain.specs.Explain.{Sized}

@@ -1,8 +1,6 @@
 -- `pencil::trail_of` meets its contract.
 -- Assumes nothing.
 use borrow.Author.Needs.{needs}
-use Prim.Native.Nat.{ℕ}
-use mathlib.Core.Path.{_≡_, ap, _∙_}
 use Rattle.pencil.specs.TrailLaws.{on-blank}
 use Rattle.pencil.proofs.trail_of.Statement.{statement}
 use Rattle.pencil.proofs.trail_of.Tie as tie

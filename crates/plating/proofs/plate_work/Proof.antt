@@ -4,7 +4,6 @@ use Prim.Native.Nat.{ℕ, _≤_}
 use mathlib.Core.Bool.{Bool}
 use mathlib.Core.Path.{_≡_, ap, _∙_}
 use borrow.Author.Needs.{needs}
-use native.Mathlib.Omega.{arith}
 use Rattle.gauge.specs.declared.Shape.{Shape}
 use Rattle.loads.specs.Sources.{Named}
 use Rattle.verdict.specs.declared.Verdict.{Verdict}
