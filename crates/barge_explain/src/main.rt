@@ -1,0 +1,143 @@
+// The surveyor's program: the trail of each member of the sheet on standard input, an empty line between two of them, or of the one whose id is the first
+// word. Of a sheet that is turned away it prints the refusal, and where no member has the id nothing.
+use decimal::Number;
+use libc::STDIN_FILENO;
+use libc::STDOUT_FILENO;
+use report::Told;
+use sheet::Header;
+use sheet::HeaderRead;
+use sheet::Record;
+use sheet::RecordRead;
+use sheet::Refusal;
+ghost use mathlib.Core.Path.{_≡_};
+ghost use mathlib.Core.List.{List};
+ghost use mathlib.Core.Bool.{_||_};
+ghost use Prim.Native.Nat.{ℕ, _+_, _*_, _≤_};
+ghost use lib.ListN.{length, take};
+ghost use lib.Dec.{eqb};
+ghost use Rattle.sheet.specs.Refusals.{toldHeader, toldRecord};
+ghost use Rattle.checker.specs.Check.{recordOf, sheetSize};
+ghost use Rattle.checker.specs.Unjudged.{soundHeader};
+ghost use Rattle.checker.specs.Longer.{enough};
+ghost use Rattle.barge_explain.specs.Explain.{Sized};
+
+// A byte more than the longest sheet has, so that a longer input is turned away as the whole of it would be.
+const LONGEST: usize = 6421;
+
+// Where the word stands.
+const ID: usize = 1;
+
+// The header of an input, from the bytes that were read of it, or why it is turned away.
+fn header_of(buffer: &[u8], got: usize) -> HeaderRead
+    requires { ⌜ (enough ≤ length (now buffer)) × (got ≤ length (now buffer)) ⌝ }
+    ensures { λ r. ⌜ ((input : List ℕ) → take got (now (buffer .entry)) ≡ take (length (now (buffer .entry))) input → toldHeader r ≡ soundHeader input) × Sized r got ⌝ }
+{
+    checker::sound_header(&buffer[..got])
+}
+
+// Record i of a sheet's records.
+fn record_at(records: &[u8], i: u16) -> RecordRead
+    requires { ⌜ 16 * i + 16 ≤ length (now records) ⌝ }
+    ensures { λ r. ⌜ toldRecord r ≡ recordOf (now (records .entry)) i ⌝ }
+{
+    let from = 16 * (i as usize);
+    let to = from + 16;
+    record::read_record_as(&records[from..to], i)
+}
+
+// Every member where no id is asked for, and else the one that has it.
+fn is_wanted(asked: u32, id: u16) -> bool
+    ensures { λ r. ⌜ r ≡ (eqb asked 0 || eqb asked id) ⌝ }
+{
+    asked == 0 || asked == id as u32
+}
+
+fn print_trail(h: Header, r: Record) {
+    let trail = pencil::trail_of(h, r);
+    let len = trail.len;
+    let bytes = trail.bytes;
+    io::write_all(STDOUT_FILENO, &bytes[..len]);
+}
+
+// Record i, if it is wanted; whether anything has been printed.
+fn print_record(h: Header, records: &[u8], i: u16, asked: u32, begun: bool) -> bool
+    requires { ⌜ 16 * i + 16 ≤ length (now records) ⌝ }
+{
+    let read = record_at(records, i);
+    match read {
+        RecordRead::Refused(_) => begun,
+        RecordRead::Good(r) => {
+            if !is_wanted(asked, r.id) {
+                return begun;
+            }
+            if begun {
+                io::write_all(STDOUT_FILENO, b"\n");
+            }
+            print_trail(h, r);
+            true
+        }
+    }
+}
+
+fn print_trails(h: Header, records: &[u8], asked: u32)
+    requires { ⌜ 16 * h .count ≤ length (now records) ⌝ }
+{
+    let n = h.count;
+    let mut begun = false;
+    let mut i: u16 = 0;
+    while i < n {
+        begun = print_record(h, records, i, asked, begun);
+        i += 1;
+    }
+}
+
+fn print_refusal(r: Refusal) {
+    let mut text = [0u8; 22];
+    let told = report::write_refusal(r, &mut text);
+    match told {
+        Told::Length(len) => {
+            io::write_all(STDOUT_FILENO, &text[..len]);
+        }
+        Told::Refused(_) => {}
+    }
+}
+
+// The id that is asked for, 0 where there is no word; a word that is no number asks for an id that no member has.
+fn asked_id() -> u32 {
+    if os::arg_count() <= ID {
+        return 0;
+    }
+    let mut space = io::buffer();
+    let end = os::arg(ID, &mut space);
+    if os::errno() != 0 {
+        return u32::MAX;
+    }
+    let n = decimal::read_number(&space[..end]);
+    match n {
+        Number::Value(v) => {
+            if v == 0 {
+                return u32::MAX;
+            }
+            v
+        }
+        Number::None => u32::MAX,
+    }
+}
+
+// A sheet that is not turned away.
+fn explain(h: Header, sheet: &[u8])
+    requires { ⌜ sheetSize h ≡ length (now sheet) ⌝ }
+{
+    let size = h.size();
+    print_trails(h, &sheet[size..], asked_id());
+}
+
+fn main() {
+    let mut sheet = [0u8; LONGEST];
+    let got = io::read_full(STDIN_FILENO, &mut sheet);
+    let read = header_of(&sheet, got);
+    match read {
+        HeaderRead::Refused(r) => print_refusal(r),
+        HeaderRead::Good(h) => explain(h, &sheet[..got]),
+    }
+}

@@ -1,0 +1,24 @@
+-- `barge_text::make_sheet` is safe and ends: the sheet is in the output.
+-- Assumes nothing.
+use borrow.Author.Needs.{needs}
+use lib.ListN.{replicate}
+use Rattle.barge_text.specs.ConvertLaws.{made-inside}
+use Rattle.barge_text.proofs.make_sheet.Statement.{statement}
+use Rattle.barge_text.proofs.make_sheet.Tie as tie
+
+deliver-requires : tie.Need-deliver-requires
+deliver-requires c κs =
+    let r = c .before .before in
+    made-inside _ (replicate 6420 0) (r .read-sheet .result) (r .read-sheet .last .1 .0) (r .read-sheet .kept .1 .0) (r .read-sheet .ensures)
+
+pub make-sheet-spec : {M : Type 1} → statement M
+make-sheet-spec =
+    tie.close
+    (tie.spec
+    (λ c. search needs)
+    (λ c κs. search needs)
+    (λ c. search needs)
+    deliver-requires
+    (λ c κs. search needs)
+    (λ c κs. search needs)
+    (λ c. search needs))

@@ -1,0 +1,279 @@
+// The drawing office's converter. Its word says what standard input is turned into: `sheet` a text into the sheet that it is, `csv` a sheet into its text,
+// `check` a text into what `barge` prints of that sheet. A refusal of the first two goes to standard error, with nothing on standard output, and of a text
+// that is turned away by a line the line goes there too. So does whatever else is wrong.
+mod fill;
+mod say;
+mod show;
+
+use csv::Converted;
+use libc::STDIN_FILENO;
+use libc::STDOUT_FILENO;
+use report::Page;
+use report::Told;
+use sheet::Refusal;
+ghost use mathlib.Core.Path.{_≡_};
+ghost use mathlib.Core.List.{List};
+ghost use Prim.Native.Nat.{ℕ, _≤_};
+ghost use lib.ListN.{length, take};
+ghost use Rattle.sheet.specs.Refusals.{told};
+ghost use Rattle.checker.specs.Longer.{enough};
+ghost use Rattle.report.specs.Pieces.{refusalText};
+ghost use Rattle.csv.specs.Read.{sheetFrom, lengthOf, toldConverted, Converts};
+ghost use Rattle.sheet.specs.Versions.{longestSheet};
+ghost use Rattle.csv.specs.Write.{textFrom};
+ghost use Rattle.barge_text.specs.Convert.{Loaded, Inside, isCount, lineIn, printedBy, Shows, Replies};
+
+// Where the word stands.
+const COMMAND: usize = 1;
+
+// A longer text is no sheet's, and is not looked at. One byte more is read, so that it is noticed.
+const LONGEST: usize = 65536;
+
+const TEXT_READ: usize = 65537;
+
+// A byte more than the longest sheet has, so that a longer file is turned away as the whole of it would be.
+const SHEET_READ: usize = 6421;
+
+// Room for any sheet, any sheet's text and any page.
+const SHEET: usize = 6420;
+
+const TEXT: usize = 52531;
+
+const PAGE: usize = 6408;
+
+enum Task {
+    Sheet,
+    Csv,
+    Check,
+    None,
+}
+
+// How many bytes were read, or that it could not be done.
+enum Read {
+    Got(usize),
+    Failed,
+}
+
+// What is printed of a text, and the line that it is turned away by, 0 where there is none.
+struct Reply {
+    page: Page,
+    line: u32,
+}
+
+// Whether nothing comes any more: a read that fails looks like the end to `read_full`.
+fn ended() -> bool {
+    let mut one = [0u8; 1];
+    libc::read(STDIN_FILENO, &mut one) == 0
+}
+
+// As much of standard input as the space holds.
+fn load(space: &mut [u8]) -> Read
+    ensures { λ r. ⌜ Loaded r (now (space .exit)) ⌝ }
+{
+    let got = io::read_full(STDIN_FILENO, space);
+    if got < space.len() && !ended() {
+        say::failed(b"cannot read ", b"standard input");
+        return Read::Failed;
+    }
+    Read::Got(got)
+}
+
+fn print(bytes: &[u8]) {
+    if !io::write_all(STDOUT_FILENO, bytes) {
+        say::failed(b"cannot write ", b"standard output");
+    }
+}
+
+// The line that a refusal names, which 14 and 15 do; else 0.
+fn line_of(r: Refusal) -> u32
+    ensures { λ n. ⌜ n ≡ lineIn (told r) ⌝ }
+{
+    let number = r.number();
+    if number == 14 {
+        return r.place();
+    }
+    if number == 15 {
+        return r.place();
+    }
+    0
+}
+
+// The same of what was converted.
+fn line_at_fault(c: Converted) -> u32
+    ensures { λ n. ⌜ n ≡ lineIn (toldConverted c) ⌝ }
+{
+    match c {
+        Converted::Length(_) => 0,
+        Converted::Refused(r) => line_of(r),
+    }
+}
+
+fn refusal_page(r: Refusal) -> Page
+    ensures { λ p. ⌜ Shows (refusalText r) p ⌝ }
+{
+    let mut bytes = [0u8; PAGE];
+    let told = report::write_refusal(r, &mut bytes);
+    match told {
+        Told::Length(len) => Page { bytes, len },
+        Told::Refused(_) => Page { bytes, len: 0 },
+    }
+}
+
+// What is printed of what a text was converted to.
+fn page_by(c: Converted, sheet: &[u8]) -> Page
+    requires { ⌜ Inside c (length (now sheet)) ⌝ }
+    ensures { λ p. ⌜ Shows (printedBy c (now (sheet .entry))) p ⌝ }
+{
+    match c {
+        Converted::Length(n) => report::page_of(&sheet[..n]),
+        Converted::Refused(r) => refusal_page(r),
+    }
+}
+
+fn answer(text: &[u8]) -> Reply
+    ensures { λ r. ⌜ Replies (now (text .entry)) r ⌝ }
+{
+    let mut sheet = [0u8; SHEET];
+    let c = csv::read_sheet(text, &mut sheet);
+    let page = page_by(c, &sheet);
+    let line = line_at_fault(c);
+    Reply { page, line }
+}
+
+// The text of a sheet, from the bytes that were read of it: all, or as many as the buffer holds.
+fn text_of(buffer: &[u8], got: usize, out: &mut [u8]) -> Converted
+    requires { ⌜ (enough ≤ length (now buffer)) × (got ≤ length (now buffer)) ⌝ }
+    ensures { λ r. ⌜ ((input : List ℕ) → take got (now (buffer .entry)) ≡ take (length (now (buffer .entry))) input → Converts (textFrom input (length (now (out .entry)))) (now (out .entry)) r (now (out .exit))) ⌝ }
+{
+    csv::write_text(&buffer[..got], out)
+}
+
+// What was made of the input goes to standard output, or the refusal to standard error.
+fn deliver(c: Converted, made: &[u8])
+    requires { ⌜ Inside c (length (now made)) ⌝ }
+{
+    match c {
+        Converted::Length(n) => print(&made[..n]),
+        Converted::Refused(r) => say::refusal(r),
+    }
+}
+
+fn make_sheet(text: &[u8]) {
+    let mut sheet = [0u8; SHEET];
+    let c = csv::read_sheet(text, &mut sheet);
+    deliver(c, &sheet);
+    show::line(text, line_at_fault(c));
+}
+
+fn make_text(buffer: &[u8], got: usize)
+    requires { ⌜ (enough ≤ length (now buffer)) × (got ≤ length (now buffer)) ⌝ }
+{
+    let mut text = [0u8; TEXT];
+    let c = text_of(buffer, got, &mut text);
+    deliver(c, &text);
+}
+
+fn check(text: &[u8]) {
+    let r = answer(text);
+    let page = r.page;
+    let len = page.len;
+    let bytes = page.bytes;
+    print(&bytes[..len]);
+    show::line(text, r.line);
+}
+
+fn take(text: &[u8], checks: bool) {
+    if checks {
+        check(text);
+    } else {
+        make_sheet(text);
+    }
+}
+
+fn is_miscount(c: Converted) -> bool
+    ensures { λ r. ⌜ r ≡ isCount (toldConverted c) ⌝ }
+{
+    match c {
+        Converted::Length(_) => false,
+        Converted::Refused(r) => r.number() == 15,
+    }
+}
+
+// Whether a text is turned away by the count of a line's fields, as one that a spreadsheet program has filled up is.
+fn miscounted(text: &[u8]) -> bool
+    ensures { λ r. ⌜ r ≡ isCount (lengthOf (sheetFrom (now (text .entry)) longestSheet)) ⌝ }
+{
+    let mut sheet = [0u8; SHEET];
+    let c = csv::read_sheet(text, &mut sheet);
+    is_miscount(c)
+}
+
+// A text without its filling, which is put into a space as long as it.
+fn take_unfilled(text: &[u8], space: &mut [u8], checks: bool)
+    requires { ⌜ length (now space) ≡ length (now text) ⌝ }
+{
+    let at = fill::unfill(text, space);
+    take(&space[at..], checks);
+}
+
+fn take_filled(text: &[u8], checks: bool)
+    requires { ⌜ length (now text) ≤ 65536 ⌝ }
+{
+    let mut space = [0u8; LONGEST];
+    let len = text.len();
+    take_unfilled(text, &mut space[..len], checks);
+}
+
+fn from_text(text: &[u8], checks: bool) {
+    if LONGEST < text.len() {
+        say::text(b"the text has more than 65536 bytes, and no sheet's text has so many");
+    } else if miscounted(text) {
+        take_filled(text, checks);
+    } else {
+        take(text, checks);
+    }
+}
+
+fn take_text(checks: bool) {
+    let mut space = [0u8; TEXT_READ];
+    let read = load(&mut space);
+    match read {
+        Read::Failed => {}
+        Read::Got(got) => from_text(&space[..got], checks),
+    }
+}
+
+fn take_sheet() {
+    let mut space = [0u8; SHEET_READ];
+    let read = load(&mut space);
+    match read {
+        Read::Failed => {}
+        Read::Got(got) => make_text(&space, got),
+    }
+}
+
+// By its first two letters.
+fn command() -> Task {
+    let mut word = [0u8; 8];
+    os::arg(COMMAND, &mut word);
+    if word[0] == b's' {
+        return Task::Sheet;
+    }
+    if word[0] != b'c' {
+        return Task::None;
+    }
+    if word[1] == b's' {
+        return Task::Csv;
+    }
+    Task::Check
+}
+
+fn main() {
+    let task = command();
+    match task {
+        Task::Sheet => take_text(false),
+        Task::Csv => take_sheet(),
+        Task::Check => take_text(true),
+        Task::None => say::text(b"the command is sheet, csv or check"),
+    }
+}
