@@ -1,4 +1,6 @@
 // A whole sheet and a lent output: why the sheet is turned away, or a verdict for each of its records, each in its own four bytes of the output.
+use layout::powers::P19;
+use layout::powers::P22;
 use quantity::Modulus;
 use sheet::Header;
 use sheet::HeaderRead;
@@ -50,10 +52,6 @@ const VERDICT: usize = 4;
 
 // The verdicts of the longest sheet, 400 of them.
 const DRAFT: usize = 1600;
-
-const P19: u32 = 524288;
-
-const P22: u32 = 4194304;
 
 // The most that a verdict with this rule can require: nothing on a pass, else the highest value of any gauge.
 fn most_required(rule: u8) -> u32

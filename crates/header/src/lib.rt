@@ -1,5 +1,15 @@
 // The sheet's header: 96 bits in twelve bytes that every version has, and after them the bits that a version has of its own.
 use layout::Short;
+use layout::powers::P3;
+use layout::powers::P7;
+use layout::powers::P12;
+use layout::powers::P20;
+use layout::powers::P27;
+use layout::powers::P28;
+use layout::powers::P36;
+use layout::powers::P37;
+use layout::powers::P46;
+use layout::powers::P60;
 use quantity::Span;
 use sheet::Header;
 use sheet::HeaderRead;
@@ -27,26 +37,6 @@ const FIRST: usize = 12;
 
 // ZB and ZDB are from 1 to this.
 const MODULUS_HIGH: u32 = 100000000;
-
-const P3: u64 = 8;
-
-const P7: u64 = 128;
-
-const P12: u64 = 4096;
-
-const P20: u64 = 1048576;
-
-const P27: u64 = 134217728;
-
-const P28: u64 = 268435456;
-
-const P36: u64 = 68719476736;
-
-const P37: u64 = 137438953472;
-
-const P46: u64 = 70368744177664;
-
-const P60: u64 = 1152921504606846976;
 
 fn bit(b: bool) -> u64
     ensures { λ r. ⌜ r ≡ cond b 1 0 ⌝ }

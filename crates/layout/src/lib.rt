@@ -1,5 +1,14 @@
 // Numbers of 32, 64, 96 and 128 bits in bytes, most significant byte first: read from the front of a slice and written there. Too short a
 // slice is read as 0 and stays as it is, so that nobody has to look at its length first.
+pub mod powers;
+
+use crate::powers::P8;
+use crate::powers::P16;
+use crate::powers::P24;
+use crate::powers::P32;
+use crate::powers::P40;
+use crate::powers::P48;
+use crate::powers::P56;
 ghost use mathlib.Core.Path.{_≡_};
 ghost use mathlib.Core.Bool.{cond};
 ghost use Rattle.quantity.specs.Range.{within, from};
@@ -8,20 +17,6 @@ ghost use lib.ListN.{length, take, drop};
 ghost use mathlib.Core.List.{_++_, reverse};
 ghost use Rattle.layout.specs.Layout.{pack, unpack, bytes, Fit};
 ghost use Rattle.layout.specs.Bytes.{shortOf, longOf, readOf, writtenOf};
-
-const P8: u64 = 256;
-
-const P16: u64 = 65536;
-
-const P24: u64 = 16777216;
-
-const P32: u64 = 4294967296;
-
-const P40: u64 = 1099511627776;
-
-const P48: u64 = 281474976710656;
-
-const P56: u64 = 72057594037927936;
 
 // A number of 96 bits: hi · 2³² + lo.
 pub struct Short {

@@ -10,12 +10,12 @@ use Rattle.record.proofs.fault.Tie as tie
 returns : tie.Need-returns
 returns c =
     let a = c .before .before .before .before .args in
-    c .plate-fault .ensures ∙ sym (ap (λ (b : Body). bodyFault (a .r .kind) (a .r .id) b (a .spare)) (c .before .before .body .given .1))
+    c .fault .ensures ∙ sym (ap (λ (b : Body). bodyFault (a .r .kind) (a .r .id) b (a .spare)) (c .before .before .body .given .1))
 
 returns-2 : tie.Need-returns-2
 returns-2 c =
     let a = c .before .before .before .before .args in
-    c .member-fault .ensures ∙ sym (ap (λ (b : Body). bodyFault (a .r .kind) (a .r .id) b (a .spare)) (c .before .before .body2 .given .1))
+    c .fault2 .ensures ∙ sym (ap (λ (b : Body). bodyFault (a .r .kind) (a .r .id) b (a .spare)) (c .before .before .body2 .given .1))
 
 pub fault-spec : {M : Type 1} → statement M
 fault-spec =

@@ -13,13 +13,13 @@ use Rattle.record.proofs.record_of.Tie as tie
 returns : tie.Need-returns
 returns c =
     let n = c .before .before .args .n in
-    ap (λ (p : Plate). plateWith (n .hi) p) (c .plate-of .ensures)
+    ap (λ (p : Plate). plateWith (n .hi) p) (c .of-number .ensures)
     ∙ sym (record-law (n .hi) (n .lo) (omega arith) ∙ simp (lt-ltb _ _ (c .before .if1 .taken)))
 
 returns-2 : tie.Need-returns-2
 returns-2 c =
     let n = c .before .before .args .n in
-    ap (λ (m : Member). memberWith (n .hi) m) (c .member-of .ensures)
+    ap (λ (m : Member). memberWith (n .hi) m) (c .of-number2 .ensures)
     ∙ sym (record-law (n .hi) (n .lo) (omega arith) ∙ simp (le-ltb _ _ (c .before .if1 .left)))
 
 pub record-of-spec : {M : Type 1} → statement M
