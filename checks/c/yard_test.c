@@ -201,9 +201,9 @@ static void headers_written_in_2(void) {
   write_header("version 2 into 15 bytes", vessel_2, 15);
   write_header("version 2 into 12 bytes", vessel_2, 12);
   write_header("version 2 into 11 bytes", vessel_2, 11);
-  write_header("version 3 into 11 bytes", header_with(vessel_2, 0, 3), 11);
-  write_header("version 3 into 15 bytes", damaged, 15);
-  write_header("version 3 into 20 bytes", damaged, 20);
+  write_header("version 15 into 11 bytes", header_with(vessel_2, 0, 15), 11);
+  write_header("version 15 into 15 bytes", damaged, 15);
+  write_header("version 15 into 20 bytes", damaged, 20);
   write_header("version 258", header_with(vessel_2, 0, 258), YARD_HEADER_2_BYTES);
   write_header("version 2 with L 3999", header_with(vessel_2, 1, 3999), YARD_HEADER_2_BYTES);
   write_header("ZDB 0 into 15 bytes", header_with(vessel_2, 8, 0), 15);
@@ -245,10 +245,10 @@ static void headers_read_in_2(void) {
   sheet[11] |= 4;
   read_header("the first of three spare bits, and ZDB 0", YARD_HEADER_2_BYTES);
   read_header("the same in 19 bytes", 19);
-  sheet[0] = 0x37;
-  read_header("the same as version 3", YARD_HEADER_2_BYTES);
-  read_header("the same as version 3 in 15 bytes", 15);
-  read_header("the same as version 3 in 11 bytes", 11);
+  sheet[0] = 0xf7;
+  read_header("the same as version 15", YARD_HEADER_2_BYTES);
+  read_header("the same as version 15 in 15 bytes", 15);
+  read_header("the same as version 15 in 11 bytes", 11);
 }
 
 static void records_written(void) {
@@ -353,9 +353,9 @@ static void sheets_in_2(void) {
   check("version 2 with no record there", YARD_HEADER_2_BYTES, 8);
   check("version 2 with 19 bytes", 19, 0);
   check("version 2 with 12 bytes", 12, 0);
-  sheet[0] = 0x37;
-  check("version 3 with 12 bytes", 12, 0);
-  check("version 3 with 52 bytes", 52, 8);
+  sheet[0] = 0xf7;
+  check("version 15 with 12 bytes", 12, 0);
+  check("version 15 with 52 bytes", 52, 8);
   bottoms(header_with(vessel_2, 8, 100000));
   check("two bottoms with a smaller ZDB", 52, 8);
   sheet[18] = 1;
@@ -566,9 +566,9 @@ static void refused_sheets(void) {
   length = header_bytes(hull[0] == 1 ? vessel_2 : vessel) + 3 * YARD_RECORD_BYTES;
   both_refuse("a sheet as long as the other version's", ROOM);
   damage("version 0", 0, 0x07);
-  damage("version 3", 0, 0x37);
+  damage("version 15", 0, 0xf7);
   length = 15;
-  both_refuse("version 3 in 15 bytes", ROOM);
+  both_refuse("version 15 in 15 bytes", ROOM);
   damage("a spare bit of the header", 11, 0x19);
   damage("kind 15 in record 1", (int)long_with(1), 0xF0);
   damage("a spare bit of record 2", (int)long_with(3) - 1, 1);
@@ -809,12 +809,12 @@ static void counts(void) {
   read_text("12 numbers for a member", HEADER("1") "\n5,12,0,500,300,420,100,100,90,50,560,168\n");
   read_text("14 numbers for a member", HEADER("1") "\n" MEMBER ",0\n");
   read_text("version 0 in a text", "0,x,y\n");
-  read_text("version 3 in a text", "3\n");
+  read_text("version 15 in a text", "15\n");
   read_text("version 15 in a text", "15,\"a\"\"\",b,1,1,1,1,1,1,1,1,1,1,1\n");
   read_text("version 16 in a text", "16\n");
-  read_text("version 3 and a record of no kind", "3\n9\n");
-  read_text("version 3 and a plate of two numbers", "3\n2,7\n");
-  read_text("version 3 and a number too wide", "3\n2,1024,1000,0,500,600,0,0,0,0,0\n");
+  read_text("version 15 and a record of no kind", "15\n9\n");
+  read_text("version 15 and a plate of two numbers", "15\n2,7\n");
+  read_text("version 15 and a number too wide", "15\n2,1024,1000,0,500,600,0,0,0,0,0\n");
   read_text("kind 0 in a text", HEADER("1") "\n0\n");
   read_text("kind 9 in a text", HEADER("1") "\n9,9999999999,x\n");
   read_text("kind 15 in a text", HEADER("1") "\n15,,,,,,,,,,,,,,,\n");
@@ -872,8 +872,8 @@ static void texts_written(void) {
   example();
   sheet[11] |= 1;
   write_text("text of a spare bit", 44, TEXT);
-  sheet[0] = 0x37;
-  write_text("text of version 3", 44, TEXT);
+  sheet[0] = 0xf7;
+  write_text("text of version 15", 44, TEXT);
   bottoms(vessel_2);
   write_text("two bottoms as text", 52, TEXT);
   write_text("two bottoms as text, into no more room", 52, 107);

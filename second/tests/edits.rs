@@ -211,7 +211,7 @@ fn number_1_when_the_stated_length_is_under_the_header() {
             }
         }
         // Of a version that is not there, 2 from twelve bytes on.
-        let mut lent = lend(&sheet(&with(&vessel_v2(), &[("version", 3)]), &[]), 16);
+        let mut lent = lend(&sheet(&with(&vessel_v2(), &[("version", 15)]), &[]), 16);
         for length in 0..20 {
             lent.length = length;
             let number = if length < 12 { 1 } else { 2 };
@@ -250,7 +250,7 @@ fn changed(v: &Form, index: usize, field: (&str, i128)) -> Vec<u8> {
 fn the_sheet_is_turned_away_first() {
     let header = |field: (&str, i128)| sheet(&with(&vessel_v(), &[field]), &records(&[10]));
     let header_2 = |field: (&str, i128)| sheet(&with(&vessel_v2(), &[field]), &records(&[10]));
-    is_turned_away(&header(("version", 3)), (2, 0));
+    is_turned_away(&header(("version", 15)), (2, 0));
     is_turned_away(&header_2(("version", 0)), (2, 0));
     is_turned_away(&header(("L", 3999)), (3, 2));
     is_turned_away(&header(("zero", 1)), (3, 9));

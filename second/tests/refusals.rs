@@ -63,7 +63,7 @@ fn number_2_version() {
     // Behind the same twelve bytes, with every field but the version at fault.
     let short =
         |version| with(&vessel_v2(), &[("version", version), ("L", 0)]).pack()[..15].to_vec();
-    let found = [1, 2, 3].map(|version| refusal(&short(version)));
+    let found = [1, 2, 15].map(|version| refusal(&short(version)));
     assert_eq!(found, [(3, 2), (1, 0), (2, 0)].map(Some));
 }
 
@@ -408,7 +408,7 @@ struct Spoilt {
 impl Spoilt {
     fn new(v: &Form) -> Spoilt {
         Spoilt {
-            header: with(v, &[("version", 3), ("L", 0), ("n", 3)]),
+            header: with(v, &[("version", 15), ("L", 0), ("n", 3)]),
             records: [
                 with(&plate(2), &[("kind", 9), ("id", 0)]),
                 with(&plate(2), &[("id", 9), ("T", 0)]),

@@ -233,7 +233,7 @@ fn number_14_empty_lines() {
 /// Of a version or kind that is not known only the first field is judged.
 #[test]
 fn unknown_versions_and_kinds() {
-    for version in ["0", "3", "9", "15", "\"3\""] {
+    for version in ["0", "15", "\"15\""] {
         for rest in ["", ",", ",x,,\"\"\"\"", ",1,1,1,1,1,1,1,1,1,1,1,1,1,1"] {
             let header = format!("{version}{rest}\r\n");
             assert_eq!(refused(&header), (2, 0));
@@ -361,7 +361,7 @@ fn writing_is_refused_by_the_table_and_then_by_5() {
     for (sheet, expected) in [
         (&EXAMPLE[..11], (1, 0)),
         (&vessel_v2().pack()[..19], (1, 0)),
-        (&with(&vessel_v2(), &[("version", 3)]).pack()[..12], (2, 0)),
+        (&with(&vessel_v2(), &[("version", 15)]).pack()[..12], (2, 0)),
         (&with(&vessel_v2(), &[("last_zero", 1)]).pack(), (3, 12)),
         (&hull(8000, 60, 228).pack(), (9, 0)),
         (&longer, (4, 0)),

@@ -2,6 +2,7 @@
 use libc::STDIN_FILENO;
 use libc::STDOUT_FILENO;
 use report::Page;
+use sheet::ENOUGH;
 ghost use mathlib.Core.Path.{_≡_};
 ghost use mathlib.Core.List.{List};
 ghost use Prim.Native.Nat.{ℕ, _≤_};
@@ -18,7 +19,7 @@ fn answer(buffer: &[u8], got: usize) -> Page
 }
 
 fn main() {
-    let mut sheet = [0u8; 6421];
+    let mut sheet = [0u8; ENOUGH];
     let got = io::read_full(STDIN_FILENO, &mut sheet);
     let page = answer(&sheet, got);
     let len = page.len;

@@ -11,6 +11,7 @@ use file::Read;
 use file::Rights;
 use libc::STDOUT_FILENO;
 use report::Told;
+use sheet::ENOUGH;
 use sheet::Refusal;
 ghost use mathlib.Core.Path.{_≡_};
 ghost use Prim.Native.Nat.{_≤_};
@@ -31,9 +32,6 @@ const OWNER: usize = 4;
 const GROUP: usize = 5;
 
 const FIRST: usize = 6;
-
-// A byte more than the longest sheet has, so that a longer file is turned away as the whole of it would be.
-const LONGEST: usize = 6421;
 
 fn records_in(len: usize) -> usize
     ensures { λ r. ⌜ r ≡ recordsIn len ⌝ }
@@ -151,7 +149,7 @@ fn put(path: &[u8]) {
     if !record_words(&mut fields) {
         return;
     }
-    let mut sheet = [0u8; LONGEST];
+    let mut sheet = [0u8; ENOUGH];
     let read = file::load(path, &mut sheet);
     match read {
         Read::Failed => {}
@@ -172,7 +170,7 @@ fn remove(path: &[u8]) {
     if !words::take(FIRST, 1, &mut id) {
         return;
     }
-    let mut sheet = [0u8; LONGEST];
+    let mut sheet = [0u8; ENOUGH];
     let read = file::load(path, &mut sheet);
     match read {
         Read::Failed => {}

@@ -4,6 +4,7 @@ use decimal::Number;
 use libc::STDIN_FILENO;
 use libc::STDOUT_FILENO;
 use report::Told;
+use sheet::ENOUGH;
 use sheet::Header;
 use sheet::HeaderRead;
 use sheet::Record;
@@ -20,9 +21,6 @@ ghost use Rattle.checker.specs.Check.{recordOf, sheetSize};
 ghost use Rattle.checker.specs.Unjudged.{soundHeader};
 ghost use Rattle.checker.specs.Longer.{enough};
 ghost use Rattle.barge_explain.specs.Explain.{Sized};
-
-// A byte more than the longest sheet has, so that a longer input is turned away as the whole of it would be.
-const LONGEST: usize = 6421;
 
 // Where the word stands.
 const ID: usize = 1;
@@ -133,7 +131,7 @@ fn explain(h: Header, sheet: &[u8])
 }
 
 fn main() {
-    let mut sheet = [0u8; LONGEST];
+    let mut sheet = [0u8; ENOUGH];
     let got = io::read_full(STDIN_FILENO, &mut sheet);
     let read = header_of(&sheet, got);
     match read {

@@ -29,17 +29,7 @@ const COMMAND: usize = 1;
 // A longer text is no sheet's, and is not looked at. One byte more is read, so that it is noticed.
 const LONGEST: usize = 65536;
 
-const TEXT_READ: usize = 65537;
-
-// A byte more than the longest sheet has, so that a longer file is turned away as the whole of it would be.
-const SHEET_READ: usize = 6421;
-
-// Room for any sheet, any sheet's text and any page.
-const SHEET: usize = 6420;
-
-const TEXT: usize = 52531;
-
-const PAGE: usize = 6408;
+const TEXT_READ: usize = LONGEST + 1;
 
 enum Task {
     Sheet,
@@ -111,7 +101,7 @@ fn line_at_fault(c: Converted) -> u32
 fn refusal_page(r: Refusal) -> Page
     ensures { λ p. ⌜ Shows (refusalText r) p ⌝ }
 {
-    let mut bytes = [0u8; PAGE];
+    let mut bytes = [0u8; report::LONGEST];
     let told = report::write_refusal(r, &mut bytes);
     match told {
         Told::Length(len) => Page { bytes, len },
@@ -133,7 +123,7 @@ fn page_by(c: Converted, sheet: &[u8]) -> Page
 fn answer(text: &[u8]) -> Reply
     ensures { λ r. ⌜ Replies (now (text .entry)) r ⌝ }
 {
-    let mut sheet = [0u8; SHEET];
+    let mut sheet = [0u8; sheet::LONGEST];
     let c = csv::read_sheet(text, &mut sheet);
     let page = page_by(c, &sheet);
     let line = line_at_fault(c);
@@ -159,7 +149,7 @@ fn deliver(c: Converted, made: &[u8])
 }
 
 fn make_sheet(text: &[u8]) {
-    let mut sheet = [0u8; SHEET];
+    let mut sheet = [0u8; sheet::LONGEST];
     let c = csv::read_sheet(text, &mut sheet);
     deliver(c, &sheet);
     show::line(text, line_at_fault(c));
@@ -168,7 +158,7 @@ fn make_sheet(text: &[u8]) {
 fn make_text(buffer: &[u8], got: usize)
     requires { ⌜ (enough ≤ length (now buffer)) × (got ≤ length (now buffer)) ⌝ }
 {
-    let mut text = [0u8; TEXT];
+    let mut text = [0u8; csv::LONGEST];
     let c = text_of(buffer, got, &mut text);
     deliver(c, &text);
 }
@@ -203,7 +193,7 @@ fn is_miscount(c: Converted) -> bool
 fn miscounted(text: &[u8]) -> bool
     ensures { λ r. ⌜ r ≡ isCount (lengthOf (sheetFrom (now (text .entry)) longestSheet)) ⌝ }
 {
-    let mut sheet = [0u8; SHEET];
+    let mut sheet = [0u8; sheet::LONGEST];
     let c = csv::read_sheet(text, &mut sheet);
     is_miscount(c)
 }
@@ -244,7 +234,7 @@ fn take_text(checks: bool) {
 }
 
 fn take_sheet() {
-    let mut space = [0u8; SHEET_READ];
+    let mut space = [0u8; sheet::ENOUGH];
     let read = load(&mut space);
     match read {
         Read::Failed => {}

@@ -4,7 +4,9 @@ use layout::powers::P22;
 use quantity::Modulus;
 use sheet::Header;
 use sheet::HeaderRead;
+use sheet::MOST;
 use sheet::Outcome;
+use sheet::RECORD;
 use sheet::RecordRead;
 use sheet::Refusal;
 use verdict::Judged;
@@ -45,13 +47,10 @@ pub enum Checked {
     Refused(Refusal),
 }
 
-// How many bytes each takes.
-const RECORD: usize = 16;
+// How many bytes a verdict takes, and those of the most records.
+pub const VERDICT: usize = 4;
 
-const VERDICT: usize = 4;
-
-// The verdicts of the longest sheet, 400 of them.
-const DRAFT: usize = 1600;
+pub const DRAFT: usize = VERDICT * (MOST as usize);
 
 // The most that a verdict with this rule can require: nothing on a pass, else the highest value of any gauge.
 fn most_required(rule: u8) -> u32

@@ -24,7 +24,7 @@ use Rattle.checker.specs.Check.{_then_}
 use Rattle.csv.specs.declared.Made.{Made}
 use Rattle.csv.specs.declared.Made.the-variants as Made
 use Rattle.csv.specs.Read.{nextLine, recordsMade, sheetMade}
-use Rattle.csv.specs.Steps.{Held, PutsBehind, Fills}
+use Rattle.csv.specs.Steps.{draftSize, Held, PutsBehind, Fills}
 use Rattle.csv.specs.ReadLaws.{sheet-by-row, header-twenty, in-front, nothing-in-front, given-in-front, refused-in-front, records-by-row, record-sixteen, Goes, Stops, row-more, row-last, row-refused}
 use Rattle.csv.specs.HeldLaws.{held-first, held-more}
 
@@ -55,10 +55,10 @@ module _ (b draft : List ℕ) (end n : ℕ) (part : List ℕ) (inside : end ≤ 
 pub record Filling (whole : Answer (List ℕ)) (front s : List ℕ) (p here end : ℕ) (draft : List ℕ) : Type 0 where
   pub made : List ℕ
   pub held : Held (front ++ made) end draft
-  pub size : length draft ≡ 6436
+  pub size : length draft ≡ draftSize
   pub rest : whole ≡ (recordsMade p (linesAt s here) then λ bs. given (made ++ bs))
 
-pub begin : (s : List ℕ) (at head : ℕ) (draft : List ℕ) → head ≤ length draft → length draft ≡ 6436 → Filling (recordsMade 2 (linesAt s at)) (take head draft) s 2 at head draft
+pub begin : (s : List ℕ) (at head : ℕ) (draft : List ℕ) → head ≤ length draft → length draft ≡ draftSize → Filling (recordsMade 2 (linesAt s at)) (take head draft) s 2 at head draft
 begin s at head draft l e =
     record {
       made = [];
@@ -117,7 +117,7 @@ unfolding _then_
 behind (given b) front (Made.Length end) draft f = f
 behind (refused k p) front (Made.Refused x) draft f = f
 
-module _ (s draft : List ℕ) (size : length draft ≡ 6436) (r : Row) (shows : toldRow r ≡ shown (headerRow 1 (lineAt s 0))) where
+module _ (s draft : List ℕ) (size : length draft ≡ draftSize) (r : Row) (shows : toldRow r ≡ shown (headerRow 1 (lineAt s 0))) where
   pub head-on : (n : ℕ) → r .end ≡ RowEnd.More n → Goes (recordsMade 2) (sheetMade (linesAt s 0)) s 0 r (headerRow 1 (lineAt s 0)) shows (sheet-by-row s) n
   head-on n e = row-more (recordsMade 2) (sheetMade (linesAt s 0)) s 0 r (headerRow 1 (lineAt s 0)) shows (sheet-by-row s) n e
 
@@ -142,7 +142,7 @@ module _ (s draft : List ℕ) (size : length draft ≡ 6436) (r : Row) (shows : 
         let g = head-on n e in
         held-first (g .made) draft next after (omega (arith, header-twenty 1 (lineAt s 0) _ (g .line))) (subst (λ (x : List ℕ). PutsBehind x draft 0 next after) (g .bytes .front) u)
 
-    pub head-room : (length after ≡ 6436) × (next ≤ length after)
+    pub head-room : (length after ≡ draftSize) × (next ≤ length after)
     head-room = (held .1 ∙ size, held .0 .inside)
 
     pub head-and-records : (m : Made) (done : List ℕ) → Fills (recordsMade 2 (linesAt s n)) (take next after) m done → Fills (sheetMade (linesAt s 0)) [] m done

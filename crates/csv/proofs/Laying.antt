@@ -11,6 +11,7 @@ use Rattle.decimal.specs.LaidLaws.{laid-length, laid-laid, laid-none, laid-both
 use Rattle.decimal.specs.LineLaws.{line-one, line-more}
 use Rattle.rows.specs.Pack.{fieldsFrom, fieldsOf}
 use Rattle.sheet.specs.declared.Header.{Header}
+use Rattle.sheet.specs.Versions.{mostRecords}
 use Rattle.csv.specs.Write.{line, headerCells, textOf}
 use Rattle.csv.specs.WriteLaws.{Written, header-most, texts-most}
 use Rattle.csv.specs.Steps.{recordText, recordsText, longestLine}
@@ -99,7 +100,7 @@ all-records b n = let e : n - 0 ≡ n = omega arith in ap (recordsText b 0) e
 
 -- ---- a whole sheet
 
-module _ (s : List ℕ) (h : Header) (w : Written s h) (page₀ : List ℕ) (size : length page₀ ≡ 52531) where
+module _ (s : List ℕ) (h : Header) (w : Written s h) (page₀ : List ℕ) (size : length page₀ ≡ longestLine * (mostRecords + 1)) where
   room : 0 + length (textOf (w .sheet)) ≤ length page₀
   room = omega (arith, ap length (w .text), length-append (line (headerCells h)) (recordsText (recordsPart h s) 0 (h .count)), header-most h (w .fine), texts-most (recordsPart h s) 0 (h .count), w .few)
 

@@ -20,7 +20,7 @@ use Rattle.sheet.specs.HeaderBack.{header-read-fine}
 use Rattle.checker.specs.Check.{_then_, Sheet, sheetIn}
 use Rattle.checker.specs.CheckLaws.{sheet-whole}
 use Rattle.checker.specs.Unjudged.{soundSheet}
-use Rattle.csv.specs.Steps.{Held, PutsBehind, fitsIn, soundIn}
+use Rattle.csv.specs.Steps.{draftSize, Held, PutsBehind, fitsIn, soundIn}
 
 -- without room nothing is put
 count-none : (b o : List ℕ) → length o < length b → (putCount b o ≡ 0) × (putOn b o ≡ o)
@@ -43,11 +43,11 @@ held-first b draft next after l p =
     )
 
 -- sixteen more
-module _ (whole b draft : List ℕ) (end next : ℕ) (after : List ℕ) (h : Held whole end draft) (size : length draft ≡ 6436) (sixteen : length b ≡ 16) (p : PutsBehind b draft end next after) where
-  left : length (drop end draft) + end ≡ 6436
+module _ (whole b draft : List ℕ) (end next : ℕ) (after : List ℕ) (h : Held whole end draft) (size : length draft ≡ draftSize) (sixteen : length b ≡ 16) (p : PutsBehind b draft end next after) where
+  left : length (drop end draft) + end ≡ draftSize
   left = omega (arith, length-drop end draft, h .inside)
 
-  with-room : length b ≤ length (drop end draft) → Held (whole ++ b) next after × (length after ≡ 6436)
+  with-room : length b ≤ length (drop end draft) → Held (whole ++ b) next after × (length after ≡ draftSize)
   with-room l =
       let all : end ≡ length whole = ⊎-elim (λ e. e) (λ m. absurd (omega (arith, left))) (h .much) in
       let n : next ≡ end + length b = p .place ∙ ap (λ (k : ℕ). end + k) (count-all b (drop end draft) l) in
@@ -57,7 +57,7 @@ module _ (whole b draft : List ℕ) (end next : ℕ) (after : List ℕ) (h : Hel
       let g : after ≡ (whole ++ b) ++ drop (length b) (drop end draft) =
       o ∙ ap (λ (t : List ℕ). t ++ (b ++ drop (length b) (drop end draft))) f ∙ sym (append-assoc whole b (drop (length b) (drop end draft))) in
       let w : length (whole ++ b) ≡ next = omega (arith, length-append whole b) in
-      let s : length after ≡ 6436 = omega (arith, ap length g, length-append (whole ++ b) (drop (length b) (drop end draft)), length-drop (length b) (drop end draft), left) in (
+      let s : length after ≡ draftSize = omega (arith, ap length g, length-append (whole ++ b) (drop (length b) (drop end draft)), length-drop (length b) (drop end draft), left) in (
         record {
           front = ap (take next) g ∙ take-at (whole ++ b) (drop (length b) (drop end draft)) next w ∙ sym (take-all next (whole ++ b) (omega arith));
           inside = omega (arith, left);
@@ -67,7 +67,7 @@ module _ (whole b draft : List ℕ) (end next : ℕ) (after : List ℕ) (h : Hel
         s,
       )
 
-  without : length (drop end draft) < length b → Held (whole ++ b) next after × (length after ≡ 6436)
+  without : length (drop end draft) < length b → Held (whole ++ b) next after × (length after ≡ draftSize)
   without l =
       let c = count-none b (drop end draft) l in
       let n : next ≡ end = p .place ∙ ap (λ (k : ℕ). end + k) (c .0) ∙ omega arith in
@@ -81,10 +81,10 @@ module _ (whole b draft : List ℕ) (end next : ℕ) (after : List ℕ) (h : Hel
         ap length o ∙ size,
       )
 
-  pub held-more : Held (whole ++ b) next after × (length after ≡ 6436)
+  pub held-more : Held (whole ++ b) next after × (length after ≡ draftSize)
   held-more = go (decLe (length b) (length (drop end draft)))
     where
-      go : Dec (length b ≤ length (drop end draft)) → Held (whole ++ b) next after × (length after ≡ 6436)
+      go : Dec (length b ≤ length (drop end draft)) → Held (whole ++ b) next after × (length after ≡ draftSize)
       go (yes l) = with-room l
       go (no l) = without (omega arith)
 

@@ -9,6 +9,7 @@ use Rattle.decimal.specs.Put.{putCount, putOn}
 use Rattle.sheet.specs.declared.Record.{Record}
 use Rattle.sheet.specs.Refusals.{Answer, given, refused, told}
 use Rattle.sheet.specs.Record.{readRecord}
+use Rattle.sheet.specs.Versions.{longestSheet}
 use Rattle.checker.specs.Longer.{enough}
 use Rattle.checker.specs.Check.{_then_, demand, recordPart}
 use Rattle.checker.specs.Unjudged.{soundSheet}
@@ -19,6 +20,10 @@ use Rattle.csv.specs.declared.Made.the-variants as Made
 use Rattle.csv.specs.Write.{line, recordCells}
 
 -- ---- reading
+
+-- the bytes of the draft: a record more than the longest sheet has
+abbrev pub draftSize : ℕ
+draftSize = longestSheet + 16
 
 -- the front of the bytes `whole` stands in the draft up to `end`: all of them, or more than any sheet has
 pub record Held (whole : List ℕ) (end : ℕ) (draft : List ℕ) : Type 0 where

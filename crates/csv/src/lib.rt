@@ -4,6 +4,8 @@ mod page;
 use rows::Row;
 use rows::RowEnd;
 use sheet::HeaderRead;
+use sheet::MOST;
+use sheet::RECORD;
 use sheet::Refusal;
 ghost use mathlib.Core.Path.{_≡_};
 ghost use mathlib.Core.List.{[]};
@@ -12,7 +14,7 @@ ghost use lib.ListN.{length, take};
 ghost use Rattle.fields.specs.Lines.{linesAt};
 ghost use Rattle.csv.specs.Read.{nextLine, recordsMade, sheetMade, sheetFrom, Converts};
 ghost use Rattle.csv.specs.Write.{textFrom};
-ghost use Rattle.csv.specs.Steps.{fitsIn, soundIn, PutsBehind, Fills};
+ghost use Rattle.csv.specs.Steps.{draftSize, fitsIn, soundIn, PutsBehind, Fills};
 
 // How many bytes were written, or why none were.
 pub enum Converted {
@@ -26,11 +28,11 @@ enum Made {
     Refused(Refusal),
 }
 
-// The longest sheet has 6,420 bytes: with a record more it is seen to be too long, whatever the lines behind it are.
-const DRAFT: usize = 6436;
+// With a record more than the longest sheet has it is seen to be too long, whatever the lines behind it are.
+const DRAFT: usize = sheet::LONGEST + RECORD;
 
-// The longest text: a line of 131 bytes at most for the header and for each of 400 records.
-const PAGE: usize = 52531;
+// The longest text: a line of 131 bytes at most for the header and for each record.
+pub const LONGEST: usize = 131 * (MOST as usize + 1);
 
 // The bytes of a line behind those of the lines before it, where there is room.
 fn put_row(row: Row, draft: &mut [u8], end: usize) -> usize
@@ -50,7 +52,7 @@ fn next_line(line: u32) -> u32
 
 // The lines from a place on, each a record's, behind the header's bytes.
 fn put_records(text: &[u8], at: usize, draft: &mut [u8], head: usize) -> Made
-    requires { ⌜ (length (now draft) ≡ 6436) × (head ≤ length (now draft)) ⌝ }
+    requires { ⌜ (length (now draft) ≡ draftSize) × (head ≤ length (now draft)) ⌝ }
     ensures { λ r. ⌜ Fills (recordsMade 2 (linesAt (now (text .entry)) at)) (take head (now (draft .entry))) r (now (draft .exit)) ⌝ }
 {
     let mut here = at;
@@ -77,7 +79,7 @@ fn put_records(text: &[u8], at: usize, draft: &mut [u8], head: usize) -> Made
 
 // All lines.
 fn put_lines(text: &[u8], draft: &mut [u8]) -> Made
-    requires { ⌜ length (now draft) ≡ 6436 ⌝ }
+    requires { ⌜ length (now draft) ≡ draftSize ⌝ }
     ensures { λ r. ⌜ Fills (sheetMade (linesAt (now (text .entry)) 0)) [] r (now (draft .exit)) ⌝ }
 {
     let row = rows::header_at(text);
@@ -135,7 +137,7 @@ pub fn write_text(sheet: &[u8], out: &mut [u8]) -> Converted
     match read {
         HeaderRead::Refused(x) => Converted::Refused(x),
         HeaderRead::Good(h) => {
-            let mut page = [0u8; PAGE];
+            let mut page = [0u8; LONGEST];
             let at = page::put_header(&mut page, h);
             let len = page::put_records(&sheet[h.size()..], h.count, &mut page, at);
             tell(&page[..len], out)

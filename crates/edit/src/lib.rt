@@ -5,6 +5,7 @@ mod shift;
 use sheet::Header;
 use sheet::HeaderRead;
 use sheet::Outcome;
+use sheet::RECORD;
 use sheet::Record;
 use sheet::RecordRead;
 use sheet::Refusal;
@@ -23,9 +24,6 @@ pub enum Edited {
     Length(usize),
     Refused(Refusal),
 }
-
-// How many bytes a record takes.
-const RECORD: usize = 16;
 
 // The header of the sheet, or why it is turned away.
 pub fn sheet_at(buf: &[u8], len: usize) -> HeaderRead

@@ -3,6 +3,7 @@
 use checker::Checked;
 use checker::Entry;
 use checker::EntryRead;
+use sheet::MOST;
 use sheet::Refusal;
 ghost use mathlib.Core.List.{[], _∷_, _++_};
 ghost use Prim.Native.Nat.{_+_, _*_, _≤_};
@@ -15,10 +16,8 @@ ghost use Rattle.report.specs.Text.{line, textOf};
 ghost use Rattle.report.specs.Page.{longestLine, Tells, Pages};
 ghost use Rattle.report.specs.Pieces.{verdictText, verdictsText, refusalText, checkedText, Roomy, TellsRefusal};
 
-// Room for the verdicts of the longest sheet, and for its text: 400 lines of 16 bytes, and one of 8.
-const VERDICTS: usize = 1600;
-
-const LONGEST: usize = 6408;
+// Room for the text of the longest sheet: for each verdict a line of 16 bytes, and one of 8.
+pub const LONGEST: usize = 16 * (MOST as usize) + 8;
 
 // Room for a refusal's line: the word, and numbers of at most two digits and ten.
 const REFUSAL: usize = 22;
@@ -115,7 +114,7 @@ fn put_checked(checked: Checked, out: &[u8], page: &mut [u8]) -> usize
 pub fn page_of(sheet: &[u8]) -> Page
     ensures { λ r. ⌜ Pages (now (sheet .entry)) r ⌝ }
 {
-    let mut out = [0u8; VERDICTS];
+    let mut out = [0u8; checker::DRAFT];
     let checked = checker::check(sheet, &mut out);
     let mut bytes = [0u8; LONGEST];
     let len = put_checked(checked, &out, &mut bytes);

@@ -53,8 +53,16 @@ pub struct Version {
     pub most: u16,
 }
 
-// The most records of versions 1 and 2.
-const MOST: u16 = 400;
+// The most records that any version counts.
+pub const MOST: u16 = 400;
+
+// The bytes of a record, and of the longest sheet.
+pub const RECORD: usize = 16;
+
+pub const LONGEST: usize = 20 + RECORD * (MOST as usize);
+
+// As many as have to be read of a longer input, so that it is turned away as the whole of it would be.
+pub const ENOUGH: usize = LONGEST + 1;
 
 impl Own {
     // The version that holds this.

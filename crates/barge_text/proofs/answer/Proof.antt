@@ -4,6 +4,7 @@ use borrow.Author.Needs.{needs}
 use mathlib.Core.Path.{ap, _∙_}
 use denote.Ref.{now}
 use lib.ListN.{replicate}
+use Rattle.sheet.specs.Versions.{longestSheet}
 use Rattle.barge_text.specs.Convert.{lineIn}
 use Rattle.barge_text.specs.ConvertLaws.{made-inside, made-printed}
 use Rattle.barge_text.proofs.answer.Statement.{statement}
@@ -12,7 +13,7 @@ use Rattle.barge_text.proofs.answer.Tie as tie
 page-by-requires : tie.Need-page-by-requires
 page-by-requires c κs =
     let r = c .before .before in
-    made-inside _ (replicate 6420 0) (r .read-sheet .result) (r .read-sheet .last .1 .0) (r .read-sheet .kept .1 .0) (r .read-sheet .ensures)
+    made-inside _ (replicate longestSheet 0) (r .read-sheet .result) (r .read-sheet .last .1 .0) (r .read-sheet .kept .1 .0) (r .read-sheet .ensures)
 
 returns : tie.Need-returns
 returns c =
@@ -22,7 +23,7 @@ returns c =
     record {
       page = record {
         inside = p .page-by .ensures .inside;
-        text = p .page-by .ensures .text ∙ made-printed s (replicate 6420 0) (r .read-sheet .result) (r .read-sheet .last .1 .0) (r .read-sheet .ensures);
+        text = p .page-by .ensures .text ∙ made-printed s (replicate longestSheet 0) (r .read-sheet .result) (r .read-sheet .last .1 .0) (r .read-sheet .ensures);
       };
       line = c .line-at-fault .ensures ∙ ap lineIn (r .read-sheet .ensures .answer);
     }

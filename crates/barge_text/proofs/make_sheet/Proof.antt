@@ -2,6 +2,7 @@
 -- Assumes nothing.
 use borrow.Author.Needs.{needs}
 use lib.ListN.{replicate}
+use Rattle.sheet.specs.Versions.{longestSheet}
 use Rattle.barge_text.specs.ConvertLaws.{made-inside}
 use Rattle.barge_text.proofs.make_sheet.Statement.{statement}
 use Rattle.barge_text.proofs.make_sheet.Tie as tie
@@ -9,7 +10,7 @@ use Rattle.barge_text.proofs.make_sheet.Tie as tie
 deliver-requires : tie.Need-deliver-requires
 deliver-requires c κs =
     let r = c .before .before in
-    made-inside _ (replicate 6420 0) (r .read-sheet .result) (r .read-sheet .last .1 .0) (r .read-sheet .kept .1 .0) (r .read-sheet .ensures)
+    made-inside _ (replicate longestSheet 0) (r .read-sheet .result) (r .read-sheet .last .1 .0) (r .read-sheet .kept .1 .0) (r .read-sheet .ensures)
 
 pub make-sheet-spec : {M : Type 1} → statement M
 make-sheet-spec =

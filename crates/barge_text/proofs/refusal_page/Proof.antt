@@ -9,7 +9,7 @@ use lib.ListN.{length, take, drop, replicate}
 use lib.Seq.{take-at}
 use Rattle.sheet.specs.Refusals.{given}
 use Rattle.sheet.specs.RefusalLaws.{given-same, given-refused}
-use Rattle.report.specs.Page.{toldLength}
+use Rattle.report.specs.Page.{longest, toldLength}
 use Rattle.report.specs.PageLaws.{refusal-told}
 use Rattle.report.specs.Pieces.{refusalText}
 use Rattle.barge_text.proofs.refusal_page.Statement.{statement}
@@ -19,8 +19,8 @@ module _ (c : tie.After-write-refusal) where
   abbrev line : List ℕ
   line = refusalText (c .before .before .args .r)
 
-  spelled : (toldLength (c .write-refusal .result) ≡ given (length line)) × (c .write-refusal .last .1 .0 ≡ line ++ drop (length line) (replicate 6408 0))
-  spelled = refusal-told (c .before .before .args .r) (replicate 6408 0) (c .write-refusal .result) (c .write-refusal .last .1 .0) (omega arith) (c .write-refusal .ensures)
+  spelled : (toldLength (c .write-refusal .result) ≡ given (length line)) × (c .write-refusal .last .1 .0 ≡ line ++ drop (length line) (replicate longest 0))
+  spelled = refusal-told (c .before .before .args .r) (replicate longest 0) (c .write-refusal .result) (c .write-refusal .last .1 .0) (omega arith) (c .write-refusal .ensures)
 
 returns : tie.Need-returns
 returns c =
@@ -29,7 +29,7 @@ returns c =
     let len-is : t .told .given .0 .0 ≡ length (line w) = given-same (sym (ap toldLength (t .told .given .1)) ∙ spelled w .0) in
     record {
       inside = omega (arith, len-is, w .write-refusal .ensures .most, w .write-refusal .kept .1 .0);
-      text = ap (take (t .told .given .0 .0)) (spelled w .1) ∙ take-at (line w) (drop (length (line w)) (replicate 6408 0)) (t .told .given .0 .0) (sym len-is);
+      text = ap (take (t .told .given .0 .0)) (spelled w .1) ∙ take-at (line w) (drop (length (line w)) (replicate longest 0)) (t .told .given .0 .0) (sym len-is);
     }
 
 returns-2 : tie.Need-returns-2
