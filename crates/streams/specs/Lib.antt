@@ -1,0 +1,5 @@
+pub mod Heads
+pub mod Parts
+pub mod Sheets
+pub mod Edits
+pub mod Texts

@@ -1,0 +1,152 @@
+// Answers a stream of cases on standard input, for the comparison with a second program. Its word says what they are: `sheets` to be checked, `edits`, `texts` and
+// sheets to be converted, `vectors` packed by other means. A case is a head of numbers, an input and an output, as its module says. Numbers have four bytes, most
+// significant first. A stream that ends within a case, a length or a size above 65,536, or a case that is none prints `broken` and ends it.
+mod edits;
+mod parts;
+mod sheets;
+mod texts;
+mod vectors;
+
+use libc::STDERR_FILENO;
+use libc::STDIN_FILENO;
+use libc::STDOUT_FILENO;
+ghost use mathlib.Core.Path.{_≡_};
+ghost use Prim.Native.Nat.{_≤_};
+ghost use lib.ListN.{length};
+ghost use Rattle.streams.specs.Heads.{InHead};
+
+// The longest input, and the largest output.
+const LONGEST: usize = 65536;
+
+enum Stream {
+    Sheets,
+    Edits,
+    Texts,
+    Vectors,
+    None,
+}
+
+// How many bytes of a head come, and which of its numbers are the input's length and the output's size. The fourth never comes, and is 0.
+struct Head {
+    bytes: usize,
+    input: usize,
+    output: usize,
+}
+
+fn asked() -> Stream {
+    let mut word = [0u8; 8];
+    os::arg(1, &mut word);
+    let name = layout::read_word(&word);
+    if name == layout::read_word(b"sheets\0\0") {
+        return Stream::Sheets;
+    }
+    if name == layout::read_word(b"edits\0\0\0") {
+        return Stream::Edits;
+    }
+    if name == layout::read_word(b"texts\0\0\0") {
+        return Stream::Texts;
+    }
+    if name == layout::read_word(b"vectors\0") {
+        return Stream::Vectors;
+    }
+    Stream::None
+}
+
+fn head_of(stream: Stream) -> Head
+    ensures { λ h. ⌜ InHead h ⌝ }
+{
+    match stream {
+        Stream::Sheets => Head {
+            bytes: 4,
+            input: 0,
+            output: 3,
+        },
+        Stream::Edits => Head {
+            bytes: 12,
+            input: 3,
+            output: 0,
+        },
+        _ => Head {
+            bytes: 12,
+            input: 1,
+            output: 2,
+        },
+    }
+}
+
+// The answer to a case whose input and output come next, or false where they do not come whole or it is none.
+fn answered(stream: Stream, head: &[u8; 16], input: &mut [u8], out: &mut [u8]) -> bool
+    requires { ⌜ length (now out) ≤ 65536 ⌝ }
+{
+    if io::read_full(STDIN_FILENO, input) < input.len() {
+        return false;
+    }
+    if io::read_full(STDIN_FILENO, out) < out.len() {
+        return false;
+    }
+    let first = parts::number(head, 0);
+    let second = parts::number(head, 1) as usize;
+    let third = parts::number(head, 2) as usize;
+    match stream {
+        Stream::Sheets => sheets::print(input),
+        Stream::Edits => edits::print(out, second, third),
+        Stream::Texts => texts::print(first, input, out),
+        Stream::Vectors => vectors::print(first, input, out),
+        Stream::None => false,
+    }
+}
+
+// The case behind a head of which so many bytes came, or false where it is none.
+fn case(stream: Stream, got: usize, head: &[u8; 16], input: &mut [u8], out: &mut [u8]) -> bool
+    requires { ⌜ (65536 ≤ length (now input)) × (65536 ≤ length (now out)) ⌝ }
+{
+    let form = head_of(stream);
+    if got < form.bytes {
+        return false;
+    }
+    let len = parts::number(head, form.input) as usize;
+    let size = parts::number(head, form.output) as usize;
+    if LONGEST < len {
+        return false;
+    }
+    if LONGEST < size {
+        return false;
+    }
+    answered(stream, head, &mut input[0..len], &mut out[0..size])
+}
+
+// One case of the stream, or false at its end.
+fn turn(stream: Stream, input: &mut [u8], out: &mut [u8]) -> bool
+    requires { ⌜ (65536 ≤ length (now input)) × (65536 ≤ length (now out)) ⌝ }
+{
+    let mut head = [0u8; 16];
+    let form = head_of(stream);
+    let bytes = form.bytes;
+    let got = io::read_full(STDIN_FILENO, &mut head[0..bytes]);
+    if got == 0 {
+        return false;
+    }
+    if case(stream, got, &head, input, out) {
+        return true;
+    }
+    io::write_all(STDOUT_FILENO, b"broken\n");
+    false
+}
+
+fn main() {
+    let mut input = [0u8; LONGEST];
+    let mut out = [0u8; LONGEST];
+    let stream = asked();
+    if let Stream::None = stream {
+        io::write_all(
+            STDERR_FILENO,
+            b"streams: the word is sheets, edits, texts or vectors\n",
+        );
+        return;
+    }
+    for _ in 0..4294967296usize {
+        if !turn(stream, &mut input, &mut out) {
+            return;
+        }
+    }
+}
