@@ -1,23 +1,23 @@
--- `streams::vectors::print_numbers` is safe and ends: the index stays below the length.
+-- `streams::vectors::print_line` is safe and ends: it counts to thirteen.
 -- Assumes nothing.
 use Prim.Native.Nat.{_≤_, _-_}
 use borrow.Author.Needs.{needs}
-use lib.ListN.{length}
-use Rattle.streams.proofs.vectors.print_numbers.Statement.{statement}
-use Rattle.streams.proofs.vectors.print_numbers.Tie as tie
+use Rattle.streams.proofs.vectors.print_line.Statement.{statement}
+use Rattle.streams.proofs.vectors.print_line.Tie as tie
 
 abbrev Inv-loop : tie.InvT-loop
-Inv-loop s i₀ end i = i ≤ length s
+Inv-loop answer fields i₀ end i = i ≤ 13
 
 abbrev μ-loop : tie.MeasureT-loop
-μ-loop s i₀ end i = length s - i
+μ-loop answer fields i₀ end i = 13 - i
 
-pub print-numbers-spec : {M : Type 1} → statement M
-print-numbers-spec =
+pub print-line-spec : {M : Type 1} → statement M
+print-line-spec =
     tie.close
     (tie.spec
     Inv-loop
     μ-loop
+    (λ c κs. search needs)
     (λ c. search needs)
     (λ c. search needs)
     (λ c. search needs)
