@@ -33,23 +33,17 @@ struct Head {
     output: usize,
 }
 
+// By its bytes as one number, with zeros behind them.
 fn asked() -> Stream {
     let mut word = [0u8; 8];
     os::arg(1, &mut word);
-    let name = layout::read_word(&word);
-    if name == layout::read_word(b"sheets\0\0") {
-        return Stream::Sheets;
+    match layout::read_word(&word) {
+        0x7368656574730000 => Stream::Sheets,
+        0x6564697473000000 => Stream::Edits,
+        0x7465787473000000 => Stream::Texts,
+        0x766563746f727300 => Stream::Vectors,
+        _ => Stream::None,
     }
-    if name == layout::read_word(b"edits\0\0\0") {
-        return Stream::Edits;
-    }
-    if name == layout::read_word(b"texts\0\0\0") {
-        return Stream::Texts;
-    }
-    if name == layout::read_word(b"vectors\0") {
-        return Stream::Vectors;
-    }
-    Stream::None
 }
 
 fn head_of(stream: Stream) -> Head
@@ -74,26 +68,35 @@ fn head_of(stream: Stream) -> Head
     }
 }
 
-// The answer to a case whose input and output come next, or false where they do not come whole or it is none.
-fn answered(stream: Stream, head: &[u8; 16], input: &mut [u8], out: &mut [u8]) -> bool
-    requires { ⌜ length (now out) ≤ 65536 ⌝ }
-{
+// Whether the input and the output come whole.
+fn filled(input: &mut [u8], out: &mut [u8]) -> bool {
     if io::read_full(STDIN_FILENO, input) < input.len() {
         return false;
     }
-    if io::read_full(STDIN_FILENO, out) < out.len() {
-        return false;
-    }
-    let first = parts::number(head, 0);
-    let second = parts::number(head, 1) as usize;
-    let third = parts::number(head, 2) as usize;
+    io::read_full(STDIN_FILENO, out) == out.len()
+}
+
+// The answer to a case, or false where it is none.
+fn answered(stream: Stream, head: &[u8; 16], input: &[u8], out: &mut [u8]) -> bool
+    requires { ⌜ length (now out) ≤ 65536 ⌝ }
+{
     match stream {
         Stream::Sheets => sheets::print(input),
-        Stream::Edits => edits::print(out, second, third),
-        Stream::Texts => texts::print(first, input, out),
-        Stream::Vectors => vectors::print(first, input, out),
+        Stream::Edits => edits::print(head, out),
+        Stream::Texts => texts::print(head, input, out),
+        Stream::Vectors => vectors::print(head, input, out),
         Stream::None => false,
     }
+}
+
+// The same for one whose input and output come next.
+fn read_case(stream: Stream, head: &[u8; 16], input: &mut [u8], out: &mut [u8]) -> bool
+    requires { ⌜ length (now out) ≤ 65536 ⌝ }
+{
+    if !filled(input, out) {
+        return false;
+    }
+    answered(stream, head, input, out)
 }
 
 // The case behind a head of which so many bytes came, or false where it is none.
@@ -112,7 +115,7 @@ fn case(stream: Stream, got: usize, head: &[u8; 16], input: &mut [u8], out: &mut
     if LONGEST < size {
         return false;
     }
-    answered(stream, head, &mut input[0..len], &mut out[0..size])
+    read_case(stream, head, &mut input[0..len], &mut out[0..size])
 }
 
 // One case of the stream, or false at its end.

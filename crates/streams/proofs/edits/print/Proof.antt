@@ -8,10 +8,10 @@ use Rattle.streams.proofs.edits.print.Statement.{statement}
 use Rattle.streams.proofs.edits.print.Tie as tie
 
 abbrev Inv-loop : tie.InvT-loop
-Inv-loop buf₀ len count at₀ counter₀ buf at counter = (counter ≤ count) × (length buf ≡ length buf₀) × (length buf ≤ 65536)
+Inv-loop head buf₀ at₀ count counter₀ buf at counter = (counter ≤ count) × (length buf ≡ length buf₀) × (length buf ≤ 65536)
 
 abbrev μ-loop : tie.MeasureT-loop
-μ-loop buf₀ len count at₀ counter₀ buf at counter = count - counter
+μ-loop head buf₀ at₀ count counter₀ buf at counter = count - counter
 
 pub print-spec : {M : Type 1} → statement M
 print-spec =
@@ -19,6 +19,10 @@ print-spec =
     (tie.spec
     Inv-loop
     μ-loop
+    (λ c κs. search needs)
+    (λ c. search needs)
+    (λ c κs. search needs)
+    (λ c. search needs)
     (λ c. search needs)
     (λ c κs. search needs)
     (λ c. search needs)
