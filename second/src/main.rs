@@ -6,6 +6,7 @@ use second::fields::lines;
 use second::make::{edit_cases, full_sheet, sheets, text_cases};
 use second::pencil::explained;
 use second::print::{answer, fields, length};
+use second::rows::says_too_few;
 use second::stream::{framed, pieces, Piece};
 use second::tally::Tally;
 use second::tally_edits::EditTally;
@@ -15,7 +16,8 @@ use second::text_stream::{self, cases, Broken, What};
 use std::io::{self, BufWriter, Read, Write};
 use std::process::ExitCode;
 
-const USAGE: &str = "usage: second check | answer | make SEED COUNT | tally
+const USAGE: &str = "usage: second check
+       second sheets | make-sheets SEED COUNT | tally-sheets
        second edits | make-edits SEED COUNT | tally-edits
        second texts | make-texts SEED COUNT | tally-texts | fields
        second explain [ID] | make-full SEED INDEX | tally-trails";
@@ -34,7 +36,7 @@ fn explain(out: &mut impl Write, id: Option<i128>) -> io::Result<()> {
     write!(out, "{}", explained(&standard_input()?, id))
 }
 
-fn answer_stream(out: &mut impl Write) -> io::Result<()> {
+fn answer_sheets(out: &mut impl Write) -> io::Result<()> {
     for piece in pieces(&standard_input()?) {
         match piece {
             Piece::Sheet(sheet) => writeln!(out, "{}", answer(sheet))?,
@@ -84,6 +86,9 @@ fn fields_of_texts(out: &mut impl Write) -> io::Result<()> {
     Ok(())
 }
 
+/// The status where the only complaint is that something came up too seldom.
+const TOO_FEW: u8 = 3;
+
 /// What there is to complain of, and whether that is nothing.
 fn verdict(mut complaints: Vec<String>, broken: bool) -> ExitCode {
     if broken {
@@ -94,6 +99,8 @@ fn verdict(mut complaints: Vec<String>, broken: bool) -> ExitCode {
     }
     if complaints.is_empty() {
         ExitCode::SUCCESS
+    } else if complaints.iter().all(|complaint| says_too_few(complaint)) {
+        ExitCode::from(TOO_FEW)
     } else {
         ExitCode::FAILURE
     }
@@ -133,7 +140,7 @@ fn made(command: &str, seed: &str, number: &str) -> Option<Box<dyn Iterator<Item
     }
     let count = number.parse().ok()?;
     Some(match command {
-        "make" => Box::new(sheets(seed).map(|sheet| framed(&sheet)).take(count)),
+        "make-sheets" => Box::new(sheets(seed).map(|sheet| framed(&sheet)).take(count)),
         "make-edits" => {
             let cases = edit_cases(seed).map(|(lent, edits)| edit_stream::framed(&lent, &edits));
             Box::new(cases.take(count))
@@ -170,11 +177,11 @@ fn run(words: &[&str], out: &mut impl Write) -> io::Result<ExitCode> {
             Ok(id) => explain(out, Some(id))?,
             Err(_) => return Ok(usage()),
         },
-        ["answer"] => answer_stream(out)?,
+        ["sheets"] => answer_sheets(out)?,
         ["edits"] => answer_edits(out)?,
         ["texts"] => answer_texts(out)?,
         ["fields"] => fields_of_texts(out)?,
-        ["tally"] => return tally_sheets(out),
+        ["tally-sheets"] => return tally_sheets(out),
         ["tally-edits"] => return tally_edits(out),
         ["tally-texts"] => return tally_texts(out),
         ["tally-trails"] => return tally_trails(out),

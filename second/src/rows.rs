@@ -24,6 +24,17 @@ pub fn line(name: &str, counts: &[usize]) -> String {
     format!("{name:<WIDTH$}{}", columns.collect::<String>())
 }
 
+/// The complaint of a row that came up less often than it should.
+pub fn too_few(name: &str, count: usize) -> String {
+    format!("{name}: only {count}")
+}
+
+/// Whether a complaint is one of those, and not of a row that must not come up.
+pub fn says_too_few(complaint: &str) -> bool {
+    let count = complaint.rsplit_once(": only ");
+    count.is_some_and(|(_, count)| count.parse::<usize>().is_ok())
+}
+
 impl Rows {
     pub fn add(&mut self, name: &str, version: i128) {
         let row = (name.to_string(), version);
@@ -60,9 +71,7 @@ impl Rows {
     pub fn complaints(&self, names: &[&str], least: usize) -> Vec<String> {
         let counts = names.iter().map(|name| (name, self.of(name, ANY)));
         let scarce = counts.filter(|(_, count)| *count < least);
-        scarce
-            .map(|(name, count)| format!("{name}: only {count}"))
-            .collect()
+        scarce.map(|(name, count)| too_few(name, count)).collect()
     }
 
     /// The rows that do so in a version, and those that come up where they must not.
@@ -81,7 +90,7 @@ impl Rows {
         if name.starts_with(TOO_SLENDER) && !version.has_depth() {
             (count > 0).then(|| format!("{row}: {count} and not none"))
         } else {
-            (count < least).then(|| format!("{row}: only {count}"))
+            (count < least).then(|| too_few(&row, count))
         }
     }
 }

@@ -10,6 +10,7 @@ use crate::header_case::{all, found};
 use crate::loads::{plate_loads, CARGO, SEA};
 use crate::print::verdicts;
 use crate::refusal::Refusal;
+use crate::rows::too_few;
 use crate::sheet::{Header, Plate, Record};
 use crate::stream::{pieces, Piece};
 use crate::version::{Version, VERSIONS};
@@ -277,7 +278,7 @@ impl Tally {
     pub fn complaints(&self) -> Vec<String> {
         let under = |rows: Vec<(String, usize)>, least| {
             let scarce = rows.into_iter().filter(move |row| row.1 < least);
-            scarce.map(|(name, count)| format!("{name}: only {count}"))
+            scarce.map(|(name, count)| too_few(&name, count))
         };
         let to_stay_empty = self.rows_to_stay_empty().into_iter();
         let there = to_stay_empty.filter(|row| row.1 > 0);

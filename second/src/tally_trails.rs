@@ -4,6 +4,7 @@
 mod lines;
 
 use crate::pencil::blanks::fits;
+use crate::rows::too_few;
 pub use lines::{all, Line, Part};
 
 /// Each line comes up at least so often.
@@ -57,7 +58,7 @@ impl TrailTally {
     pub fn complaints(&self) -> Vec<String> {
         let scarce = self.counts.iter().filter(|(_, count)| *count < ENOUGH);
         let mut complaints: Vec<String> = scarce
-            .map(|(line, count)| format!("{}, {}: only {count}", line.part, line.words.trim()))
+            .map(|(line, count)| too_few(&format!("{}, {}", line.part, line.words.trim()), *count))
             .collect();
         if let Some(first) = self.strangers.first() {
             let count = self.strangers.len();
