@@ -42,8 +42,9 @@ returns-2 c =
     let n = t .before in
     let a = n .before .before .before .args in
     let b = now (a .buf) in
+    let id : i .number2 .result ≡ numberAt (now (a .form)) 1 = i .number2 .ensures in
     let same : removeIn b (a .len) (i .number2 .result) ≡ editIn (now (a .form)) b (a .len) =
-    ap (removeIn b (a .len)) (i .number2 .ensures) ∙ sym (removes (now (a .form)) b (a .len) (λ (e : numberAt (now (a .form)) 0 ≡ 0). t .if1 .left (n .number .ensures ∙ e))) in
+    ap (removeIn b (a .len)) id ∙ sym (removes (now (a .form)) b (a .len) (λ (e : numberAt (now (a .form)) 0 ≡ 0). t .if1 .left (n .number .ensures ∙ e))) in
     subst (λ (x : Answer After). Edits x b (r .remove .result) (r .remove .last .0)) same (r .remove .ensures)
 
 pub edited-spec : {M : Type 1} → statement M
