@@ -15,13 +15,14 @@ use Rattle.sheet.specs.Header.{readHeader}
 use Rattle.sheet.specs.Record.{recordIn, readRecord}
 use Rattle.plating.specs.Rules.{K2}
 use Rattle.framing.specs.Rules.{rule4, rule5, rule6, memberLine}
+use Rattle.hull.specs.Raising.{InGauge}
 use Rattle.checker.specs.declared.Checked.the-variants.{Done}
 use Rattle.checker.specs.Entry.{entryBytes, entryFault, entryIn, readEntry}
 use Rattle.checker.specs.Check.{_then_, demand, sheetHeader, headerFor, partsFrom, soundAfter, recordsIn, sheetIn, entryOf, verdicts, bytesOf, failures}
 use Rattle.demands.specs.Table.{Row, HeaderSound}
 use Rattle.demands.specs.SlenderRead.{later-version}
 use Rattle.demands.specs.Program.{Program, fourAt, Leaves}
-use Rattle.demands.specs.Raise.{raisedBy, raisedTimes, withScantling, InGauge, meetsRule}
+use Rattle.demands.specs.Raise.{raisedBy, raisedTimes, withScantling, meetsRule}
 use Rattle.demands.specs.Demands.{Third, Demands}
 use Rattle.demands.specs.Sources.{SourceSaid}
 use Rattle.demands.specs.Empty.{ShutOut, DropsSource}

@@ -7,14 +7,14 @@ use lib.ListN.{length, drop}
 use lib.Dec.{eqb}
 use Rattle.sheet.specs.Exactly.{Exactly}
 use Rattle.hull.specs.Hull.{finding}
-use Rattle.hull.specs.Raising.{raised}
+use Rattle.hull.specs.Raising.{putRecord, InGauge}
 use Rattle.checker.specs.declared.Entry.{Entry}
 use Rattle.checker.specs.declared.Checked.the-variants.{Done}
 use Rattle.checker.specs.Entry.{entryBytes}
 use Rattle.checker.specs.Check.{entryWith}
 use Rattle.demands.specs.Table.{headSize, countOf, idOf, HeaderSound, TooSlender, Row, Accepted}
 use Rattle.demands.specs.Program.{Program, Refuses, fourAt, Leaves}
-use Rattle.demands.specs.Raise.{theHeader, theRecord, withScantling, InGauge, Reaches, meetsRule, raisedTimes}
+use Rattle.demands.specs.Raise.{theHeader, theRecord, withScantling, Reaches, meetsRule, raisedTimes}
 
 -- a sheet is accepted, or turned away by a row of the table
 pub data Covered (s : List ℕ) (room : ℕ) : Type 0 where
@@ -70,7 +70,7 @@ pub record Third (P : Program) (s out : List ℕ) (n i : ℕ) (e : Entry) : Type
   -- with x of the gauge in the scantling's place the sheet meets the rule exactly when x is not below the number; with no number, for no x
   pub least-number : (x : ℕ) → InGauge (e .rule) x → Exactly (meetsRule (withScantling i (e .rule) x s) i (e .rule) ≡ true) (Reaches (e .required) x)
   -- record i of that sheet is the record as it was with x in that place
-  pub with-record : (x : ℕ) → InGauge (e .rule) x → theRecord (withScantling i (e .rule) x s) i ≡ raised (record { rule = e .rule; required = x }) (theRecord s i)
+  pub with-record : (x : ℕ) → InGauge (e .rule) x → theRecord (withScantling i (e .rule) x s) i ≡ putRecord (e .rule) x (theRecord s i)
   -- the sheet is accepted, with n again
   pub with-accepted : (x : ℕ) → InGauge (e .rule) x → (failed : ℕ) × (P .answer (withScantling i (e .rule) x s) out ≡ Done n failed)
   -- what is read at 4i then is a pass or a later rule exactly when x is not below the number

@@ -16,10 +16,12 @@ use Rattle.sheet.specs.Exactly.{Exactly, exactly-of, exactly-then}
 use Rattle.sheet.specs.Record.{recordFault, recordBytes}
 use Rattle.sheet.specs.RecordBack.{record-read-fine}
 use Rattle.verdict.specs.declared.Verdict.{Verdict}
-use Rattle.verdict.specs.Raising.{Found, passes as meetsAll, fails as failsOne, found, Later as LaterVerdict, passed as passedVerdict, above as aboveVerdict}
+use Rattle.verdict.specs.Raising.{Later as LaterVerdict, passed as passedVerdict, above as aboveVerdict}
+use Rattle.verdict.specs.Verdict.{metIn}
 use Rattle.hull.specs.Hull.{rulesOf, verdict, finding}
-use Rattle.hull.specs.Raising.{raised, raisedOnce, raisedTimes as raisedRecord}
-use Rattle.hull.specs.RaisingLaws.{three-raisings}
+use Rattle.hull.specs.Raising.{raised, putRecord, InGauge, OwnRule, raisedOnce, raisedTimes as raisedRecord}
+use Rattle.hull.specs.PutLaws.{own-sound}
+use Rattle.hull.specs.RaisingLaws.{with-number, three-raisings}
 use Rattle.checker.specs.declared.Entry.{Entry}
 use Rattle.checker.specs.declared.Checked.{Checked}
 use Rattle.checker.specs.declared.Checked.the-variants.{Done, Refused as notDone}
@@ -29,11 +31,11 @@ use Rattle.checker.specs.ThenLaws.{then-given}
 use Rattle.checker.specs.CheckLaws.{Taken, none, next, sheet-whole, record-given, verdict-at, verdict-read, verdicts-count, rest-as-lent, answer-done, output-done, bytes-length, refused-as-lent}
 use Rattle.demands.specs.Table.{headSize, countOf, HeaderSound, TooSlender, Row, Accepted}
 use Rattle.demands.specs.Program.{Program, Meets, fourAt, Leaves}
-use Rattle.demands.specs.Raise.{theHeader, theRecord, replaced, withScantling, InGauge, OwnRule, Reaches, metIn, meetsRule, raisedBy, raisedTimes}
+use Rattle.demands.specs.Raise.{theHeader, theRecord, replaced, withScantling, Reaches, meetsRule, raisedBy, raisedTimes}
 use Rattle.demands.specs.Demands.{Covered, accepted, turned-away, First, entryOn, failedFrom, Second, Later, passed, above, Third, Settled, passes, none-meets, ThreeRaisings, Demands}
 use Rattle.demands.specs.FieldsRead.{recordsOf, records-read, record-sound, record-id-field}
 use Rattle.demands.specs.Rows as rows
-use Rattle.demands.specs.Scantling.{putRecord, own-sound, rule-above, named-own, number-in-gauge, met-exactly, later-exactly}
+use Rattle.demands.specs.Scantling.{rule-above, named-own, number-in-gauge, met-exactly, later-exactly}
 use Rattle.demands.specs.Exchange as exchange
 
 -- ---- a sheet that is not refused
@@ -91,11 +93,7 @@ module _ (s out : List ℕ) (t : Sheet) (given-t : sheetIn s (length out) ≡ gi
 
 -- a verdict with a number has a rule
 rule-of : (h : Header) (r : Record) → 1 ≤ verdict h r .required → 1 ≤ verdict h r .rule
-rule-of h r l = go (found (rulesOf h r))
-  where
-    go : Found (rulesOf h r) → 1 ≤ verdict h r .rule
-    go (meetsAll m p) = absurd (omega (arith, ap (λ (v : Verdict). v .required) p))
-    go (failsOne f) = omega (arith, rule-above h r f)
+rule-of h r l = rule-above h r (with-number h r l)
 
 -- ---- a program that meets the promise
 

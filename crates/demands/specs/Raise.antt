@@ -1,21 +1,18 @@
 -- Another number in place of a scantling, on a sheet of bytes; and raising a scantling to the number that a program names for it.
 use Prim.Native.Nat.{ℕ, zero, suc, _+_, _≤_}
-use mathlib.Core.Bool.{Bool, false, cond}
-use mathlib.Core.List.{List, [], _∷_, _++_}
+use mathlib.Core.Bool.{Bool, cond}
+use mathlib.Core.List.{List, _++_}
 use lib.ListN.{take, drop}
 use lib.Dec.{eqb}
-use Rattle.quantity.specs.Range.{thickness, modulus, shearArea}
 use Rattle.sheet.specs.declared.Header.{Header}
-use Rattle.sheet.specs.declared.Body.{Body}
-use Rattle.sheet.specs.declared.Body.the-variants.{Plate as isPlate, Member as isMember}
 use Rattle.sheet.specs.declared.Record.{Record}
 use Rattle.sheet.specs.Refusals.{Answer, given, refused}
 use Rattle.sheet.specs.Header.{headerOf}
 use Rattle.sheet.specs.Record.{recordBytes}
 use Rattle.sheet.specs.RecordLaws.{recordAt}
-use Rattle.verdict.specs.Verdict.{Rule}
+use Rattle.verdict.specs.Verdict.{metIn}
 use Rattle.hull.specs.Hull.{rulesOf}
-use Rattle.hull.specs.Raising.{raised}
+use Rattle.hull.specs.Raising.{putRecord}
 use Rattle.checker.specs.declared.Entry.{Entry}
 use Rattle.checker.specs.Entry.{readEntry}
 use Rattle.demands.specs.Table.{recordStart, numberOf}
@@ -35,29 +32,11 @@ replaced i b s = take (recordStart s i) s ++ (b ++ drop (recordStart s i + 16) s
 
 -- the sheet with x in place of the scantling of record i that rule k speaks of: T for rules 1 to 4, W for rule 5, A for rule 6
 unfoldable pub withScantling : (i k x : ℕ) → List ℕ → List ℕ
-withScantling i k x s = replaced i (recordBytes (raised (record { rule = k; required = x }) (theRecord s i))) s
-
--- the highest number of that scantling's gauge, which begins at 1
-abbrev pub gaugeTop : ℕ → ℕ
-gaugeTop k = cond (eqb k 5) (modulus .high) (cond (eqb k 6) (shearArea .high) (thickness .high))
-
--- x is in the gauge of the scantling that rule k speaks of
-abbrev pub InGauge : (k x : ℕ) → Type 0
-InGauge k x = (1 ≤ x) × (x ≤ gaugeTop k)
-
--- rule k is one of the three that a record with this body answers to
-abbrev pub OwnRule : Body → ℕ → Type 0
-OwnRule (isPlate p) k = (1 ≤ k) × (k ≤ 3)
-OwnRule (isMember m) k = (4 ≤ k) × (k ≤ 6)
+withScantling i k x s = replaced i (recordBytes (putRecord k x (theRecord s i))) s
 
 -- there is a number q, 0 being none, and x is not below it
 abbrev pub Reaches : (q x : ℕ) → Type 0
 Reaches q x = (1 ≤ q) × (q ≤ x)
-
--- whether the rule of this number is met, among these
-abbrev pub metIn : ℕ → List Rule → Bool
-metIn k [] = false
-metIn k (r ∷ rs) = cond (eqb (r .number) k) (r .asks (r .has)) (metIn k rs)
 
 -- whether record i of the sheet meets rule k
 abbrev pub meetsRule : List ℕ → (i k : ℕ) → Bool

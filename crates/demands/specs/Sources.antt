@@ -7,13 +7,14 @@ use Rattle.layout.specs.Layout.{pack, unpack, bytes}
 use Rattle.loads.specs.Sources.{Decides}
 use Rattle.verdict.specs.declared.Verdict.{Verdict}
 use Rattle.hull.specs.Hull.{verdict}
+use Rattle.hull.specs.Raising.{InGauge, OwnRule}
 use Rattle.hull.specs.Sources.{loadsOn, pressureOn}
 use Rattle.checker.specs.declared.Entry.{Entry}
 use Rattle.checker.specs.declared.Checked.the-variants.{Done}
 use Rattle.checker.specs.Entry.{verdictWidths}
 use Rattle.demands.specs.Table.{idOf}
 use Rattle.demands.specs.Program.{Program, fourAt, Leaves}
-use Rattle.demands.specs.Raise.{theHeader, theRecord, withScantling, InGauge, OwnRule, raisedTimes}
+use Rattle.demands.specs.Raise.{theHeader, theRecord, withScantling, raisedTimes}
 
 -- four bytes with 0 in the last two bits
 abbrev pub cleared : List ℕ → List ℕ

@@ -10,7 +10,7 @@ use Rattle.sheet.specs.declared.Header.{Header}
 use Rattle.sheet.specs.declared.Record.{Record}
 use Rattle.sheet.specs.RefusalLaws.{given-same}
 use Rattle.hull.specs.Hull.{verdict, sourceOf, finding}
-use Rattle.hull.specs.Raising.{raisedTimes as raisedRecord}
+use Rattle.hull.specs.Raising.{putRecord, OwnRule, raisedTimes as raisedRecord}
 use Rattle.hull.specs.Sources.{loadsOn, pressureOn}
 use Rattle.hull.specs.SourceLaws.{source-right, source-most, raising-source, times-source}
 use Rattle.checker.specs.declared.Entry.{Entry}
@@ -18,11 +18,10 @@ use Rattle.checker.specs.declared.Checked.the-variants.{Done}
 use Rattle.checker.specs.Entry.{verdictWidths, entryBytes}
 use Rattle.checker.specs.Check.{Sheet, entryWith, entryOf}
 use Rattle.demands.specs.Program.{Program, Meets, Leaves}
-use Rattle.demands.specs.Raise.{theHeader, theRecord, withScantling, OwnRule, raisedTimes}
+use Rattle.demands.specs.Raise.{theHeader, theRecord, withScantling, raisedTimes}
 use Rattle.demands.specs.Demands.{entryOn}
 use Rattle.demands.specs.Sources.{cleared, sourceless, SourceSaid, SaysSources}
 use Rattle.demands.specs.Exchange as exchange
-use Rattle.demands.specs.Scantling.{putRecord}
 use Rattle.demands.specs.Proved.{second-demand, holds-leaves, holds-done, put-own, times-holds, at-first, taken, inside, its}
 
 -- ---- the bytes

@@ -2,5 +2,6 @@ pub mod Hull
 pub mod Sources
 pub mod Cases
 pub mod Raising
+pub mod PutLaws
 pub mod RaisingLaws
 pub mod SourceLaws

@@ -1,7 +1,8 @@
--- Raising the scantling that fails to the number required, all else held.
-use Prim.Native.Nat.{ℕ, zero, suc}
+-- Another number in place of a scantling, all else held, and raising the one that fails to the number required.
+use Prim.Native.Nat.{ℕ, zero, suc, _+_, _≤_}
 use mathlib.Core.Bool.{cond}
 use lib.Dec.{eqb}
+use Rattle.quantity.specs.Range.{thickness, modulus, shearArea}
 use Rattle.sheet.specs.declared.Header.{Header}
 use Rattle.sheet.specs.declared.Plate.{Plate}
 use Rattle.sheet.specs.declared.Member.{Member}
@@ -58,6 +59,30 @@ raisedBody v (isMember m) = isMember (raisedMember v m)
 -- the record with the number of a verdict in place of the scantling that fails
 abbrev pub raised : Verdict → Record → Record
 raised v r = record { kind = r .kind; id = r .id; body = raisedBody v (r .body) }
+
+-- the record with x in place of the scantling that rule k speaks of: T for rules 1 to 4, W for rule 5, A for rule 6
+abbrev pub putBody : (k x : ℕ) → Body → Body
+putBody k x b = raisedBody (record { rule = k; required = x }) b
+
+abbrev pub putRecord : (k x : ℕ) → Record → Record
+putRecord k x r = raised (record { rule = k; required = x }) r
+
+-- the highest number of that scantling's gauge, which begins at 1
+abbrev pub gaugeTop : ℕ → ℕ
+gaugeTop k = cond (eqb k 5) (modulus .high) (cond (eqb k 6) (shearArea .high) (thickness .high))
+
+-- x is in the gauge of the scantling that rule k speaks of
+abbrev pub InGauge : (k x : ℕ) → Type 0
+InGauge k x = (1 ≤ x) × (x ≤ gaugeTop k)
+
+-- the rules of a plate are numbered from 1, those of a member from 4
+abbrev pub base : Body → ℕ
+base (isPlate p) = 0
+base (isMember m) = 3
+
+-- rule k is one of the three that a record with this body answers to
+abbrev pub OwnRule : Body → ℕ → Type 0
+OwnRule b k = (base b + 1 ≤ k) × (k ≤ base b + 3)
 
 -- raised once, where the verdict has a number
 unfoldable pub raisedOnce : Header → Record → Record

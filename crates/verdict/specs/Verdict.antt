@@ -1,7 +1,8 @@
 -- The verdict on one member: the first rule that fails, in their order, with the least number of the gauge that meets it.
 use Prim.Native.Nat.{ℕ}
-use mathlib.Core.Bool.{Bool, cond}
+use mathlib.Core.Bool.{Bool, false, cond}
 use mathlib.Core.List.{List, [], _∷_}
+use lib.Dec.{eqb}
 use Rattle.gauge.specs.declared.Shape.{Shape}
 use Rattle.gauge.specs.Least.{leastIn, numberOf}
 use Rattle.gauge.specs.Shape.{leastOf}
@@ -27,6 +28,11 @@ abbrev pub verdictOf : List Rule → Verdict
 verdictOf [] = pass
 verdictOf (r ∷ rs) = cond (r .asks (r .has)) (verdictOf rs) (failing r)
 
--- the same for a rule given as a shape
+-- whether the rule of this number is met, among these
+abbrev pub metIn : ℕ → List Rule → Bool
+metIn k [] = false
+metIn k (r ∷ rs) = cond (eqb (r .number) k) (r .asks (r .has)) (metIn k rs)
+
+-- a failed rule given as a shape
 abbrev pub failedOf : ℕ → Shape → ℕ → Verdict
 failedOf number d top = record { rule = number; required = numberOf (leastOf d top) }
