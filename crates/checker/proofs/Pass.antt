@@ -15,8 +15,7 @@ use Rattle.sheet.specs.declared.Raw.{Raw}
 use Rattle.sheet.specs.Refusals.{Answer, given, refused}
 use Rattle.sheet.specs.RefusalLaws.{given-refused, refused-number, refused-place, given-same}
 use Rattle.sheet.specs.Header.{headerFault}
-use Rattle.sheet.specs.Record.{recordFault, readRecord}
-use Rattle.sheet.specs.RecordLaws.{rawAt}
+use Rattle.sheet.specs.Record.{recordFault, readRecord, rawAt}
 use Rattle.sheet.specs.RecordBack.{record-read-fine, record-read-raw}
 use Rattle.verdict.specs.Judged.{Finding, judgedBy}
 use Rattle.verdict.specs.JudgedLaws.{given-sound, sound-given}

@@ -22,11 +22,9 @@ use Rattle.sheet.specs.Header.{versionField, versionIn, headerFields, headerOf,
 use Rattle.sheet.specs.Slender.{tooSlender}
 use Rattle.sheet.specs.HeaderLaws.{fields-lines, header-ranges}
 use Rattle.sheet.specs.HeaderBack.{header-read-fine}
-use Rattle.sheet.specs.Record.{plateIn, plateLinesOf, memberLinesOf, recordIn, readRecord}
-use Rattle.sheet.specs.RecordLaws.{recordAt}
-use Rattle.sheet.specs.Exactly.{Cases, byFault}
-use Rattle.sheet.specs.HeaderExactly.{headerCases}
-use Rattle.sheet.specs.RecordExactly.{recordCases, linesAt, fieldsAt, record-by-fields}
+use Rattle.sheet.specs.Record.{plateIn, plateLinesOf, memberLinesOf, recordIn, readRecord, recordAt, linesAt, fieldsAt}
+use Rattle.sheet.specs.Exactly.{Cases, byFault, headerCases, recordCases}
+use Rattle.sheet.specs.RecordExactly.{record-by-fields}
 use Rattle.checker.specs.declared.Entry.{Entry}
 use Rattle.checker.specs.Check.{_then_, demand, sheetHeader, sheetSize, headerFor, recordsPart, recordPart, partsFrom, soundAfter, recordsIn, Sheet, sheetIn, entryOf, verdicts, failures}
 use Rattle.checker.specs.FrontLaws.{header-fits}

@@ -107,6 +107,10 @@ unfoldable pub bytesOf : List Entry → List ℕ
 bytesOf [] = []
 bytesOf (e ∷ es) = entryBytes e ++ bytesOf es
 
+-- the four bytes at 4i of an output
+abbrev pub fourAt : ℕ → List ℕ → List ℕ
+fourAt i out = take 4 (drop (4 * i) out)
+
 -- 1 for a verdict with a rule, else 0
 abbrev pub failing : Entry → ℕ
 failing e = cond (eqb (e .rule) 0) 0 1

@@ -19,8 +19,9 @@ use Rattle.checker.specs.declared.Entry.{Entry}
 use Rattle.checker.specs.Entry.{entryBytes, readEntry}
 use Rattle.checker.specs.EntryLaws.{bytes-read}
 use Rattle.checker.specs.ThenLaws.{then-given}
-use Rattle.checker.specs.FrontLaws.{HeaderFits, header-fits}
-use Rattle.checker.specs.Check.{_then_, headerFor, recordsPart, recordPart, recordOf, partsFrom, soundAfter, recordsIn, Sheet, sheetIn, entryOf, verdicts, bytesOf, failures, Totals, answerOf, outputBy, outputOf}
+use Rattle.checker.specs.Whole.{Taken, none, next, Whole}
+use Rattle.checker.specs.FrontLaws.{header-fits}
+use Rattle.checker.specs.Check.{_then_, headerFor, recordsPart, recordPart, recordOf, partsFrom, soundAfter, recordsIn, Sheet, sheetIn, entryOf, verdicts, bytesOf, fourAt, failures, Totals, answerOf, outputBy, outputOf}
 use Rattle.sheet.specs.RecordBack.{record-read-fine}
 use Rattle.checker.specs.Sound.{entry-sound}
 
@@ -46,11 +47,6 @@ sound-read i before b r e =
     go true q g = (refl, given-same g)
     go false q g = given-refused (sym g)
 
--- records that were taken in turn, the first of them record i
-pub data Taken (s : List ℕ) : (i before : ℕ) → List Record → Type 0 where
-  none : {i before : ℕ} → Taken s i before []
-  next : {i before : ℕ} {r : Record} {rs : List Record} → recordOf s i ≡ given r → before < r .id → Taken s (i + 1) (r .id) rs → Taken s i before (r ∷ rs)
-
 pub taken : (s : List ℕ) (count i before : ℕ) (rs : List Record) → recordsIn i before (partsFrom s i count) ≡ given rs → Taken s i before rs × (length rs ≡ count)
 unfolding recordsIn partsFrom
 taken s zero i before [] e = (none, refl)
@@ -63,12 +59,6 @@ taken s (suc count) i before rs e =
     subst (λ (l : List Record). Taken s i before l × (length l ≡ suc count)) (given-same (b .2)) (next (r .0) (r .1) (t .0), ap suc (t .1))
 
 -- ---- a sheet that is not turned away
-
--- what is known of it
-pub record Whole (s : List ℕ) (room : ℕ) (t : Sheet) : Type 0 where
-  pub header : HeaderFits s room (t .header)
-  pub records : Taken (recordsPart (t .header) s) 0 0 (t .records)
-  pub number : length (t .records) ≡ t .header .count
 
 pub sheet-whole : (s : List ℕ) (room : ℕ) (t : Sheet) → sheetIn s room ≡ given t → Whole s room t
 unfolding sheetIn
@@ -89,7 +79,7 @@ taken-at s i before (r ∷ rs) (next e o t) (suc j) l =
 
 -- its four bytes
 bytes-at : (h : Header) (s tail : List ℕ) (i before : ℕ) (rs : List Record) → Taken s i before rs → (j : ℕ) → j < length rs → (r : Record) → recordOf s (i + j) ≡ given r
-    → take 4 (drop (4 * j) (bytesOf (map (entryOf h) rs) ++ tail)) ≡ entryBytes (entryOf h r)
+    → fourAt j (bytesOf (map (entryOf h) rs) ++ tail) ≡ entryBytes (entryOf h r)
 unfolding bytesOf
 bytes-at h s tail i before [] t j l r e = absurd (omega arith)
 bytes-at h s tail i before (q ∷ rs) (next f o t) zero l r e = ap (λ (a : Record). entryBytes (entryOf h a)) (given-same (sym f ∙ ap (recordOf s) (sym (add-zero i)) ∙ e))
@@ -126,15 +116,15 @@ module _ (s out : List ℕ) (t : Sheet) (given-t : sheetIn s (length out) ≡ gi
       (a .0, ap (recordOf rs) m ∙ a .1)
 
   -- its own four bytes of the output are those of the verdict on it: no other record has a part in them
-  pub verdict-at : (i : ℕ) → i < t .header .count → (r : Record) → recordOf rs i ≡ given r → take 4 (drop (4 * i) (outputOf s out)) ≡ entryBytes (entryOf (t .header) r)
+  pub verdict-at : (i : ℕ) → i < t .header .count → (r : Record) → recordOf rs i ≡ given r → fourAt i (outputOf s out) ≡ entryBytes (entryOf (t .header) r)
   unfolding verdicts
   verdict-at i l r e =
       let m : 0 + i ≡ i = omega arith in
-      ap (λ (o : List ℕ). take 4 (drop (4 * i) o)) output-done
+      ap (fourAt i) output-done
       ∙ bytes-at (t .header) rs (drop (4 * t .header .count) out) 0 0 (t .records) (whole .records) i (omega (arith, whole .number)) r (ap (recordOf rs) m ∙ e)
 
   -- and are read back as that verdict
-  pub verdict-read : (i : ℕ) → i < t .header .count → (r : Record) → recordOf rs i ≡ given r → readEntry (take 4 (drop (4 * i) (outputOf s out))) ≡ given (entryOf (t .header) r)
+  pub verdict-read : (i : ℕ) → i < t .header .count → (r : Record) → recordOf rs i ≡ given r → readEntry (fourAt i (outputOf s out)) ≡ given (entryOf (t .header) r)
   verdict-read i l r e =
       ap readEntry (verdict-at i l r e ∙ sym (append-nil (entryBytes (entryOf (t .header) r))))
       ∙ bytes-read (entryOf (t .header) r) [] (entry-sound (t .header) r (record-read-fine i (recordPart rs i) r e))

@@ -15,6 +15,7 @@ use Rattle.sheet.specs.Header.{readHeader}
 use Rattle.sheet.specs.Slender.{tooSlender}
 use Rattle.checker.specs.ThenLaws.{then-given, demand-given}
 use Rattle.checker.specs.Check.{_then_, demand, sheetHeader, sheetSize, headerFor}
+use Rattle.checker.specs.Whole.{HeaderFits}
 
 -- ---- none of them arises
 
@@ -36,13 +37,6 @@ slim-header s h e slim = rw (e, slim)
 pub header-same : (s t : List ℕ) → readHeader s ≡ readHeader t → sheetHeader s ≡ sheetHeader t
 unfolding sheetHeader
 header-same s t e = rw e
-
--- the header is read and its hull not too slender, the sheet has its length, and the output is long enough
-pub record HeaderFits (s : List ℕ) (room : ℕ) (h : Header) : Type 0 where
-  pub read : readHeader s ≡ given h
-  pub slim : tooSlender h ≡ false
-  pub whole : length s ≡ sheetSize h
-  pub fits : 4 * h .count ≤ room
 
 pub header-fits : (s : List ℕ) (room : ℕ) (h : Header) → headerFor s room ≡ given h → HeaderFits s room h
 unfolding headerFor

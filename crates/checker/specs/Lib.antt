@@ -1,6 +1,8 @@
 pub mod Entry
 pub mod EntryLaws
 pub mod Check
+pub mod Computing
+pub mod Whole
 pub mod ThenLaws
 pub mod FrontLaws
 pub mod Unjudged

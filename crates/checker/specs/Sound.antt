@@ -6,8 +6,10 @@ use mathlib.Core.Bool.{Bool, true, false, cond, _&&_}
 use mathlib.Core.List.{List, [], _∷_}
 use native.Mathlib.Omega.{arith}
 use lib.Dec.{leb, eqb}
-use borrow.Author.Tests.{le-leb, leb-true, ne-eqb}
+use borrow.Author.Tests.{leb-true, ne-eqb}
+use Rattle.truth.specs.Tests.{both}
 use Rattle.quantity.specs.Range.{from, within, modulus}
+use Rattle.quantity.specs.RangeLaws.{lies-within}
 use Rattle.gauge.specs.declared.Least.{Least}
 use Rattle.gauge.specs.declared.Least.the-variants.{At, Nothing}
 use Rattle.gauge.specs.Least.{leastIn, numberOf, Answer as LeastAnswer}
@@ -52,12 +54,8 @@ least-most test top = go (leastIn test top) (least-answers test top)
     go (At k) a = omega (arith, a .within)
     go Nothing a = omega arith
 
-both : (t u : Bool) → (t && u) ≡ true → (t ≡ true) × (u ≡ true)
-both true u e = (refl, e)
-both false u e = (let z : _≡_ {A = ℕ} 0 1 = cc in absurd (omega arith))
-
 up-to : (high v : ℕ) → v ≤ high → within (from 0 high) v ≡ true
-up-to high v l = rw (le-leb 0 v (omega arith), le-leb v high l)
+up-to high v l = lies-within (from 0 high) v (omega arith) l
 
 -- what a verdict carries is allowed
 abbrev Carried : Verdict → Type 0

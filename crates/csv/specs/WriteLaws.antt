@@ -10,7 +10,7 @@ use lib.Dec.{leb, ltb}
 use borrow.Author.Tests.{leb-true, lt-ltb, le-ltb}
 use native.Mathlib.Nat.{pow-le-pow-right}
 use Rattle.layout.specs.Layout.{Fit}
-use Rattle.layout.specs.LineLaws.{both}
+use Rattle.truth.specs.Tests.{both}
 use Rattle.decimal.specs.Decimal.{decimalOf}
 use Rattle.decimal.specs.DecimalLaws.{decimal-most}
 use Rattle.decimal.specs.LineLaws.{line-one, line-more}
@@ -34,7 +34,8 @@ use Rattle.numbers.specs.Fields.{ownNumbers, headerNumbers, recordNumbers, body
 use Rattle.rows.specs.Pack.{fieldsOf}
 use Rattle.rows.specs.Forms.{firstCount, ownCount, recordCount}
 use Rattle.checker.specs.Check.{recordPart, recordsPart, sheetSize, Sheet}
-use Rattle.checker.specs.CheckLaws.{Taken, next, sheet-whole}
+use Rattle.checker.specs.Whole.{Taken, next}
+use Rattle.checker.specs.CheckLaws.{sheet-whole}
 use Rattle.checker.specs.ThenLaws.{then-given}
 use Rattle.checker.specs.Unjudged.{room, soundSheet, soundHeader}
 use Rattle.csv.specs.Write.{headerCells, recordCells, line, linesText, textOf}
@@ -192,7 +193,7 @@ pub record Written (s : List ℕ) (h : Header) : Type 0 where
   pub few : h .count ≤ mostRecords
   pub text : textOf sheet ≡ line (headerCells h) ++ recordsText (recordsPart h s) 0 (h .count)
 
-sound-written : (s : List ℕ) (t : Sheet) → soundSheet s ≡ given t → Written s (t .header)
+pub sound-written : (s : List ℕ) (t : Sheet) → soundSheet s ≡ given t → Written s (t .header)
 unfolding soundSheet textOf linesText
 sound-written s t e =
     let w = sheet-whole s room t e in

@@ -3,10 +3,9 @@
 use mathlib.Core.Path.{_≡_, refl}
 use mathlib.Core.List.{List, [], _∷_}
 use Prim.Native.Nat.{ℕ}
-use Rattle.layout.specs.Bytes.{readOf}
 use Rattle.sheet.specs.Refusals.{given, refused}
-use Rattle.sheet.specs.Header.{rawFault, readHeader}
-use Rattle.sheet.specs.Record.{plateFault, memberFault, recordIn, readRecord}
+use Rattle.sheet.specs.Header.{rawFault}
+use Rattle.sheet.specs.Record.{plateFault, memberFault}
 use Rattle.decimal.specs.Decimal.{digitsIn, decimalOf}
 use Rattle.decimal.specs.Line.{moreOf, lineOf}
 use Rattle.fields.specs.Number.{longerOf, digitOf, digitsOf}
@@ -14,11 +13,16 @@ use Rattle.fields.specs.Marks.{outside, marksAt}
 use Rattle.fields.specs.Lines.{linesOf, linesAt}
 use Rattle.rows.specs.Pack.{below}
 use Rattle.rows.specs.Rows.{headerLine, recordLine}
-use Rattle.checker.specs.Check.{_then_, demand, sheetHeader, headerFor, partsFrom, soundAfter, recordsIn, sheetIn}
+use Rattle.checker.specs.Computing.{reading}
 use Rattle.checker.specs.Unjudged.{soundSheet}
 use Rattle.csv.specs.Read.{recordsMade, sheetMade, sheetFrom}
 use Rattle.csv.specs.Write.{linesText, textOf, textFrom}
 use Rattle.csv_laws.specs.Form.{fieldsText, formOf, writtenForm}
+
+-- all that reading a text computes with, under one name for an `unfolding` line
+converting : Type 0
+unfolding sheetFrom sheetMade recordsMade linesAt linesOf marksAt outside digitsOf digitOf longerOf headerLine recordLine below soundSheet reading rawFault plateFault memberFault
+converting = Unit {0}
 
 -- the document's two members on vessel V, as a sheet, as text, and as another program may write it: some fields quoted, LF alone, none at the end
 abbrev pub sheet : List ℕ
@@ -32,123 +36,123 @@ other = 34 ∷ 49 ∷ 34 ∷ 44 ∷ 56 ∷ 48 ∷ 48 ∷ 48 ∷ 44 ∷ 50 ∷ 53
 
 -- both ways, in outputs that just have room
 text-read : sheetFrom text 44 ≡ given sheet
-unfolding sheetFrom sheetMade recordsMade linesAt linesOf marksAt outside digitsOf digitOf longerOf headerLine recordLine below _then_ demand soundSheet sheetIn headerFor sheetHeader readHeader rawFault partsFrom recordsIn soundAfter readRecord recordIn plateFault memberFault
+unfolding converting
 text-read = refl
 
 sheet-written : textFrom sheet 109 ≡ given text
-unfolding sheetFrom sheetMade recordsMade linesAt linesOf marksAt outside digitsOf digitOf longerOf headerLine recordLine below _then_ demand soundSheet sheetIn headerFor sheetHeader readHeader rawFault partsFrom recordsIn soundAfter readRecord recordIn plateFault memberFault digitsIn decimalOf moreOf lineOf linesText textOf textFrom
+unfolding converting digitsIn decimalOf moreOf lineOf linesText textOf textFrom
 sheet-written = refl
 
 other-read : (sheetFrom other 44 ≡ given sheet) × (writtenForm other ≡ text)
-unfolding sheetFrom sheetMade recordsMade linesAt linesOf marksAt outside digitsOf digitOf longerOf headerLine recordLine below _then_ demand soundSheet sheetIn headerFor sheetHeader readHeader rawFault partsFrom recordsIn soundAfter readRecord recordIn plateFault memberFault fieldsText formOf
+unfolding converting fieldsText formOf
 other-read = (refl, refl)
 
 -- a byte less
 no-room : (sheetFrom text 43 ≡ refused 5 0) × (textFrom sheet 108 ≡ refused 5 0)
-unfolding sheetFrom sheetMade recordsMade linesAt linesOf marksAt outside digitsOf digitOf longerOf headerLine recordLine below _then_ demand soundSheet sheetIn headerFor sheetHeader readHeader rawFault partsFrom recordsIn soundAfter readRecord recordIn plateFault memberFault digitsIn decimalOf moreOf lineOf linesText textOf textFrom
+unfolding converting digitsIn decimalOf moreOf lineOf linesText textOf textFrom
 no-room = (refl, refl)
 
 -- the empty text
 empty : sheetFrom ([]) 6420 ≡ refused 14 1
-unfolding sheetFrom sheetMade recordsMade linesAt linesOf marksAt outside digitsOf digitOf longerOf headerLine recordLine below _then_ demand soundSheet sheetIn headerFor sheetHeader readHeader rawFault partsFrom recordsIn soundAfter readRecord recordIn plateFault memberFault
+unfolding converting
 empty = refl
 
 -- an empty line
 blank : sheetFrom (10 ∷ []) 6420 ≡ refused 14 1
-unfolding sheetFrom sheetMade recordsMade linesAt linesOf marksAt outside digitsOf digitOf longerOf headerLine recordLine below _then_ demand soundSheet sheetIn headerFor sheetHeader readHeader rawFault partsFrom recordsIn soundAfter readRecord recordIn plateFault memberFault
+unfolding converting
 blank = refl
 
 -- an empty line at the end
 blank-behind : sheetFrom (49 ∷ 44 ∷ 56 ∷ 48 ∷ 48 ∷ 48 ∷ 44 ∷ 50 ∷ 53 ∷ 48 ∷ 44 ∷ 54 ∷ 48 ∷ 44 ∷ 48 ∷ 44 ∷ 50 ∷ 48 ∷ 48 ∷ 48 ∷ 48 ∷ 44 ∷ 50 ∷ 48 ∷ 48 ∷ 48 ∷ 48 ∷ 48 ∷ 44 ∷ 48 ∷ 13 ∷ 10 ∷ 13 ∷ 10 ∷ []) 6420 ≡ refused 14 2
-unfolding sheetFrom sheetMade recordsMade linesAt linesOf marksAt outside digitsOf digitOf longerOf headerLine recordLine below _then_ demand soundSheet sheetIn headerFor sheetHeader readHeader rawFault partsFrom recordsIn soundAfter readRecord recordIn plateFault memberFault
+unfolding converting
 blank-behind = refl
 
 -- a quote that is not closed
 unclosed : sheetFrom (34 ∷ 49 ∷ 44 ∷ 56 ∷ 48 ∷ 48 ∷ 48 ∷ 10 ∷ []) 6420 ≡ refused 14 1
-unfolding sheetFrom sheetMade recordsMade linesAt linesOf marksAt outside digitsOf digitOf longerOf headerLine recordLine below _then_ demand soundSheet sheetIn headerFor sheetHeader readHeader rawFault partsFrom recordsIn soundAfter readRecord recordIn plateFault memberFault
+unfolding converting
 unclosed = refl
 
 -- a quote inside a plain field
 misplaced : sheetFrom (49 ∷ 44 ∷ 56 ∷ 48 ∷ 48 ∷ 48 ∷ 44 ∷ 50 ∷ 53 ∷ 48 ∷ 44 ∷ 54 ∷ 48 ∷ 44 ∷ 48 ∷ 44 ∷ 50 ∷ 48 ∷ 48 ∷ 48 ∷ 48 ∷ 44 ∷ 50 ∷ 48 ∷ 48 ∷ 48 ∷ 48 ∷ 48 ∷ 44 ∷ 48 ∷ 10 ∷ 50 ∷ 44 ∷ 55 ∷ 34 ∷ 10 ∷ []) 6420 ≡ refused 14 2
-unfolding sheetFrom sheetMade recordsMade linesAt linesOf marksAt outside digitsOf digitOf longerOf headerLine recordLine below _then_ demand soundSheet sheetIn headerFor sheetHeader readHeader rawFault partsFrom recordsIn soundAfter readRecord recordIn plateFault memberFault
+unfolding converting
 misplaced = refl
 
 -- a blank behind a closing quote
 followed : sheetFrom (34 ∷ 49 ∷ 34 ∷ 32 ∷ 44 ∷ 56 ∷ 48 ∷ 48 ∷ 48 ∷ []) 6420 ≡ refused 14 1
-unfolding sheetFrom sheetMade recordsMade linesAt linesOf marksAt outside digitsOf digitOf longerOf headerLine recordLine below _then_ demand soundSheet sheetIn headerFor sheetHeader readHeader rawFault partsFrom recordsIn soundAfter readRecord recordIn plateFault memberFault
+unfolding converting
 followed = refl
 
 -- a doubled quote is a byte of its field, which is no number then
 doubled : sheetFrom (49 ∷ 44 ∷ 56 ∷ 48 ∷ 48 ∷ 48 ∷ 44 ∷ 50 ∷ 53 ∷ 48 ∷ 44 ∷ 54 ∷ 48 ∷ 44 ∷ 48 ∷ 44 ∷ 50 ∷ 48 ∷ 48 ∷ 48 ∷ 48 ∷ 44 ∷ 50 ∷ 48 ∷ 48 ∷ 48 ∷ 48 ∷ 48 ∷ 44 ∷ 34 ∷ 48 ∷ 34 ∷ 34 ∷ 34 ∷ []) 6420 ≡ refused 14 1
-unfolding sheetFrom sheetMade recordsMade linesAt linesOf marksAt outside digitsOf digitOf longerOf headerLine recordLine below _then_ demand soundSheet sheetIn headerFor sheetHeader readHeader rawFault partsFrom recordsIn soundAfter readRecord recordIn plateFault memberFault
+unfolding converting
 doubled = refl
 
 -- a leading zero
 leading : sheetFrom (49 ∷ 44 ∷ 48 ∷ 56 ∷ 48 ∷ 48 ∷ 48 ∷ 44 ∷ 50 ∷ 53 ∷ 48 ∷ 44 ∷ 54 ∷ 48 ∷ 44 ∷ 48 ∷ 44 ∷ 50 ∷ 48 ∷ 48 ∷ 48 ∷ 48 ∷ 44 ∷ 50 ∷ 48 ∷ 48 ∷ 48 ∷ 48 ∷ 48 ∷ 44 ∷ 48 ∷ []) 6420 ≡ refused 14 1
-unfolding sheetFrom sheetMade recordsMade linesAt linesOf marksAt outside digitsOf digitOf longerOf headerLine recordLine below _then_ demand soundSheet sheetIn headerFor sheetHeader readHeader rawFault partsFrom recordsIn soundAfter readRecord recordIn plateFault memberFault
+unfolding converting
 leading = refl
 
 -- a CR alone
 bare : sheetFrom (49 ∷ 44 ∷ 56 ∷ 48 ∷ 48 ∷ 48 ∷ 44 ∷ 50 ∷ 53 ∷ 48 ∷ 44 ∷ 54 ∷ 48 ∷ 44 ∷ 48 ∷ 44 ∷ 50 ∷ 48 ∷ 48 ∷ 48 ∷ 48 ∷ 44 ∷ 50 ∷ 48 ∷ 48 ∷ 48 ∷ 48 ∷ 48 ∷ 44 ∷ 48 ∷ 13 ∷ []) 6420 ≡ refused 14 1
-unfolding sheetFrom sheetMade recordsMade linesAt linesOf marksAt outside digitsOf digitOf longerOf headerLine recordLine below _then_ demand soundSheet sheetIn headerFor sheetHeader readHeader rawFault partsFrom recordsIn soundAfter readRecord recordIn plateFault memberFault
+unfolding converting
 bare = refl
 
 -- a byte-order mark
 mark : sheetFrom (239 ∷ 187 ∷ 191 ∷ 49 ∷ 44 ∷ 56 ∷ 48 ∷ 48 ∷ 48 ∷ 44 ∷ 50 ∷ 53 ∷ 48 ∷ 44 ∷ 54 ∷ 48 ∷ 44 ∷ 48 ∷ 44 ∷ 50 ∷ 48 ∷ 48 ∷ 48 ∷ 48 ∷ 44 ∷ 50 ∷ 48 ∷ 48 ∷ 48 ∷ 48 ∷ 48 ∷ 44 ∷ 48 ∷ []) 6420 ≡ refused 14 1
-unfolding sheetFrom sheetMade recordsMade linesAt linesOf marksAt outside digitsOf digitOf longerOf headerLine recordLine below _then_ demand soundSheet sheetIn headerFor sheetHeader readHeader rawFault partsFrom recordsIn soundAfter readRecord recordIn plateFault memberFault
+unfolding converting
 mark = refl
 
 -- 2 to the power of the field's bits
 wide : sheetFrom (49 ∷ 44 ∷ 49 ∷ 54 ∷ 51 ∷ 56 ∷ 52 ∷ 44 ∷ 50 ∷ 53 ∷ 48 ∷ 44 ∷ 54 ∷ 48 ∷ 44 ∷ 48 ∷ 44 ∷ 50 ∷ 48 ∷ 48 ∷ 48 ∷ 48 ∷ 44 ∷ 50 ∷ 48 ∷ 48 ∷ 48 ∷ 48 ∷ 48 ∷ 44 ∷ 48 ∷ []) 6420 ≡ refused 14 1
-unfolding sheetFrom sheetMade recordsMade linesAt linesOf marksAt outside digitsOf digitOf longerOf headerLine recordLine below _then_ demand soundSheet sheetIn headerFor sheetHeader readHeader rawFault partsFrom recordsIn soundAfter readRecord recordIn plateFault memberFault
+unfolding converting
 wide = refl
 
 -- runs of one bit
 runs : sheetFrom (49 ∷ 44 ∷ 56 ∷ 48 ∷ 48 ∷ 48 ∷ 44 ∷ 50 ∷ 53 ∷ 48 ∷ 44 ∷ 54 ∷ 48 ∷ 44 ∷ 50 ∷ 44 ∷ 50 ∷ 48 ∷ 48 ∷ 48 ∷ 48 ∷ 44 ∷ 50 ∷ 48 ∷ 48 ∷ 48 ∷ 48 ∷ 48 ∷ 44 ∷ 48 ∷ []) 6420 ≡ refused 14 1
-unfolding sheetFrom sheetMade recordsMade linesAt linesOf marksAt outside digitsOf digitOf longerOf headerLine recordLine below _then_ demand soundSheet sheetIn headerFor sheetHeader readHeader rawFault partsFrom recordsIn soundAfter readRecord recordIn plateFault memberFault
+unfolding converting
 runs = refl
 
 -- a version of more than four bits
 version-wide : sheetFrom (49 ∷ 54 ∷ 44 ∷ 56 ∷ 48 ∷ 48 ∷ 48 ∷ []) 6420 ≡ refused 14 1
-unfolding sheetFrom sheetMade recordsMade linesAt linesOf marksAt outside digitsOf digitOf longerOf headerLine recordLine below _then_ demand soundSheet sheetIn headerFor sheetHeader readHeader rawFault partsFrom recordsIn soundAfter readRecord recordIn plateFault memberFault
+unfolding converting
 version-wide = refl
 
 -- a header of two fields
 header-count : sheetFrom (49 ∷ 44 ∷ 56 ∷ 48 ∷ 48 ∷ 48 ∷ []) 6420 ≡ refused 15 1
-unfolding sheetFrom sheetMade recordsMade linesAt linesOf marksAt outside digitsOf digitOf longerOf headerLine recordLine below _then_ demand soundSheet sheetIn headerFor sheetHeader readHeader rawFault partsFrom recordsIn soundAfter readRecord recordIn plateFault memberFault
+unfolding converting
 header-count = refl
 
 -- version 2 with the fields of version 1
 header-count-2 : sheetFrom (50 ∷ 44 ∷ 56 ∷ 48 ∷ 48 ∷ 48 ∷ 44 ∷ 50 ∷ 53 ∷ 48 ∷ 44 ∷ 54 ∷ 48 ∷ 44 ∷ 48 ∷ 44 ∷ 50 ∷ 48 ∷ 48 ∷ 48 ∷ 48 ∷ 44 ∷ 50 ∷ 48 ∷ 48 ∷ 48 ∷ 48 ∷ 48 ∷ 44 ∷ 48 ∷ []) 6420 ≡ refused 15 1
-unfolding sheetFrom sheetMade recordsMade linesAt linesOf marksAt outside digitsOf digitOf longerOf headerLine recordLine below _then_ demand soundSheet sheetIn headerFor sheetHeader readHeader rawFault partsFrom recordsIn soundAfter readRecord recordIn plateFault memberFault
+unfolding converting
 header-count-2 = refl
 
 -- a plate of three fields, of which one is no number
 plate-count : sheetFrom (49 ∷ 44 ∷ 56 ∷ 48 ∷ 48 ∷ 48 ∷ 44 ∷ 50 ∷ 53 ∷ 48 ∷ 44 ∷ 54 ∷ 48 ∷ 44 ∷ 48 ∷ 44 ∷ 50 ∷ 48 ∷ 48 ∷ 48 ∷ 48 ∷ 44 ∷ 50 ∷ 48 ∷ 48 ∷ 48 ∷ 48 ∷ 48 ∷ 44 ∷ 48 ∷ 10 ∷ 50 ∷ 44 ∷ 55 ∷ 44 ∷ 120 ∷ 10 ∷ []) 6420 ≡ refused 15 2
-unfolding sheetFrom sheetMade recordsMade linesAt linesOf marksAt outside digitsOf digitOf longerOf headerLine recordLine below _then_ demand soundSheet sheetIn headerFor sheetHeader readHeader rawFault partsFrom recordsIn soundAfter readRecord recordIn plateFault memberFault
+unfolding converting
 plate-count = refl
 
 -- a member of three
 member-count : sheetFrom (49 ∷ 44 ∷ 56 ∷ 48 ∷ 48 ∷ 48 ∷ 44 ∷ 50 ∷ 53 ∷ 48 ∷ 44 ∷ 54 ∷ 48 ∷ 44 ∷ 48 ∷ 44 ∷ 50 ∷ 48 ∷ 48 ∷ 48 ∷ 48 ∷ 44 ∷ 50 ∷ 48 ∷ 48 ∷ 48 ∷ 48 ∷ 48 ∷ 44 ∷ 48 ∷ 10 ∷ 50 ∷ 44 ∷ 55 ∷ 44 ∷ 49 ∷ 48 ∷ 48 ∷ 48 ∷ 44 ∷ 48 ∷ 44 ∷ 53 ∷ 48 ∷ 48 ∷ 44 ∷ 54 ∷ 48 ∷ 48 ∷ 44 ∷ 48 ∷ 44 ∷ 48 ∷ 44 ∷ 48 ∷ 44 ∷ 48 ∷ 44 ∷ 48 ∷ 10 ∷ 53 ∷ 44 ∷ 49 ∷ 50 ∷ 44 ∷ 48 ∷ []) 6420 ≡ refused 15 3
-unfolding sheetFrom sheetMade recordsMade linesAt linesOf marksAt outside digitsOf digitOf longerOf headerLine recordLine below _then_ demand soundSheet sheetIn headerFor sheetHeader readHeader rawFault partsFrom recordsIn soundAfter readRecord recordIn plateFault memberFault
+unfolding converting
 member-count = refl
 
 -- a version that is not known, with anything behind it
 version : sheetFrom (51 ∷ 44 ∷ 120 ∷ []) 6420 ≡ refused 2 0
-unfolding sheetFrom sheetMade recordsMade linesAt linesOf marksAt outside digitsOf digitOf longerOf headerLine recordLine below _then_ demand soundSheet sheetIn headerFor sheetHeader readHeader rawFault partsFrom recordsIn soundAfter readRecord recordIn plateFault memberFault
+unfolding converting
 version = refl
 
 -- a length that fits its field and is not allowed
 value : sheetFrom (49 ∷ 44 ∷ 56 ∷ 44 ∷ 50 ∷ 53 ∷ 48 ∷ 44 ∷ 54 ∷ 48 ∷ 44 ∷ 48 ∷ 44 ∷ 50 ∷ 48 ∷ 48 ∷ 48 ∷ 48 ∷ 44 ∷ 50 ∷ 48 ∷ 48 ∷ 48 ∷ 48 ∷ 48 ∷ 44 ∷ 48 ∷ []) 6420 ≡ refused 3 2
-unfolding sheetFrom sheetMade recordsMade linesAt linesOf marksAt outside digitsOf digitOf longerOf headerLine recordLine below _then_ demand soundSheet sheetIn headerFor sheetHeader readHeader rawFault partsFrom recordsIn soundAfter readRecord recordIn plateFault memberFault
+unfolding converting
 value = refl
 
 -- a line of a record too many
 lines : sheetFrom (49 ∷ 44 ∷ 56 ∷ 48 ∷ 48 ∷ 48 ∷ 44 ∷ 50 ∷ 53 ∷ 48 ∷ 44 ∷ 54 ∷ 48 ∷ 44 ∷ 48 ∷ 44 ∷ 50 ∷ 48 ∷ 48 ∷ 48 ∷ 48 ∷ 44 ∷ 50 ∷ 48 ∷ 48 ∷ 48 ∷ 48 ∷ 48 ∷ 44 ∷ 48 ∷ 10 ∷ 50 ∷ 44 ∷ 55 ∷ 44 ∷ 49 ∷ 48 ∷ 48 ∷ 48 ∷ 44 ∷ 48 ∷ 44 ∷ 53 ∷ 48 ∷ 48 ∷ 44 ∷ 54 ∷ 48 ∷ 48 ∷ 44 ∷ 48 ∷ 44 ∷ 48 ∷ 44 ∷ 48 ∷ 44 ∷ 48 ∷ 44 ∷ 48 ∷ []) 6420 ≡ refused 4 0
-unfolding sheetFrom sheetMade recordsMade linesAt linesOf marksAt outside digitsOf digitOf longerOf headerLine recordLine below _then_ demand soundSheet sheetIn headerFor sheetHeader readHeader rawFault partsFrom recordsIn soundAfter readRecord recordIn plateFault memberFault
+unfolding converting
 lines = refl
 
 -- a kind that is not known, with anything behind it
 kind : sheetFrom (49 ∷ 44 ∷ 56 ∷ 48 ∷ 48 ∷ 48 ∷ 44 ∷ 50 ∷ 53 ∷ 48 ∷ 44 ∷ 54 ∷ 48 ∷ 44 ∷ 48 ∷ 44 ∷ 50 ∷ 48 ∷ 48 ∷ 48 ∷ 48 ∷ 44 ∷ 50 ∷ 48 ∷ 48 ∷ 48 ∷ 48 ∷ 48 ∷ 44 ∷ 49 ∷ 10 ∷ 57 ∷ 44 ∷ 34 ∷ 97 ∷ 44 ∷ 98 ∷ 34 ∷ []) 6420 ≡ refused 6 0
-unfolding sheetFrom sheetMade recordsMade linesAt linesOf marksAt outside digitsOf digitOf longerOf headerLine recordLine below _then_ demand soundSheet sheetIn headerFor sheetHeader readHeader rawFault partsFrom recordsIn soundAfter readRecord recordIn plateFault memberFault
+unfolding converting
 kind = refl

@@ -10,7 +10,7 @@ use native.Mathlib.Nat.{pow-le-pow-right}
 use lib.ListN.{length, length-append}
 use lib.Dec.{leb, eqb}
 use borrow.Author.Tests.{eq-eqb, ne-eqb, eqb-true, eqb-false, leb-true, leb-false, lt-leb, le-leb}
-use Rattle.layout.specs.LineLaws.{clash}
+use Rattle.truth.specs.Tests.{clash}
 use Rattle.decimal.specs.Decimal.{decimalOf}
 use Rattle.sheet.specs.declared.Header.{Header}
 use Rattle.sheet.specs.Refusals.{Answer, given, refused}

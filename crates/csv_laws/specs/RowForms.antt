@@ -14,7 +14,7 @@ use Rattle.layout.specs.Layout.{total, pack, unpack, bytes, Fit}
 use Rattle.layout.specs.Laws.{unpack-fit, unpack-pack, length-unpack, length-bytes, fields-again, pack-lt, pack-unpack-lt}
 use Rattle.layout.specs.Bytes.{readOf}
 use Rattle.layout.specs.BytesLaws.{read-all}
-use Rattle.layout.specs.LineLaws.{both, clash}
+use Rattle.truth.specs.Tests.{both, clash}
 use Rattle.decimal.specs.Decimal.{decimalOf}
 use Rattle.decimal.specs.Line.{lineOf, moreOf}
 use Rattle.fields.specs.Number.{numberOf, valueOf}
@@ -35,8 +35,8 @@ use Rattle.numbers.specs.Fields.{ownNumbers}
 use Rattle.sheet.specs.Refusals.{given, refused}
 use Rattle.sheet.specs.RefusalLaws.{given-same, given-refused}
 use Rattle.sheet.specs.HeaderLaws.{flag-written, header-version}
-use Rattle.sheet.specs.Record.{plateAt, memberAt, plateRecord, memberRecord, plateFault, memberFault, recordFault, readRecord}
-use Rattle.sheet.specs.RecordLaws.{recordAt, plate-ranges, member-ranges}
+use Rattle.sheet.specs.Record.{plateAt, memberAt, plateRecord, memberRecord, plateFault, memberFault, recordFault, readRecord, recordAt}
+use Rattle.sheet.specs.RecordLaws.{plate-ranges, member-ranges}
 use Rattle.sheet.specs.RecordBack.{record-read-fine, record-read-raw}
 use Rattle.rows.specs.Forms.{firstCount, ownCount, recordWidths, recordCount}
 use Rattle.rows.specs.Rows.{kinds, firstOf, taken, lineBy, firstsOf, ownsOf, headerMade, headerLine, recordsOf, recordMade, recordLine}

@@ -16,7 +16,8 @@ use Rattle.sheet.specs.HeaderBack.{header-bytes-same, read-holds}
 use Rattle.sheet.specs.Record.{recordFault, readRecord, recordBytes, writeRecord}
 use Rattle.sheet.specs.RecordBack.{record-read-fine, record-written-onto}
 use Rattle.checker.specs.Check.{recordsPart, recordPart, Sheet}
-use Rattle.checker.specs.CheckLaws.{Taken, none, next, part-taken, sheet-whole}
+use Rattle.checker.specs.Whole.{Taken, none, next}
+use Rattle.checker.specs.CheckLaws.{part-taken, sheet-whole}
 use Rattle.checker.specs.Unjudged.{room, soundSheet}
 
 -- ---- bytes

@@ -11,7 +11,7 @@ use lib.Dec.{leb, eqb}
 use borrow.Author.Tests.{le-leb, leb-true}
 use Rattle.quantity.specs.Range.{within}
 use Rattle.layout.specs.Layout.{pack, unpack, bytes, Fit}
-use Rattle.layout.specs.Laws.{unpack-fit, length-unpack, length-bytes}
+use Rattle.layout.specs.Laws.{unpack-fit}
 use Rattle.sheet.specs.declared.Header.{Header}
 use Rattle.sheet.specs.declared.Record.{Record}
 use Rattle.sheet.specs.Versions.{firstBytes, numbers, numbered}
@@ -24,9 +24,11 @@ use Rattle.fields.specs.Lines.{Lines, none, bad, row, linesIn}
 use Rattle.text.specs.LinesLaws.{valueIn}
 use Rattle.rows.specs.Pack.{below, powers}
 use Rattle.rows.specs.Forms.{firstCount, ownCount, recordWidths, recordCount}
+use Rattle.rows.specs.RowLaws.{made-length}
 use Rattle.rows.specs.Rows.{kinds, firstOf, taken, firstsOf, ownsOf, headerMade, headerLine, recordsOf, recordMade, recordLine}
 use Rattle.checker.specs.Check.{_then_, demand, recordsPart, recordPart, Sheet}
-use Rattle.checker.specs.CheckLaws.{Taken, next, part-taken, sheet-whole}
+use Rattle.checker.specs.Whole.{Taken, next}
+use Rattle.checker.specs.CheckLaws.{part-taken, sheet-whole}
 use Rattle.checker.specs.ThenLaws.{then-given, demand-given}
 use Rattle.checker.specs.Unjudged.{room, soundSheet}
 use Rattle.csv.specs.Read.{nextLine, recordsMade, sheetMade, sheetFrom}
@@ -38,11 +40,8 @@ use Rattle.csv_laws.specs.SheetAgain.{text-made, sheet-taken}
 
 -- ---- the bytes that lines make are bytes
 
-made-size : (k n : ℕ) → length (unpack (bytes k) n) ≡ k
-made-size k n = length-unpack (bytes k) n ∙ length-bytes k
-
 made-bytes : (k n : ℕ) → Bytes (unpack (bytes k) n)
-made-bytes k n = subst (λ (j : ℕ). Fit (bytes j) (unpack (bytes k) n)) (sym (made-size k n)) (unpack-fit (bytes k) n)
+made-bytes k n = subst (λ (j : ℕ). Fit (bytes j) (unpack (bytes k) n)) (sym (made-length k n)) (unpack-fit (bytes k) n)
 
 bytes-append : (a b : List ℕ) → Bytes a → Bytes b → Bytes (a ++ b)
 bytes-append [] b f g = g
@@ -57,7 +56,7 @@ record-bytes p fs b e =
     let ns = taken (within kinds kind) vs in
     let n = pack (recordWidths kind) (recordsOf kind ns) in
     let g = line-given p (within kinds kind && not (eqb (length fs) (recordCount kind))) (below (powers (recordWidths kind)) (recordsOf kind ns)) (recordMade kind ns) b e in
-    (subst Bytes (g .2) (made-bytes 16 n), sym (ap length (g .2)) ∙ made-size 16 n)
+    (subst Bytes (g .2) (made-bytes 16 n), sym (ap length (g .2)) ∙ made-length 16 n)
 
 header-bytes : (p : ℕ) (fs : List (List ℕ)) (b : List ℕ) → headerLine p (length fs) (map valueIn fs) ≡ given b → Bytes b
 unfolding headerLine

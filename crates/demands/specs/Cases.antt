@@ -7,21 +7,14 @@ use mathlib.Core.List.{List, [], _∷_, _++_}
 use native.Mathlib.Omega.{arith}
 use lib.ListN.{take, set}
 use lib.Dec.{lit≤, lit<}
-use Rattle.gauge.specs.Ceil.{ceilOf}
-use Rattle.gauge.specs.Least.{firstFrom, leastIn}
-use Rattle.loads.specs.Loads.{sea, bottomPressure, innerPressure, deepPressure, lineLoad}
-use Rattle.loads.specs.Sources.{bottomNamed, innerNamed}
-use Rattle.sheet.specs.Header.{readHeader}
-use Rattle.sheet.specs.Record.{recordIn, readRecord}
-use Rattle.plating.specs.Rules.{K2}
-use Rattle.framing.specs.Rules.{rule4, rule5, rule6, memberLine}
 use Rattle.hull.specs.Raising.{InGauge}
 use Rattle.checker.specs.declared.Checked.the-variants.{Done}
-use Rattle.checker.specs.Entry.{entryBytes, entryFault, entryIn, readEntry}
-use Rattle.checker.specs.Check.{_then_, demand, sheetHeader, headerFor, partsFrom, soundAfter, recordsIn, sheetIn, entryOf, verdicts, bytesOf, failures}
+use Rattle.checker.specs.Entry.{entryBytes, readEntry}
+use Rattle.checker.specs.Check.{fourAt}
+use Rattle.checker.specs.Computing.{checking}
 use Rattle.demands.specs.Table.{Row, HeaderSound}
 use Rattle.demands.specs.SlenderRead.{later-version}
-use Rattle.demands.specs.Program.{Program, fourAt, Leaves}
+use Rattle.demands.specs.Program.{Program, Leaves}
 use Rattle.demands.specs.Raise.{raisedBy, raisedTimes, withScantling, meetsRule}
 use Rattle.demands.specs.Demands.{Third, Demands}
 use Rattle.demands.specs.Sources.{SourceSaid}
@@ -63,7 +56,7 @@ bare-accepted P d out = d .first bare out .none-judged refl bare-sound (λ z. om
 -- what the checker answers and leaves on a sheet with a number and on one with none
 checker-numbers : (checker .answer example lent ≡ Done 2 2) × Leaves checker example lent 0 (record { id = 7; rule = 3; required = 617; source = 0 })
     × (checker .answer stressed lent ≡ Done 1 1) × Leaves checker stressed lent 0 (record { id = 12; rule = 5; required = 0; source = 0 })
-unfolding readEntry entryIn entryFault sheetIn headerFor sheetHeader recordsIn partsFrom soundAfter _then_ demand readHeader readRecord recordIn verdicts entryOf bytesOf failures firstFrom leastIn ceilOf sea bottomPressure innerPressure deepPressure lineLoad K2 rule4 rule5 rule6 memberLine bottomNamed innerNamed
+unfolding checking
 checker-numbers = (refl, refl, refl, refl)
 
 -- demand 3 on both
@@ -78,7 +71,7 @@ no-number-example x g e =
 -- what it answers and leaves on a plate under ballast: at T 620 it fails rule 2, at 676 it passes, both with source 2
 flooded-numbers : (checker .answer (flooded 155) lent ≡ Done 1 1) × Leaves checker (flooded 155) lent 0 (record { id = 5; rule = 2; required = 676; source = 2 })
     × (checker .answer (flooded 169) lent ≡ Done 1 0) × Leaves checker (flooded 169) lent 0 (record { id = 5; rule = 0; required = 0; source = 2 })
-unfolding readEntry entryIn entryFault sheetIn headerFor sheetHeader recordsIn partsFrom soundAfter _then_ demand readHeader readRecord recordIn verdicts entryOf bytesOf failures firstFrom leastIn ceilOf sea bottomPressure innerPressure deepPressure lineLoad K2 rule4 rule5 rule6 memberLine bottomNamed innerNamed
+unfolding checking
 flooded-numbers = (refl, refl, refl, refl)
 
 -- what is said of the source, of a failure and of a pass
@@ -118,5 +111,5 @@ pub empty-on-example : (passing .answer example lent ≡ Done 2 0)
     × (firstOnly .answer example lent ≡ Done 2 1)
     × (firstOnly .after example lent ≡ entryBytes (record { id = 7; rule = 3; required = 617; source = 0 }) ++ (entryBytes (record { id = 12; rule = 0; required = 0; source = 0 }) ++ (170 ∷ [])))
     × (counting (λ h. 1) .answer example lent ≡ Done 2 1)
-unfolding sheetIn headerFor sheetHeader recordsIn partsFrom soundAfter _then_ demand readHeader readRecord recordIn verdicts entryOf bytesOf failures firstFrom leastIn ceilOf sea bottomPressure innerPressure deepPressure lineLoad K2 rule4 rule5 rule6 memberLine bottomNamed innerNamed
+unfolding checking
 empty-on-example = (refl, refl, refl, refl, refl, refl, refl)

@@ -11,9 +11,9 @@ use Rattle.hull.specs.Raising.{putRecord, InGauge}
 use Rattle.checker.specs.declared.Entry.{Entry}
 use Rattle.checker.specs.declared.Checked.the-variants.{Done}
 use Rattle.checker.specs.Entry.{entryBytes}
-use Rattle.checker.specs.Check.{entryWith}
+use Rattle.checker.specs.Check.{entryWith, fourAt}
 use Rattle.demands.specs.Table.{headSize, countOf, idOf, HeaderSound, TooSlender, Row, Accepted}
-use Rattle.demands.specs.Program.{Program, Refuses, fourAt, Leaves}
+use Rattle.demands.specs.Program.{Program, Refuses, Leaves}
 use Rattle.demands.specs.Raise.{theHeader, theRecord, withScantling, Reaches, meetsRule, raisedTimes}
 
 -- a sheet is accepted, or turned away by a row of the table

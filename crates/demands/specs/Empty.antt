@@ -11,7 +11,8 @@ use Rattle.checker.specs.declared.Entry.{Entry}
 use Rattle.checker.specs.declared.Checked.the-variants.{Done, Refused as notDone}
 use Rattle.checker.specs.Entry.{readEntry}
 use Rattle.demands.specs.Table.{headSize}
-use Rattle.demands.specs.Program.{Program, fourAt, Leaves}
+use Rattle.checker.specs.Check.{fourAt}
+use Rattle.demands.specs.Program.{Program, Leaves}
 use Rattle.demands.specs.Demands.{Demands}
 
 -- no program that meets the demands is of this kind

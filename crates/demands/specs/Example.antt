@@ -5,22 +5,14 @@ use Prim.Native.Nat.{ℕ}
 use mathlib.Core.Path.{_≡_, refl}
 use mathlib.Core.List.{List, [], _∷_, _++_}
 use lib.ListN.{take, set}
-use Rattle.gauge.specs.Ceil.{ceilOf}
-use Rattle.gauge.specs.Least.{firstFrom, leastIn}
-use Rattle.loads.specs.Loads.{sea, bottomPressure, innerPressure, deepPressure, lineLoad}
-use Rattle.loads.specs.Sources.{bottomNamed, innerNamed}
 use Rattle.sheet.specs.Refusals.{Answer, given, refused}
-use Rattle.sheet.specs.Header.{readHeader}
-use Rattle.sheet.specs.Record.{recordIn, readRecord}
-use Rattle.plating.specs.Rules.{K2}
-use Rattle.framing.specs.Rules.{rule4, rule5, rule6, memberLine}
 use Rattle.checker.specs.declared.Entry.{Entry}
-use Rattle.checker.specs.Entry.{entryBytes, entryFault, entryIn, readEntry}
+use Rattle.checker.specs.Entry.{entryBytes, readEntry}
 use Rattle.decimal.specs.Decimal.{digitsIn, decimalOf}
 use Rattle.decimal.specs.Line.{moreOf, lineOf}
 use Rattle.report.specs.Text.{printed, linesText, textBy, textOf}
-use Rattle.checker.specs.Check.{_then_, demand, sheetHeader, headerFor, partsFrom, soundAfter, recordsIn, sheetIn, entryOf, verdicts, bytesOf, failures, answerOf, outputOf}
-use Rattle.demands.specs.Program.{fourAt}
+use Rattle.checker.specs.Check.{answerOf, outputOf, fourAt}
+use Rattle.checker.specs.Computing.{reading, checking}
 use Rattle.demands.specs.Raise.{replaced, withScantling, raisedTimes}
 use Rattle.demands.specs.EmptyPrograms.{checker}
 
@@ -68,11 +60,11 @@ lent = 170 ∷ 170 ∷ 170 ∷ 170 ∷ 170 ∷ 170 ∷ 170 ∷ 170 ∷ 170 ∷ [
 
 -- as the document prints it: 7 3 617, 12 5 567, each with source 0, 2 records and 2 failures; the ninth byte is as it was lent
 pub example-answer : answerOf example 9 ≡ given (record { n = 2; failed = 2 })
-unfolding answerOf sheetIn headerFor sheetHeader recordsIn partsFrom soundAfter _then_ demand readHeader readRecord recordIn verdicts entryOf failures firstFrom leastIn ceilOf sea bottomPressure innerPressure deepPressure lineLoad K2 rule4 rule5 rule6 memberLine bottomNamed innerNamed
+unfolding checking
 example-answer = refl
 
 pub example-output : outputOf example lent ≡ (entryBytes (record { id = 7; rule = 3; required = 617; source = 0 }) ++ (entryBytes (record { id = 12; rule = 5; required = 567; source = 0 }) ++ (170 ∷ [])))
-unfolding outputOf sheetIn headerFor sheetHeader recordsIn partsFrom soundAfter _then_ demand readHeader readRecord recordIn verdicts entryOf bytesOf firstFrom leastIn ceilOf sea bottomPressure innerPressure deepPressure lineLoad K2 rule4 rule5 rule6 memberLine bottomNamed innerNamed
+unfolding checking
 example-output = refl
 
 -- and as text, byte for byte what the document shows, with the sources
@@ -82,12 +74,12 @@ pub example-text :
     ∷ 49 ∷ 50 ∷ 32 ∷ 53 ∷ 32 ∷ 53 ∷ 54 ∷ 55 ∷ 32 ∷ 48 ∷ 10
     ∷ 50 ∷ 32 ∷ 50 ∷ 10
     ∷ [])
-unfolding textOf printed textBy linesText lineOf moreOf decimalOf digitsIn sheetIn headerFor sheetHeader recordsIn partsFrom soundAfter _then_ demand readHeader readRecord recordIn verdicts entryOf failures firstFrom leastIn ceilOf sea bottomPressure innerPressure deepPressure lineLoad K2 rule4 rule5 rule6 memberLine bottomNamed innerNamed
+unfolding textOf printed textBy linesText lineOf moreOf decimalOf digitsIn checking
 example-text = refl
 
 -- mended, nothing fails
 pub mended-answer : answerOf mended 9 ≡ given (record { n = 2; failed = 0 })
-unfolding answerOf sheetIn headerFor sheetHeader recordsIn partsFrom soundAfter _then_ demand readHeader readRecord recordIn verdicts entryOf failures firstFrom leastIn ceilOf sea bottomPressure innerPressure deepPressure lineLoad K2 rule4 rule5 rule6 memberLine bottomNamed innerNamed
+unfolding checking
 mended-answer = refl
 
 -- the example with one byte too few, one byte changed, one too many, or too short an output, for each row of the table but 9: the version is 3, the wave height 61, the
@@ -100,7 +92,7 @@ pub row-by-row : (answerOf (take 11 example) 9 ≡ refused 1 0)
     × (answerOf (set example 28 144) 9 ≡ refused 6 1)
     × (answerOf (set example 43 233) 9 ≡ refused 7 45)
     × (answerOf (set example 29 28) 9 ≡ refused 8 1)
-unfolding answerOf sheetIn headerFor sheetHeader recordsIn partsFrom soundAfter _then_ demand readHeader readRecord recordIn
+unfolding answerOf reading
 row-by-row = (refl, refl, refl, refl, refl, refl, refl, refl)
 
 -- what is read for the light record after so many raisings
@@ -112,5 +104,5 @@ pub two-not-enough : (lightAfter 0 ≡ given (record { id = 12; rule = 4; requir
     × (lightAfter 1 ≡ given (record { id = 12; rule = 5; required = 567; source = 0 }))
     × (lightAfter 2 ≡ given (record { id = 12; rule = 6; required = 168; source = 0 }))
     × (lightAfter 3 ≡ given (record { id = 12; rule = 0; required = 0; source = 0 }))
-unfolding raisedTimes withScantling replaced readEntry entryIn entryFault sheetIn headerFor sheetHeader recordsIn partsFrom soundAfter _then_ demand readHeader readRecord recordIn verdicts entryOf bytesOf firstFrom leastIn ceilOf sea bottomPressure innerPressure deepPressure lineLoad K2 rule4 rule5 rule6 memberLine bottomNamed innerNamed
+unfolding raisedTimes withScantling replaced checking
 two-not-enough = (refl, refl, refl, refl)

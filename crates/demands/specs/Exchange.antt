@@ -14,10 +14,10 @@ use Rattle.sheet.specs.RefusalLaws.{given-same}
 use Rattle.sheet.specs.Header.{headerSize, readHeader}
 use Rattle.sheet.specs.Record.{recordFault, recordBytes}
 use Rattle.checker.specs.Entry.{entryBytes, readEntry}
-use Rattle.checker.specs.Check.{_then_, demand, sheetSize, headerFor, recordsPart, recordOf, partsFrom, soundAfter, recordsIn, Sheet, sheetIn, entryOf, outputOf}
+use Rattle.checker.specs.Check.{_then_, demand, sheetSize, headerFor, recordsPart, recordOf, partsFrom, soundAfter, recordsIn, Sheet, sheetIn, entryOf, outputOf, fourAt}
 use Rattle.checker.specs.FrontLaws.{slim-header}
-use Rattle.checker.specs.CheckLaws.{Taken, none, next, sheet-whole, record-given, verdict-at, verdict-read}
-use Rattle.demands.specs.Program.{fourAt}
+use Rattle.checker.specs.Whole.{Taken, none, next}
+use Rattle.checker.specs.CheckLaws.{sheet-whole, record-given, verdict-at, verdict-read}
 use Rattle.demands.specs.Table.{headSize}
 use Rattle.demands.specs.Raise.{theHeader, theRecord, replaced}
 use Rattle.demands.specs.FieldsRead.{recordsOf, size-read, records-read, header-sound, record-sound}

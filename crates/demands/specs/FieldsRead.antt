@@ -11,7 +11,7 @@ use lib.Dec.{ltb}
 use Rattle.quantity.specs.Range.{from}
 use Rattle.layout.specs.Layout.{pack, unpack, bytes}
 use Rattle.layout.specs.Line.{Allowed}
-use Rattle.layout.specs.LineLaws.{low-high}
+use Rattle.quantity.specs.RangeLaws.{low-high}
 use Rattle.sheet.specs.declared.Header.{Header}
 use Rattle.sheet.specs.declared.Record.{Record}
 use Rattle.sheet.specs.Versions.{Version}
@@ -20,9 +20,8 @@ use Rattle.sheet.specs.Refusals.{given}
 use Rattle.sheet.specs.Header.{headerSize, headerOf, readHeader}
 use Rattle.sheet.specs.HeaderBack.{read-holds}
 use Rattle.sheet.specs.HeaderExactly.{header-read-given}
-use Rattle.sheet.specs.Record.{plateRecord, memberRecord, plateLinesOf, memberLinesOf}
-use Rattle.sheet.specs.RecordLaws.{recordAt}
-use Rattle.sheet.specs.RecordExactly.{numberIn, linesAt, fieldsAt, record-read-given}
+use Rattle.sheet.specs.Record.{plateRecord, memberRecord, plateLinesOf, memberLinesOf, recordAt, numberIn, linesAt, fieldsAt}
+use Rattle.sheet.specs.RecordExactly.{record-read-given}
 use Rattle.checker.specs.Check.{recordsPart, recordPart, recordOf}
 use Rattle.checker.specs.CheckLaws.{part-past}
 use Rattle.demands.specs.Table.{headSize, numberOf, kindOf, idOf, HeaderSound, RecordSound}

@@ -9,17 +9,19 @@ use native.Mathlib.Decide.{decLt, ℕ-discrete}
 use lib.ListN.{length}
 use lib.Dec.{leb, eqb}
 use borrow.Author.Tests.{not-false, leb-false, eqb-true, eqb-false}
-use Rattle.layout.specs.LineLaws.{clash}
+use Rattle.truth.specs.Tests.{clash}
 use Rattle.sheet.specs.declared.Header.{Header}
 use Rattle.sheet.specs.Refusals.{Answer, given, refused}
 use Rattle.sheet.specs.RefusalLaws.{given-refused}
-use Rattle.sheet.specs.VersionLaws.{Under, under-first, under-own, own-number}
+use Rattle.sheet.specs.Versions.{Under, under-first, under-own}
+use Rattle.sheet.specs.VersionLaws.{own-number}
 use Rattle.sheet.specs.Header.{headerSize, versionField, versionIn, headerOf, readHeader}
 use Rattle.sheet.specs.Slender.{tooSlender}
 use Rattle.sheet.specs.HeaderExactly.{header-read-1, header-read-2, header-read-3, header-read-others}
 use Rattle.checker.specs.Check.{_then_, demand, sheetHeader, sheetSize, headerFor}
 use Rattle.checker.specs.ThenLaws.{By, first, later, by, demanded, demand-given}
-use Rattle.checker.specs.FrontLaws.{header-slim, HeaderFits, header-slender, header-length, header-room, header-good}
+use Rattle.checker.specs.Whole.{HeaderFits}
+use Rattle.checker.specs.FrontLaws.{header-slim, header-slender, header-length, header-room, header-good}
 use Rattle.demands.specs.Table.{headSize, countOf, sheetEnd, HeaderSound, TooSlender, Fits, Row, sheet-short, version, header-short, header-field, slender, sheet-length, output-short}
 use Rattle.demands.specs.FieldsRead.{size-read, header-sound, header-given}
 use Rattle.demands.specs.SlenderRead.{slender-read, slim-read}

@@ -11,8 +11,8 @@ use Rattle.sheet.specs.Refusals.{refused}
 use Rattle.sheet.specs.RefusalLaws.{refusal-only, given-refused, refused-number, refused-place}
 use Rattle.checker.specs.declared.Checked.{Checked}
 use Rattle.checker.specs.declared.Checked.the-variants.{Done, Refused as notDone}
-use Rattle.checker.specs.Check.{toldChecked}
-use Rattle.demands.specs.Program.{Program, Meets, fourAt}
+use Rattle.checker.specs.Check.{toldChecked, fourAt}
+use Rattle.demands.specs.Program.{Program, Meets}
 use Rattle.demands.specs.Demands.{Covered, accepted, turned-away, failedFrom, Demands}
 use Rattle.demands.specs.EmptyPrograms.{checker}
 use Rattle.demands.specs.ShutOut.{checker-meets, checker-demands}

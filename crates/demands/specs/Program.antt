@@ -7,7 +7,7 @@ use Rattle.sheet.specs.Refusals.{given, refused}
 use Rattle.checker.specs.declared.Entry.{Entry}
 use Rattle.checker.specs.declared.Checked.{Checked}
 use Rattle.checker.specs.Entry.{readEntry}
-use Rattle.checker.specs.Check.{toldChecked, Checks}
+use Rattle.checker.specs.Check.{fourAt, toldChecked, Checks}
 
 -- what it answers to a sheet and a lent output, and what it leaves in the output
 pub record Program : Type 0 where
@@ -21,10 +21,6 @@ Meets P = (s out : List ℕ) → Checks s out (P .answer s out) (P .after s out)
 -- it refuses the sheet with this number and this place
 abbrev pub Refuses : Program → (s out : List ℕ) (k p : ℕ) → Type 0
 Refuses P s out k p = toldChecked (P .answer s out) ≡ refused k p
-
--- the four bytes at 4i of an output
-abbrev pub fourAt : ℕ → List ℕ → List ℕ
-fourAt i out = take 4 (drop (4 * i) out)
 
 -- the verdict that it leaves for record i
 abbrev pub Leaves : Program → (s out : List ℕ) (i : ℕ) → Entry → Type 0

@@ -8,11 +8,13 @@ use native.Mathlib.Omega.{arith}
 use lib.ListN.{length, drop, length-append, length-drop}
 use lib.Dec.{eqb}
 use borrow.Author.Tests.{eqb-false}
+use Rattle.truth.specs.Tests.{false-of}
 use Rattle.sheet.specs.declared.Header.{Header}
 use Rattle.sheet.specs.declared.Record.{Record}
 use Rattle.sheet.specs.Refusals.{Answer, given, refused}
 use Rattle.sheet.specs.RefusalLaws.{given-refused, given-same}
-use Rattle.sheet.specs.Exactly.{Exactly, exactly-of, exactly-then}
+use Rattle.sheet.specs.ExactlyLaws.{exactly-of, exactly-then}
+use Rattle.sheet.specs.Exactly.{Exactly}
 use Rattle.sheet.specs.Record.{recordFault, recordBytes}
 use Rattle.sheet.specs.RecordBack.{record-read-fine}
 use Rattle.verdict.specs.declared.Verdict.{Verdict}
@@ -26,11 +28,11 @@ use Rattle.checker.specs.declared.Entry.{Entry}
 use Rattle.checker.specs.declared.Checked.{Checked}
 use Rattle.checker.specs.declared.Checked.the-variants.{Done, Refused as notDone}
 use Rattle.checker.specs.Entry.{entryBytes, readEntry}
-use Rattle.checker.specs.Check.{_then_, recordsPart, recordPart, recordOf, Sheet, sheetIn, entryWith, entryOf, verdicts, bytesOf, failures, Totals, toldChecked, answerOf, outputOf}
-use Rattle.checker.specs.ThenLaws.{then-given}
-use Rattle.checker.specs.CheckLaws.{Taken, none, next, sheet-whole, record-given, verdict-at, verdict-read, verdicts-count, rest-as-lent, answer-done, output-done, bytes-length, refused-as-lent}
+use Rattle.checker.specs.Check.{_then_, recordsPart, recordPart, recordOf, Sheet, sheetIn, entryWith, entryOf, verdicts, bytesOf, failures, Totals, toldChecked, answerOf, outputOf, fourAt}
+use Rattle.checker.specs.Whole.{Taken, none, next}
+use Rattle.checker.specs.CheckLaws.{sheet-whole, record-given, verdict-at, verdict-read, verdicts-count, rest-as-lent, answer-done, answer-sheet, output-done, bytes-length, refused-as-lent}
 use Rattle.demands.specs.Table.{headSize, countOf, HeaderSound, TooSlender, Row, Accepted}
-use Rattle.demands.specs.Program.{Program, Meets, fourAt, Leaves}
+use Rattle.demands.specs.Program.{Program, Meets, Leaves}
 use Rattle.demands.specs.Raise.{theHeader, theRecord, replaced, withScantling, Reaches, meetsRule, raisedBy, raisedTimes}
 use Rattle.demands.specs.Demands.{Covered, accepted, turned-away, First, entryOn, failedFrom, Second, Later, passed, above, Third, Settled, passes, none-meets, ThreeRaisings, Demands}
 use Rattle.demands.specs.FieldsRead.{recordsOf, records-read, record-sound, record-id-field}
@@ -40,15 +42,9 @@ use Rattle.demands.specs.Exchange as exchange
 
 -- ---- a sheet that is not refused
 
--- an answer that is given is that of a sheet
-sheet-of : (s : List ℕ) (room : ℕ) (w : Totals) → answerOf s room ≡ given w
-    → (t : Sheet) × (sheetIn s room ≡ given t) × (w ≡ record { n = t .header .count; failed = failures (verdicts t) })
-unfolding answerOf
-sheet-of s room w e = let a = then-given (sheetIn s room) _ w e in (a .0, a .1, sym (given-same (a .2)))
-
--- and no row holds for it
+-- no row holds for it
 pub given-fits : (s : List ℕ) (room : ℕ) (w : Totals) → answerOf s room ≡ given w → Accepted s room
-given-fits s room w e = let q = sheet-of s room w e in rows.given-accepted s room (q .0) (q .1) .0
+given-fits s room w e = let q = answer-sheet s room w e in rows.given-accepted s room (q .0) (q .1) .0
 
 module _ (s out : List ℕ) (t : Sheet) (given-t : sheetIn s (length out) ≡ given t) where
   header-is : theHeader s ≡ t .header
@@ -121,7 +117,7 @@ module _ (P : Program) (meets : Meets P) where
 
   pub second-demand : (s out : List ℕ) (n failed : ℕ) → P .answer s out ≡ Done n failed → Second P s out n failed
   second-demand s out n failed e =
-      let q = sheet-of s (length out) (record { n = n; failed = failed }) (done-given s out n failed e) in
+      let q = answer-sheet s (length out) (record { n = n; failed = failed }) (done-given s out n failed e) in
       let t = q .0 in
       let count : n ≡ t .header .count = ap (λ (w : Totals). w .n) (q .2) in
       record {
@@ -279,15 +275,11 @@ module _ (P : Program) (meets : Meets P) where
     unfolding entryOf
     settled s' r holds z = go (verdict (t .header) r .rule) refl
       where
-        not-true : (b : Bool) → (b ≡ true → ⊥) → b ≡ false
-        not-true true n = absurd (n refl)
-        not-true false n = refl
-
         go : (k : ℕ) → verdict (t .header) r .rule ≡ k → Settled s' i (entryOf (t .header) r)
         go zero e = passes e z
         go (suc k) e =
             let some : 1 ≤ verdict (t .header) r .rule = omega arith in
-            none-meets some (λ x g. not-true _ (λ w. omega (arith, put-met-exactly s' r holds some x g .0 w .0)))
+            none-meets some (λ x g. false-of _ (λ w. omega (arith, put-met-exactly s' r holds some x g .0 w .0)))
 
     module _ (r : Record) (read : recordOf (recordsPart (t .header) s) i ≡ given r) where
       pub at-first : exchange.Holds s out t given-t i inside s r
@@ -330,7 +322,7 @@ module _ (P : Program) (meets : Meets P) where
 
   module _ (s out : List ℕ) (n failed i : ℕ) (e : P .answer s out ≡ Done n failed) (l : i < n) where
     pub taken : (t : Sheet) × (sheetIn s (length out) ≡ given t) × (n ≡ t .header .count)
-    taken = let q = sheet-of s (length out) (record { n = n; failed = failed }) (done-given s out n failed e) in (q .0, q .1, ap (λ (w : Totals). w .n) (q .2))
+    taken = let q = answer-sheet s (length out) (record { n = n; failed = failed }) (done-given s out n failed e) in (q .0, q .1, ap (λ (w : Totals). w .n) (q .2))
 
     pub inside : i < taken .0 .header .count
     inside = omega (arith, taken .2)

@@ -8,15 +8,15 @@ use Rattle.sheet.specs.declared.Header.{Header}
 use Rattle.sheet.specs.declared.Record.{Record}
 use Rattle.sheet.specs.Refusals.{Answer, given, refused}
 use Rattle.sheet.specs.Header.{headerOf}
-use Rattle.sheet.specs.Record.{recordBytes}
-use Rattle.sheet.specs.RecordLaws.{recordAt}
+use Rattle.sheet.specs.Record.{recordBytes, recordAt}
 use Rattle.verdict.specs.Verdict.{metIn}
 use Rattle.hull.specs.Hull.{rulesOf}
 use Rattle.hull.specs.Raising.{putRecord}
 use Rattle.checker.specs.declared.Entry.{Entry}
 use Rattle.checker.specs.Entry.{readEntry}
 use Rattle.demands.specs.Table.{recordStart, numberOf}
-use Rattle.demands.specs.Program.{Program, fourAt}
+use Rattle.checker.specs.Check.{fourAt}
+use Rattle.demands.specs.Program.{Program}
 
 -- the header that the sheet's fields are
 abbrev pub theHeader : List ℕ → Header

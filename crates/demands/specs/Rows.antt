@@ -18,16 +18,17 @@ use Rattle.sheet.specs.declared.Record.{Record}
 use Rattle.sheet.specs.Refusals.{Answer, given, refused}
 use Rattle.sheet.specs.RefusalLaws.{given-refused, refused-number, refused-place}
 use Rattle.sheet.specs.Exactly.{Exactly, LaterFault}
-use Rattle.sheet.specs.VersionLaws.{under-first, under-own, number-own}
+use Rattle.sheet.specs.Versions.{under-first, under-own}
+use Rattle.sheet.specs.VersionLaws.{number-own}
 use Rattle.sheet.specs.Header.{versionField, headerOf, readHeader}
 use Rattle.sheet.specs.HeaderExactly.{header-read-1, header-read-2, header-read-3}
-use Rattle.sheet.specs.Record.{readRecord}
-use Rattle.sheet.specs.RecordLaws.{recordAt}
-use Rattle.sheet.specs.RecordExactly.{kindAt, linesAt, fieldsAt, record-read-1, record-read-6, record-read-7, record-read-others}
+use Rattle.sheet.specs.Record.{readRecord, recordAt, kindAt, linesAt, fieldsAt}
+use Rattle.sheet.specs.RecordExactly.{record-read-1, record-read-6, record-read-7, record-read-others}
 use Rattle.checker.specs.Check.{_then_, headerFor, recordsPart, recordPart, recordOf, partsFrom, soundAfter, recordsIn, Sheet, sheetIn, verdicts, failures, Totals, answerOf}
 use Rattle.checker.specs.ThenLaws.{By, first, later, by, stays, goes-on}
 use Rattle.checker.specs.FrontLaws.{header-fits, header-refused}
-use Rattle.checker.specs.CheckLaws.{sound-read, Taken, none, next, sheet-whole}
+use Rattle.checker.specs.Whole.{Taken, none, next}
+use Rattle.checker.specs.CheckLaws.{sound-read, sheet-whole}
 use Rattle.demands.specs.Table.{headSize, countOf, numberOf, fieldsOf, linesOf, idOf, HeaderSound, RecordSound, InOrder, Fits, Reached, Row, sheet-short, version, header-short, header-field, slender, sheet-length, output-short, kind, field, order, Accepted}
 use Rattle.demands.specs.FrontRows.{row-as, front-row, fits-read, slender-refused, length-refused, room-refused, front-given}
 use Rattle.demands.specs.FieldsRead.{recordsOf, records-read, header-given, number-read, part-length, record-sound, record-is, record-id-field, sound-id}

@@ -10,31 +10,27 @@ use lib.ListN.{length, getD, take, drop}
 use lib.Dec.{eqb}
 use borrow.Author.Tests.{le-leb, eq-eqb, ne-eqb}
 use Rattle.quantity.specs.Range.{within, from, modulus}
-use Rattle.gauge.specs.Ceil.{ceilOf}
-use Rattle.gauge.specs.Least.{firstFrom, leastIn}
-use Rattle.loads.specs.Loads.{sea, bottomPressure, innerPressure, deepPressure, lineLoad}
 use Rattle.loads.specs.declared.Source.the-variants.{Cargo}
-use Rattle.loads.specs.Sources.{numberOf, bottomNamed, innerNamed}
+use Rattle.loads.specs.Sources.{numberOf}
 use Rattle.layout.specs.LineLaws.{none-all}
 use Rattle.sheet.specs.declared.Header.{Header}
 use Rattle.sheet.specs.declared.Record.{Record}
 use Rattle.sheet.specs.Refusals.{Answer, given, refused}
 use Rattle.sheet.specs.RefusalLaws.{refusalOf, given-refused, given-same}
-use Rattle.sheet.specs.Header.{readHeader}
-use Rattle.sheet.specs.Record.{recordIn, readRecord}
 use Rattle.sheet.specs.RecordBack.{record-read-fine}
-use Rattle.plating.specs.Rules.{K2}
-use Rattle.framing.specs.Rules.{rule4, rule5, rule6, memberLine}
 use Rattle.checker.specs.declared.Entry.{Entry}
 use Rattle.checker.specs.declared.Checked.{Checked}
 use Rattle.checker.specs.declared.Checked.the-variants.{Done, Refused as notDone}
-use Rattle.checker.specs.Entry.{verdictLines, entryValues, entryFault, entryBytes, entryIn, readEntry}
+use Rattle.checker.specs.Entry.{verdictLines, entryValues, entryFault, entryBytes, readEntry}
 use Rattle.checker.specs.EntryLaws.{allowed-entry, bytes-read}
 use Rattle.checker.specs.Sound.{entry-sound}
-use Rattle.checker.specs.Check.{_then_, demand, sheetHeader, headerFor, partsFrom, soundAfter, recordsIn, recordsPart, recordPart, Sheet, sheetIn, entryOf, verdicts, bytesOf, failures, Totals, toldChecked, answerOf, outputBy, outputOf}
-use Rattle.checker.specs.CheckLaws.{Taken, none, next, sheet-whole, verdicts-count, answer-done}
+use Rattle.checker.specs.Check.{_then_, recordsPart, recordPart, Sheet, sheetIn, entryOf, verdicts, bytesOf, failures, Totals, toldChecked, answerOf, outputBy, outputOf, fourAt}
+use Rattle.checker.specs.Whole.{Taken, none, next}
+use Rattle.checker.specs.CheckLaws.{sheet-whole, verdicts-count, answer-done}
+use Rattle.hull.specs.Computing.{judging}
+use Rattle.checker.specs.Computing.{checking}
 use Rattle.demands.specs.Table.{headSize, Row, sheet-short, version, header-short, header-field, slender, sheet-length, output-short, kind, field, order, Accepted}
-use Rattle.demands.specs.Program.{Program, Meets, fourAt}
+use Rattle.demands.specs.Program.{Program, Meets}
 use Rattle.demands.specs.Demands.{entryOn, failedFrom, Second, Demands}
 use Rattle.demands.specs.Empty.{ShutOut, OfVerdicts, LeavesAsLent, RefusesAll, PassesAll, NamesOne, PassesRest, ruleIn, failedIn, Miscounts, MakesUpCount, DropsSource}
 use Rattle.demands.specs.EmptyPrograms.{answerBy, afterBy, checker, changedFrom, changing, passInstead, numberInstead, passAfterFirst, idle, refusing, passing, naming, firstOnly, counting, sourceDropped, dropping}
@@ -109,7 +105,7 @@ source-within e z = none-all 0 (verdictLines (e .rule)) (entryValues e) z .1 .1 
 -- what is said of every changed verdict, which can be written where the verdict can
 module _ (change : ℕ → Entry → Entry) (Says : ℕ → Entry → Type 0) (says : (i : ℕ) (e : Entry) → entryFault e ≡ 0 → (entryFault (change i e) ≡ 0) × Says i (change i e)) where
   changed-at : (i : ℕ) (es : List Entry) (tail : List ℕ) → AllSound es → (j : ℕ) → j < length es
-      → (e : Entry) × (entryFault e ≡ 0) × Says (i + j) e × (take 4 (drop (4 * j) (bytesOf (changedFrom change i es) ++ tail)) ≡ entryBytes e)
+      → (e : Entry) × (entryFault e ≡ 0) × Says (i + j) e × (fourAt j (bytesOf (changedFrom change i es) ++ tail) ≡ entryBytes e)
   unfolding bytesOf
   changed-at i [] tail a j l = absurd (omega arith)
   changed-at i (e ∷ es) tail a zero l = let q = says i e (a .0) in (change i e, q .0, subst (λ (n : ℕ). Says n (change i e)) (sym (add-zero i)) (q .1), refl)
@@ -161,11 +157,11 @@ naming-is q l = changing-says (numberInstead q) (λ i e. 1 ≤ e .rule → e .re
     named i e m = rw (ne-eqb (e .rule) 0 (λ z. omega arith))
 
 pub firstOnly-is : PassesRest firstOnly
-firstOnly-is = changing-says passAfterFirst (λ i e. 1 ≤ i → e .rule ≡ 0) both
+firstOnly-is = changing-says passAfterFirst (λ i e. 1 ≤ i → e .rule ≡ 0) rest-passed
   where
-    both : (i : ℕ) (e : Entry) → entryFault e ≡ 0 → (entryFault (passAfterFirst i e) ≡ 0) × (1 ≤ i → passAfterFirst i e .rule ≡ 0)
-    both zero e z = (z, λ l. absurd (omega arith))
-    both (suc i) e z = (pass-sound (suc i) e z, λ l. refl)
+    rest-passed : (i : ℕ) (e : Entry) → entryFault e ≡ 0 → (entryFault (passAfterFirst i e) ≡ 0) × (1 ≤ i → passAfterFirst i e .rule ≡ 0)
+    rest-passed zero e z = (z, λ l. absurd (omega arith))
+    rest-passed (suc i) e z = (pass-sound (suc i) e z, λ l. refl)
 
 pub dropping-is : DropsSource dropping
 dropping-is = changing-says sourceDropped (λ i e. e .rule ≡ 0 → e .source ≡ 0) (λ i e z. (sound i e z, λ r. rw (eq-eqb (e .rule) 0 r)))
@@ -186,7 +182,7 @@ counting-is count s out n failed e = go (sheetIn s (length out)) e
 
 -- one that always says 1 failure says so of the example, where it leaves two
 pub counting-miscounts : Miscounts (counting (λ h. 1))
-unfolding readEntry entryIn entryFault sheetIn headerFor sheetHeader recordsIn partsFrom soundAfter _then_ demand readHeader readRecord recordIn verdicts entryOf bytesOf firstFrom leastIn ceilOf sea bottomPressure innerPressure deepPressure lineLoad K2 rule4 rule5 rule6 memberLine bottomNamed innerNamed
+unfolding checking
 counting-miscounts = (example, lent, 2, 1, refl, λ e. omega (arith, e))
 
 -- ---- and is shut out
@@ -200,19 +196,19 @@ mended-accepted = given-fits mended 9 (record { n = 2; failed = 0 }) mended-answ
 
 -- demand 2's verdicts on the example, and its counts on both
 first-verdict : entryOn example 0 ≡ record { id = 7; rule = 3; required = 617; source = 0 }
-unfolding firstFrom leastIn ceilOf sea bottomPressure innerPressure deepPressure lineLoad K2 rule4 rule5 rule6 memberLine bottomNamed innerNamed
+unfolding judging
 first-verdict = refl
 
 second-verdict : entryOn example 1 ≡ record { id = 12; rule = 5; required = 567; source = 0 }
-unfolding firstFrom leastIn ceilOf sea bottomPressure innerPressure deepPressure lineLoad K2 rule4 rule5 rule6 memberLine bottomNamed innerNamed
+unfolding judging
 second-verdict = refl
 
 two-failed : failedFrom example 0 2 ≡ 2
-unfolding firstFrom leastIn ceilOf sea bottomPressure innerPressure deepPressure lineLoad K2 rule4 rule5 rule6 memberLine bottomNamed innerNamed
+unfolding judging
 two-failed = refl
 
 none-failed : failedFrom mended 0 2 ≡ 0
-unfolding firstFrom leastIn ceilOf sea bottomPressure innerPressure deepPressure lineLoad K2 rule4 rule5 rule6 memberLine bottomNamed innerNamed
+unfolding judging
 none-failed = refl
 
 module _ (P : Program) (d : Demands P) where

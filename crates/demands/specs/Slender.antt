@@ -10,9 +10,9 @@ use Rattle.sheet.specs.declared.Own.{Own}
 use Rattle.sheet.specs.declared.Own.the-variants.{One, Two}
 use Rattle.sheet.specs.Versions.{versionOf}
 use Rattle.sheet.specs.Refusals.{Answer, given, refused}
-use Rattle.sheet.specs.Header.{versionField, headerBytes, readHeader}
-use Rattle.sheet.specs.Record.{recordIn, readRecord}
-use Rattle.checker.specs.Check.{_then_, demand, sheetHeader, headerFor, partsFrom, soundAfter, recordsIn, sheetIn, verdicts, failures, Totals, answerOf}
+use Rattle.sheet.specs.Header.{versionField, headerBytes}
+use Rattle.checker.specs.Check.{verdicts, failures, Totals, answerOf}
+use Rattle.checker.specs.Computing.{reading}
 use Rattle.demands.specs.Table.{Row, sheet-short, version, header-short, header-field, slender, sheet-length, output-short, kind, field, order}
 use Rattle.demands.specs.Program.{Program, Refuses}
 use Rattle.demands.specs.Demands.{Demands}
@@ -70,7 +70,7 @@ pub at-the-limit : (answerOf (second 7979 60 228) 0 ≡ none-judged)
     × (answerOf (second 8001 120 320) 0 ≡ refused 9 0)
     × (answerOf (second 13500 0 100) 0 ≡ none-judged)
     × (answerOf (hull 13500 120 0 One) 0 ≡ none-judged)
-unfolding answerOf sheetIn headerFor sheetHeader recordsIn partsFrom soundAfter _then_ demand readHeader readRecord recordIn verdicts failures
+unfolding answerOf verdicts failures reading
 at-the-limit = (refl, refl, refl, refl, refl, refl, refl, refl)
 
 -- the header of a slender hull that counts one record, with nothing behind it, and with sixteen bytes that are none
@@ -85,7 +85,7 @@ computed : (answerOf counted 4 ≡ refused 9 0)
     × (answerOf faulty 0 ≡ refused 9 0)
     × (answerOf (take 19 counted) 4 ≡ refused 1 0)
     × (answerOf (set counted 19 1) 4 ≡ refused 3 12)
-unfolding answerOf sheetIn headerFor sheetHeader recordsIn partsFrom soundAfter _then_ demand readHeader readRecord recordIn
+unfolding answerOf reading
 computed = (refl, refl, refl, refl)
 
 -- these rows hold for these sheets

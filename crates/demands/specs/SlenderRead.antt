@@ -10,7 +10,8 @@ use lib.Dec.{ltb, eqb}
 use borrow.Author.Tests.{lt-ltb, ltb-true, ne-eqb, eqb-true}
 use Rattle.quantity.specs.Range.{within, from}
 use Rattle.layout.specs.Line.{among}
-use Rattle.layout.specs.LineLaws.{clash, low-high}
+use Rattle.quantity.specs.RangeLaws.{low-high}
+use Rattle.truth.specs.Tests.{clash, false-of}
 use Rattle.sheet.specs.declared.Own.the-variants.{One, Two}
 use Rattle.sheet.specs.Versions.{one, two, numbered}
 use Rattle.sheet.specs.Lines.{waves}
@@ -91,8 +92,4 @@ module _ (s : List ℕ) where
         go false e = (λ b. let none : tooSlender (headerOf s) ≡ false = rw e in clash b none, λ z. absurd (omega (arith, first-version e, later-version z)))
 
     pub slim-read : (TooSlender s → ⊥) → tooSlender (headerOf s) ≡ false
-    slim-read n = go (tooSlender (headerOf s)) refl
-      where
-        go : (t : Bool) → tooSlender (headerOf s) ≡ t → tooSlender (headerOf s) ≡ false
-        go true e = absurd (n (slender-read .0 e))
-        go false e = e
+    slim-read n = false-of (tooSlender (headerOf s)) (λ e. n (slender-read .0 e))

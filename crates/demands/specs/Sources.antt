@@ -13,7 +13,8 @@ use Rattle.checker.specs.declared.Entry.{Entry}
 use Rattle.checker.specs.declared.Checked.the-variants.{Done}
 use Rattle.checker.specs.Entry.{verdictWidths}
 use Rattle.demands.specs.Table.{idOf}
-use Rattle.demands.specs.Program.{Program, fourAt, Leaves}
+use Rattle.checker.specs.Check.{fourAt}
+use Rattle.demands.specs.Program.{Program, Leaves}
 use Rattle.demands.specs.Raise.{theHeader, theRecord, withScantling, raisedTimes}
 
 -- four bytes with 0 in the last two bits

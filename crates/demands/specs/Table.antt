@@ -7,8 +7,7 @@ use lib.ListN.{length, getD, take, drop}
 use lib.Dec.{ltb, eqb}
 use Rattle.quantity.specs.Range.{within, from}
 use Rattle.layout.specs.Layout.{pack, unpack, bytes}
-use Rattle.layout.specs.Line.{Line, Allowed}
-use Rattle.layout.specs.LineLaws.{FirstFault}
+use Rattle.layout.specs.Line.{Line, Allowed, FirstFault}
 use Rattle.sheet.specs.Versions.{numbers}
 use Rattle.sheet.specs.Header.{headerFields, versionField, versionIn}
 use Rattle.sheet.specs.Lines.{headerLines, plateLines, plateWidths, memberLines, memberWidths}

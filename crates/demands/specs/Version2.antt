@@ -5,18 +5,11 @@ use Prim.Native.Nat.{ℕ}
 use mathlib.Core.Path.{_≡_, refl}
 use mathlib.Core.List.{List, [], _∷_, _++_}
 use lib.ListN.{take, set}
-use Rattle.gauge.specs.Ceil.{ceilOf}
-use Rattle.gauge.specs.Least.{firstFrom, leastIn}
-use Rattle.loads.specs.Loads.{sea, bottomPressure, innerPressure, deepPressure, lineLoad}
-use Rattle.loads.specs.Sources.{bottomNamed, innerNamed}
 use Rattle.sheet.specs.Refusals.{given, refused}
-use Rattle.sheet.specs.Header.{readHeader}
-use Rattle.sheet.specs.Record.{recordIn, readRecord}
-use Rattle.plating.specs.Rules.{K2}
-use Rattle.framing.specs.Rules.{rule4, rule5, rule6, memberLine}
 use Rattle.checker.specs.declared.Entry.{Entry}
 use Rattle.checker.specs.Entry.{entryBytes}
-use Rattle.checker.specs.Check.{_then_, demand, sheetHeader, headerFor, partsFrom, soundAfter, recordsIn, sheetIn, entryOf, verdicts, bytesOf, failures, answerOf, outputOf}
+use Rattle.checker.specs.Check.{answerOf, outputOf}
+use Rattle.checker.specs.Computing.{reading, checking}
 use Rattle.demands.specs.Table.{Row}
 use Rattle.demands.specs.Example.{vessel}
 use Rattle.demands.specs.Rows.{refused-exactly}
@@ -42,12 +35,12 @@ third required = record { id = 9; rule = 3; required = required; source = 3 }
 
 -- at T 503 the plate is one short of the 504 that ZDB asks for; by ZB it would be 617, as in version 1
 pub inner-output : (outputOf inner (0 ∷ 0 ∷ 0 ∷ 0 ∷ []) ≡ entryBytes (third 504)) × (outputOf inFirst (0 ∷ 0 ∷ 0 ∷ 0 ∷ []) ≡ entryBytes (third 617))
-unfolding outputOf sheetIn headerFor sheetHeader recordsIn partsFrom soundAfter _then_ demand readHeader readRecord recordIn verdicts entryOf bytesOf firstFrom leastIn ceilOf sea bottomPressure innerPressure deepPressure lineLoad K2 rule4 rule5 rule6 memberLine bottomNamed innerNamed
+unfolding checking
 inner-output = (refl, refl)
 
 -- at T 504 it passes
 pub inner-passes : answerOf (head ++ plate 126 0) 4 ≡ given (record { n = 1; failed = 0 })
-unfolding answerOf sheetIn headerFor sheetHeader recordsIn partsFrom soundAfter _then_ demand readHeader readRecord recordIn verdicts entryOf failures firstFrom leastIn ceilOf sea bottomPressure innerPressure deepPressure lineLoad K2 rule4 rule5 rule6 memberLine bottomNamed innerNamed
+unfolding checking
 inner-passes = refl
 
 -- 1 for 12 and for 19 bytes of version 2, but 2 for 12 bytes of version 3; 3 for a ZDB of 0, a depth of 99 and the last of the 27 zero bits; 4 for one byte more
@@ -58,7 +51,7 @@ computed : (answerOf (take 12 inner) 4 ≡ refused 1 0)
     × (answerOf (set (set inner 15 3) 16 24) 4 ≡ refused 3 11)
     × (answerOf (set inner 19 1) 4 ≡ refused 3 12)
     × (answerOf (inner ++ (0 ∷ [])) 4 ≡ refused 4 0)
-unfolding answerOf sheetIn headerFor sheetHeader recordsIn partsFrom soundAfter _then_ demand readHeader readRecord recordIn
+unfolding answerOf reading
 computed = (refl, refl, refl, refl, refl, refl, refl)
 
 -- each of these rows holds for its sheet

@@ -7,6 +7,7 @@ use mathlib.Core.List.{List}
 use lib.ListN.{length}
 use lib.Dec.{leb, ltb}
 use borrow.Author.Tests.{leb-true, ltb-true}
+use Rattle.truth.specs.Tests.{both}
 use Rattle.keyed.specs.Keyed.{placeOf, hasOf}
 use Rattle.sheet.specs.declared.Header.{Header}
 use Rattle.sheet.specs.declared.Record.{Record}
@@ -34,10 +35,6 @@ module _ (b : List ℕ) (len : ℕ) (t : Sheet) where
   pub record Removed (id : ℕ) (a : After) : Type 0 where
     pub there : hasOf idOf id (t .records) ≡ true
     pub after : a ≡ record { size = len - 16; bytes = removing (counting (t .header .count - 1) (t .header)) (placeOf idOf id (t .records)) len b }
-
-  both : (x y : Bool) → (x && y) ≡ true → (x ≡ true) × (y ≡ true)
-  both true y e = (refl, e)
-  both false y e = (e, cc)
 
   placed : (r : Record) (a : After) → placing t b len r ≡ given a → Put r a
   unfolding placing

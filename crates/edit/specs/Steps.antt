@@ -9,8 +9,7 @@ use Rattle.sheet.specs.declared.Header.{Header}
 use Rattle.sheet.specs.declared.Record.{Record}
 use Rattle.sheet.specs.Refusals.{given}
 use Rattle.sheet.specs.Header.{headerFault}
-use Rattle.sheet.specs.Record.{recordFault}
-use Rattle.sheet.specs.RecordLaws.{rawAt}
+use Rattle.sheet.specs.Record.{recordFault, rawAt}
 use Rattle.checker.specs.Check.{partsFrom, Sheet}
 use Rattle.keyed.specs.Keyed.{placeOf, hasOf}
 use Rattle.edit.specs.Edit.{sheetAt, start}

@@ -9,6 +9,7 @@ use lib.ListN.{length, take, drop}
 use lib.Seq.{length-take-le}
 use lib.Dec.{leb, ltb}
 use borrow.Author.Tests.{leb-true, lt-ltb}
+use Rattle.truth.specs.Tests.{both}
 use Rattle.layout.specs.BytesLaws.{drop-take}
 use Rattle.sheet.specs.declared.Header.{Header}
 use Rattle.sheet.specs.declared.Record.{Record}
@@ -57,12 +58,8 @@ pub reads-taken : (i before : ℕ) (ps : List (List ℕ)) (rs : List Record) →
 unfolding recordsIn rises soundAfter _then_
 reads-taken i before [] [] nothing e = refl
 reads-taken i before (p ∷ ps) (r ∷ rs) (reads f s) e =
-    let both = split (ltb before (r .id)) (rises idOf (r .id) rs) e in
-    rw (record-read-any 0 p r f i, both .0, reads-taken (i + 1) (r .id) ps rs s (both .1))
-  where
-    split : (x y : Bool) → (x && y) ≡ true → (x ≡ true) × (y ≡ true)
-    split true y h = (refl, h)
-    split false y h = (h, cc)
+    let h = both (ltb before (r .id)) (rises idOf (r .id) rs) e in
+    rw (record-read-any 0 p r f i, h .0, reads-taken (i + 1) (r .id) ps rs s (h .1))
 
 pub reads-length : (ps : List (List ℕ)) (rs : List Record) → Reads ps rs → length ps ≡ length rs
 reads-length [] [] nothing = refl

@@ -15,16 +15,10 @@ use Rattle.checker.specs.Check.{demand, Sheet}
 use Rattle.checker.specs.ThenLaws.{then-given, demand-given}
 use Rattle.edit.specs.declared.Edited.the-variants.{Length}
 use Rattle.edit.specs.Edit.{sheetAt, headerOf, After, putIn, putNumbersIn, removeIn, sizeBy, Edits}
+use Rattle.edit.specs.Taken.{taken-at}
 use Rattle.edit.specs.Done.{Put, replaces, inserts, put-done, remove-done}
 
 module _ (b : List ℕ) (len : ℕ) where
-  -- before it, where it is not turned away
-  sheet-within : (t : Sheet) → sheetAt b len ≡ given t → len ≤ length b
-  unfolding sheetAt
-  sheet-within t e =
-      let d = then-given (demand (leb len (length b)) 1) _ t e in
-      leb-true len (length b) (demand-given (leb len (length b)) 1 (d .0) (d .1))
-
   placed-within : (t : Sheet) (r : Record) (a : After) → len ≤ length b → Put b len t r a → a .size ≤ length b
   placed-within t r a l (replaces has e) = omega (arith, ap (λ (x : After). x .size) e)
   placed-within t r a l (inserts new fits few e) = omega (arith, ap (λ (x : After). x .size) e)
@@ -33,7 +27,7 @@ module _ (b : List ℕ) (len : ℕ) where
   unfolding putIn
   put-within r a e =
       let s = then-given (sheetAt b len) _ a e in
-      placed-within (s .0) r a (sheet-within (s .0) (s .1)) (put-done b len (s .0) (s .1) r a e .1)
+      placed-within (s .0) r a (taken-at b len (s .0) (s .1) .fits) (put-done b len (s .0) (s .1) r a e .1)
 
   pub numbers-within : (ns : List ℕ) (a : After) → putNumbersIn b len ns ≡ given a → a .size ≤ length b
   unfolding putNumbersIn
@@ -46,7 +40,7 @@ module _ (b : List ℕ) (len : ℕ) where
   unfolding removeIn
   remove-within id a e =
       let s = then-given (sheetAt b len) _ a e in
-      omega (arith, sheet-within (s .0) (s .1), ap (λ (x : After). x .size) (remove-done b len (s .0) (s .1) id a e .after))
+      omega (arith, taken-at b len (s .0) (s .1) .fits, ap (λ (x : After). x .size) (remove-done b len (s .0) (s .1) id a e .after))
 
 -- so the length that an edit gives back is within, if that of what it comes to is
 pub length-within : (x : Answer After) (b : List ℕ) (n : ℕ) (after : List ℕ) → ((a : After) → x ≡ given a → a .size ≤ length b) → Edits x b (Length n) after → n ≤ length b

@@ -5,8 +5,8 @@ use mathlib.Core.Path.{_≡_, refl, sym, ap, ap₂, subst, _∙_}
 use mathlib.Core.Bool.{false}
 use mathlib.Core.List.{List, _∷_, _++_, append-assoc}
 use native.Mathlib.Omega.{arith}
-use lib.ListN.{length, take, drop, replicate, length-append, length-drop}
-use lib.Seq.{take-add, take-take, length-take-le}
+use lib.ListN.{length, take, drop, replicate}
+use lib.Seq.{take-add, take-take}
 use Rattle.layout.specs.Layout.{bytes, Fit}
 use Rattle.sheet.specs.declared.Header.{Header}
 use Rattle.sheet.specs.declared.Record.{Record}
@@ -15,12 +15,13 @@ use Rattle.sheet.specs.Header.{headerSize, headerBytes}
 use Rattle.sheet.specs.HeaderBack.{header-bytes-same}
 use Rattle.checker.specs.Check.{_then_, demand, part, Sheet}
 use Rattle.keyed.specs.Keyed.{placeOf, hasOf, putOf}
-use Rattle.keyed.specs.Places.{place-le, put-at, put-has, put-place}
+use Rattle.keyed.specs.Places.{place-le, put-length, put-has, put-place}
 use Rattle.edit.specs.Edit.{sheetAt, start, idOf, counting, inserting, removing, After, putIn, removeIn}
 use Rattle.edit.specs.Taken.{Taken, taken-at}
 use Rattle.edit_laws.specs.Rebuilt.{head-read}
 use Rattle.edit.specs.Done.{Put, replaces, inserts, put-done}
-use Rattle.edit_laws.specs.Outcomes.{holding, put-sheet}
+use Rattle.edit_laws.specs.Edits.{holding}
+use Rattle.edit_laws.specs.Outcomes.{put-sheet}
 use Rattle.edit_laws.specs.Touched.{inserted-before, inserted-moved, inserted-rest}
 
 -- a part behind what stands before it
@@ -68,10 +69,7 @@ module _ (b : List ℕ) (len : ℕ) (t : Sheet) (found : sheetAt b len ≡ given
 
   -- there are n + 1 records once it is in
   many : length (putOf idOf r (t .records)) ≡ h .count + 1
-  many =
-      let put : putOf idOf r (t .records) ≡ take i (t .records) ++ (r ∷ drop i (t .records)) = put-at idOf r (t .records) ∙ rw new in
-      ap length put
-      ∙ omega (arith, length-append (take i (t .records)) (r ∷ drop i (t .records)), length-take-le i (t .records) (place-le idOf (r .id) (t .records)), length-drop i (t .records), place-le idOf (r .id) (t .records), k .number)
+  many = put-length idOf r (t .records) ∙ rw new (ap (λ (n : ℕ). n + 1) (k .number))
 
   fewer : counting (length (putOf idOf r (t .records)) - 1) h ≡ h
   fewer = let one : length (putOf idOf r (t .records)) - 1 ≡ h .count = omega (arith, many) in ap (λ (m : ℕ). counting m h) one

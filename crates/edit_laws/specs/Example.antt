@@ -9,11 +9,15 @@ use Rattle.keyed.specs.Keyed.{placeOf, hasOf}
 use Rattle.sheet.specs.declared.Record.{Record}
 use Rattle.sheet.specs.declared.Body.the-variants.{Plate as isPlate}
 use Rattle.sheet.specs.Refusals.{given, refused}
-use Rattle.sheet.specs.Header.{readHeader}
-use Rattle.sheet.specs.Record.{plateFault, recordIn, readRecord}
-use Rattle.checker.specs.Check.{_then_, demand, sheetHeader, headerFor, partsFrom, soundAfter, recordsIn, sheetIn}
+use Rattle.sheet.specs.Record.{plateFault}
+use Rattle.checker.specs.Computing.{reading}
 use Rattle.checker.specs.Unjudged.{soundSheet}
 use Rattle.edit.specs.Edit.{sheetAt, replacing, inserting, removing, placing, putIn, removeIn}
+
+-- all that an edit computes with, under one name for an `unfolding` line
+editing : Type 0
+unfolding putIn removeIn placing replacing inserting removing placeOf hasOf sheetAt soundSheet reading plateFault
+editing = Unit {0}
 
 -- V's header, with a count of one, two and three
 abbrev vessel : ℕ → List ℕ
@@ -53,12 +57,12 @@ plate id T =
 -- mended to 617, as the checker asks: its own sixteen bytes change; as id 9 it goes in between, and the sixteen bytes behind the sheet are taken
 pub put-examples : (putIn (lent 0) 44 (plate 7 617) ≡ given (record { size = 44; bytes = vessel 16 ++ ((32 ∷ 31 ∷ 232 ∷ 0 ∷ 7 ∷ 208 ∷ 154 ∷ 64 ∷ 0 ∷ 0 ∷ 0 ∷ 0 ∷ 0 ∷ 0 ∷ 0 ∷ 0 ∷ []) ++ twelve) }))
     × (putIn (lent 17) 44 (plate 9 600) ≡ given (record { size = 60; bytes = vessel 24 ++ (seven ++ ((32 ∷ 39 ∷ 232 ∷ 0 ∷ 7 ∷ 208 ∷ 150 ∷ 0 ∷ 0 ∷ 0 ∷ 0 ∷ 0 ∷ 0 ∷ 0 ∷ 0 ∷ 0 ∷ []) ++ (twelve ++ (170 ∷ [])))) }))
-unfolding putIn placing replacing inserting placeOf hasOf sheetAt soundSheet sheetIn headerFor sheetHeader recordsIn partsFrom soundAfter _then_ demand readHeader readRecord recordIn plateFault
+unfolding editing
 put-examples = (refl, refl)
 
 -- id 7 goes out, id 12 closes the gap, and sixteen zeros come free; past them nothing changes
 pub remove-example : removeIn (lent 1) 44 7 ≡ given (record { size = 28; bytes = vessel 8 ++ (twelve ++ (replicate 16 0 ++ (170 ∷ []))) })
-unfolding removeIn removing placeOf hasOf sheetAt soundSheet sheetIn headerFor sheetHeader recordsIn partsFrom soundAfter _then_ demand readHeader readRecord recordIn
+unfolding editing
 remove-example = refl
 
 -- 1 for a length over the buffer, and under the header; 4 and 8 of the table's own; 6 for a kind that does not go with a plate and 7 for a thickness of 0, with 2 as
@@ -71,7 +75,7 @@ pub refusal-examples : (putIn (lent 0) 45 (plate 7 617) ≡ refused 1 0)
     × (putIn (lent 0) 44 (plate 7 0) ≡ refused 7 70)
     × (removeIn (lent 0) 44 9 ≡ refused 10 0)
     × (putIn (lent 15) 44 (plate 9 600) ≡ refused 11 0)
-unfolding putIn removeIn placing placeOf hasOf sheetAt soundSheet sheetIn headerFor sheetHeader recordsIn partsFrom soundAfter _then_ demand readHeader readRecord recordIn plateFault
+unfolding editing
 refusal-examples = (refl, refl, refl, refl, refl, refl, refl, refl)
 
 -- the same vessel in version 2, with ZDB 300,000 and depth 300: the records stand behind twenty bytes
@@ -88,5 +92,5 @@ pub second-examples : (putIn (second 16 ++ (seven ++ (twelve ++ replicate 17 170
     × (putIn (second 16 ++ (seven ++ twelve)) 19 (plate 7 617) ≡ refused 1 0)
     × (putIn slender 52 (plate 7 617) ≡ refused 9 0)
     × (removeIn slender 51 7 ≡ refused 9 0)
-unfolding putIn removeIn placing inserting removing placeOf hasOf sheetAt soundSheet sheetIn headerFor sheetHeader recordsIn partsFrom soundAfter _then_ demand readHeader readRecord recordIn plateFault
+unfolding editing
 second-examples = (refl, refl, refl, refl, refl)

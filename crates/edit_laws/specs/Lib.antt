@@ -1,10 +1,11 @@
+pub mod Rows
+pub mod Edits
 pub mod Rebuilt
 pub mod Outcomes
 pub mod Sequences
 pub mod Touched
 pub mod BackAgain
 pub mod Verdicts
-pub mod Rows
 pub mod SheetRefusals
 pub mod RowLaws
 pub mod Numbers

@@ -14,7 +14,7 @@ use Rattle.checker.specs.Check.{_then_, Sheet}
 use Rattle.edit.specs.Edit.{sheetAt, headerOf, putIn, putNumbersIn}
 use Rattle.edit_laws.specs.Rows.{SheetRow}
 use Rattle.checker.specs.ThenLaws.{refused-as}
-use Rattle.edit_laws.specs.RowLaws.{sheet-row}
+use Rattle.edit_laws.specs.RowLaws.{sheet-row, put-refused}
 
 module _ (b : List ℕ) (len : ℕ) (ns : List ℕ) where
   -- of a sheet that is turned away, and of one that is not
@@ -54,9 +54,6 @@ pub own-numbers : (b : List ℕ) (len : ℕ) (r : Record) → recordFault r 0 �
 unfolding _then_ putIn
 own-numbers b len r z = go (sheetAt b len) refl
   where
-    refused-too : (k p : ℕ) → sheetAt b len ≡ refused k p → putIn b len r ≡ refused k p
-    refused-too k p e = rw e
-
     go : (x : Answer Sheet) → sheetAt b len ≡ x → putNumbersIn b len (recordNumbers r) ≡ putIn b len r
-    go (refused k p) e = turned b len (recordNumbers r) k p e ∙ sym (refused-too k p e)
+    go (refused k p) e = turned b len (recordNumbers r) k p e ∙ sym (put-refused b len r k p k p e)
     go (given t) e = numbers-put b len (recordNumbers r) t e ∙ ap (λ (x : Answer Record). x then λ q. putIn b len q) (record-from-numbers (t .header .count) r z)

@@ -19,16 +19,13 @@ use Rattle.sheet.specs.OwnBytes.{record-bytes-length, record-bytes-read}
 use Rattle.checker.specs.Check.{sheetSize, Sheet}
 use Rattle.keyed.specs.Keyed.{rises, placeOf, putOf, outOf}
 use Rattle.keyed.specs.MapLaws.{put-rises, out-rises}
-use Rattle.keyed.specs.Places.{place-le, has-lt, put-at, out-at}
+use Rattle.keyed.specs.Places.{place-le, has-lt, put-at, put-length, out-at}
 use Rattle.edit.specs.Edit.{sheetAt, idOf, counting, After, putIn, removeIn}
 use Rattle.edit.specs.Done.{Put, replaces, inserts, put-done, remove-done}
 use Rattle.edit.specs.HeaderCount.{counting-sound}
 use Rattle.edit.specs.Taken.{nothing, reads, Taken, taken-at}
+use Rattle.edit_laws.specs.Edits.{holding}
 use Rattle.edit_laws.specs.Rebuilt.{head, head-read, rebuilt, inserted-bytes, replaced-bytes, removed-bytes}
-
--- a sheet that holds these records, which its header counts
-abbrev pub holding : Header → List Record → Sheet
-holding h rs = record { header = counting (length rs) h; records = rs }
 
 -- a header's bytes alone are read as it
 own-bytes : (h : Header) → headerFault h ≡ 0 → readHeader (headerBytes h) ≡ given h
@@ -70,8 +67,7 @@ module _ (b : List ℕ) (len : ℕ) (t : Sheet) (found : sheetAt b len ≡ given
         let next : suc i ≡ i + 1 = omega arith in
         let m : i < h .count = omega (arith, has-lt idOf (r .id) rs has, k .number) in
         let put : putOf idOf r rs ≡ take i rs ++ ((r ∷ []) ++ drop (i + 1) rs) = put-at idOf r rs ∙ rw has (ap (λ (j : ℕ). take i rs ++ (r ∷ drop j rs)) next) in
-        let many : length (putOf idOf r rs) ≡ h .count =
-        ap length put ∙ omega (arith, length-append (take i rs) (r ∷ drop (i + 1) rs), length-take-le i rs (omega (arith, k .number)), length-drop (i + 1) rs, k .number) in
+        let many : length (putOf idOf r rs) ≡ h .count = put-length idOf r rs ∙ rw has (k .number) in
         in-words _ a h _ (putOf idOf r rs)
         (ap (λ (x : After). x .bytes) e ∙ replaced-bytes b len t k i inside m r)
         (ap (λ (x : After). x .size) e ∙ k .whole)
@@ -83,8 +79,7 @@ module _ (b : List ℕ) (len : ℕ) (t : Sheet) (found : sheetAt b len ≡ given
         let g = counting (h .count + 1) h in
         let sound = counting-sound h (h .count + 1) (k .sound) (omega arith) in
         let put : putOf idOf r rs ≡ take i rs ++ ((r ∷ []) ++ drop i rs) = put-at idOf r rs ∙ rw new in
-        let many : length (putOf idOf r rs) ≡ h .count + 1 =
-        ap length put ∙ omega (arith, length-append (take i rs) (r ∷ drop i rs), length-take-le i rs (omega (arith, k .number, inside)), length-drop i rs, k .number, inside) in
+        let many : length (putOf idOf r rs) ≡ h .count + 1 = put-length idOf r rs ∙ rw new (ap (λ (n : ℕ). n + 1) (k .number)) in
         in-words _ a g _ (putOf idOf r rs)
         (ap (λ (x : After). x .bytes) e ∙ inserted-bytes b len t k i inside g r refl)
         (ap (λ (x : After). x .size) e ∙ omega (arith, k .whole))

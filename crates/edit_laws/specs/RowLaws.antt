@@ -11,17 +11,18 @@ use lib.Seq.{length-take-le}
 use lib.Dec.{leb, ltb}
 use borrow.Author.Tests.{le-leb, lt-leb, le-ltb, ltb-false}
 use Rattle.layout.specs.Line.{Allowed}
-use Rattle.layout.specs.LineLaws.{clash}
+use Rattle.truth.specs.Tests.{clash, false-of}
 use Rattle.sheet.specs.declared.Header.{Header}
 use Rattle.sheet.specs.declared.Record.{Record}
-use Rattle.sheet.specs.VersionLaws.{Under}
+use Rattle.sheet.specs.Versions.{Under}
 use Rattle.sheet.specs.Refusals.{Answer, given, refused, recordRefused}
 use Rattle.sheet.specs.RefusalLaws.{given-refused, refused-number, refused-place}
 use Rattle.sheet.specs.Header.{versionField, versionIn, readHeader}
 use Rattle.sheet.specs.HeaderExactly.{header-read-1}
-use Rattle.sheet.specs.Record.{recordFault}
-use Rattle.sheet.specs.Exactly.{Exactly, exactly-then}
-use Rattle.sheet.specs.RecordExactly.{linesOf, valuesOf, record-fault-6, record-fault-7, record-fault-given, record-fault-others}
+use Rattle.sheet.specs.ExactlyLaws.{exactly-then}
+use Rattle.sheet.specs.Record.{recordFault, linesOf, valuesOf}
+use Rattle.sheet.specs.Exactly.{Exactly}
+use Rattle.sheet.specs.RecordExactly.{record-fault-6, record-fault-7, record-fault-given, record-fault-others}
 use Rattle.checker.specs.Check.{_then_, demand, Sheet}
 use Rattle.checker.specs.ThenLaws.{refused-as}
 use Rattle.checker.specs.Unjudged.{soundSheet}
@@ -75,7 +76,7 @@ module _ (b : List ℕ) (len : ℕ) (r : Record) (k p : ℕ) where
   abbrev tested : ℕ → Answer (Unit {0})
   tested n = recordRefused n (recordFault r 0) (given (tt {0}))
 
-  put-refused : (l q : ℕ) → sheetAt b len ≡ refused l q → putIn b len r ≡ refused l q
+  pub put-refused : (l q : ℕ) → sheetAt b len ≡ refused l q → putIn b len r ≡ refused l q
   unfolding putIn _then_
   put-refused l q e = rw e
 
@@ -131,14 +132,10 @@ module _ (b : List ℕ) (len : ℕ) (r : Record) (k p : ℕ) where
   back (field t f e c) = put-given t f ∙ ap (λ (x : Answer (Unit {0})). x then λ u. placing t b len r) (record-fault-7 r (t .header .count) p .1 e) ∙ ap (λ (j : ℕ). refused j p) (sym c)
   back (no-room t f a n l c d) =
       let sound = record-fault-given r (t .header .count) .1 a in
-      let new : hasOf idOf (r .id) (t .records) ≡ false = absent-has (hasOf idOf (r .id) (t .records)) refl in
+      let new : hasOf idOf (r .id) (t .records) ≡ false = false-of (hasOf idOf (r .id) (t .records)) (λ e. n (has-present idOf (r .id) (t .records) e)) in
       put-given t f
       ∙ ap (λ (x : Answer (Unit {0})). x then λ u. placing t b len r) sound
       ∙ rw (new, room-full (t .header) len (length b) .1 l) (ap₂ refused (sym c) (sym d))
-    where
-      absent-has : (x : Bool) → hasOf idOf (r .id) (t .records) ≡ x → hasOf idOf (r .id) (t .records) ≡ false
-      absent-has true e = absurd (n (has-present idOf (r .id) (t .records) e))
-      absent-has false e = e
 
   -- refusal k with place p, exactly when that row holds
   pub put-refused-exactly : Exactly (putIn b len r ≡ refused k p) (PutRow b len r k p)
@@ -216,11 +213,7 @@ module _ (b : List ℕ) (len id k p : ℕ) where
   there-back : RemoveRow b len id k p → removeIn b len id ≡ refused k p
   unfolding removeIn _then_ demand
   there-back (sheet s) = remove-refused k p (sheet-row b len k p .1 s)
-  there-back (absent t f n c d) = rw (f, new (hasOf idOf id (t .records)) refl) (ap₂ refused (sym c) (sym d))
-    where
-      new : (x : Bool) → hasOf idOf id (t .records) ≡ x → hasOf idOf id (t .records) ≡ false
-      new true e = absurd (n (has-present idOf id (t .records) e))
-      new false e = e
+  there-back (absent t f n c d) = rw (f, false-of (hasOf idOf id (t .records)) (λ e. n (has-present idOf id (t .records) e))) (ap₂ refused (sym c) (sym d))
 
   pub remove-refused-exactly : Exactly (removeIn b len id ≡ refused k p) (RemoveRow b len id k p)
   remove-refused-exactly = (there-forth, there-back)

@@ -8,12 +8,12 @@ use Rattle.keyed.specs.Places.{Present}
 use Rattle.layout.specs.Line.{Allowed}
 use Rattle.sheet.specs.declared.Header.{Header}
 use Rattle.sheet.specs.declared.Record.{Record}
-use Rattle.sheet.specs.VersionLaws.{Under}
+use Rattle.sheet.specs.Versions.{Under}
 use Rattle.sheet.specs.Header.{versionField, versionIn, readHeader}
 use Rattle.sheet.specs.Slender.{tooSlender}
 use Rattle.sheet.specs.Refusals.{given, refused}
+use Rattle.sheet.specs.Record.{belongs, linesOf, valuesOf}
 use Rattle.sheet.specs.Exactly.{LaterFault}
-use Rattle.sheet.specs.RecordExactly.{belongs, linesOf, valuesOf}
 use Rattle.checker.specs.Check.{Sheet}
 use Rattle.checker.specs.Unjudged.{soundSheet}
 use Rattle.edit.specs.Edit.{sheetAt, highest, idOf}

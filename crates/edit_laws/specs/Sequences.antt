@@ -13,34 +13,8 @@ use Rattle.keyed.specs.MapLaws.{edits}
 use Rattle.edit.specs.Edit.{sheetAt, idOf, counting, After, putIn, removeIn}
 use Rattle.edit.specs.Taken.{taken-at}
 use Rattle.edit.specs.Done.{put-done}
-use Rattle.edit_laws.specs.Outcomes.{holding, holds-its-own, put-sheet, remove-sheet}
-
--- ---- edits of a buffer
-
--- an edit of the sheet in the buffer: a record put in, or the one of an id taken out
-abbrev pub editIn : Edit idOf → After → Answer After
-editIn (put r) a = putIn (a .bytes) (a .size) r
-editIn (out id) a = removeIn (a .bytes) (a .size) id
-
--- bytes and length afterwards: a refusal leaves both
-abbrev pub afterBy : Answer After → After → After
-afterBy (given x) a = x
-afterBy (refused k p) a = a
-
--- and after edits in turn
-unfoldable pub afterAll : List (Edit idOf) → After → After
-afterAll [] a = a
-afterAll (e ∷ es) a = afterAll es (afterBy (editIn e a) a)
-
--- an edit in front of others, where it is done
-abbrev pub doneBy : Answer After → Edit idOf → List (Edit idOf) → List (Edit idOf)
-doneBy (given x) e es = e ∷ es
-doneBy (refused k p) e es = es
-
--- those of the edits that are not refused
-unfoldable pub doneAll : List (Edit idOf) → After → List (Edit idOf)
-doneAll [] a = []
-doneAll (e ∷ es) a = doneBy (editIn e a) e (doneAll es (afterBy (editIn e a) a))
+use Rattle.edit_laws.specs.Edits.{holding, editIn, afterBy, afterAll, doneBy, doneAll, AnyEdits}
+use Rattle.edit_laws.specs.Outcomes.{holds-its-own, put-sheet, remove-sheet}
 
 -- ---- the law
 
@@ -75,15 +49,6 @@ keys-done (e ∷ es) a t f = go (keys-done es) e (editIn e a) refl
     go rest (put r) (given x) g = (record-id r (put-done (a .bytes) (a .size) t f r x g .0) .0, rest x (holding (t .header) (listAfter idOf (put r) (t .records))) (one-edit a t f (put r) x g))
     go rest (out id) (given x) g = rest x (holding (t .header) (listAfter idOf (out id) (t .records))) (one-edit a t f (out id) x g)
     go rest e (refused k p) g = rest a t f
-
--- A sheet that is not turned away, after any edits: it is not turned away either; no field of its header but the count has changed, and that counts its
--- records; these rise in their ids; and at every id stands what a plain map holds after the edits that are done.
-pub record AnyEdits (es : List (Edit idOf)) (a : After) (t : Sheet) : Type 0 where
-  pub sheet : Sheet
-  pub sound : sheetAt (afterAll es a .bytes) (afterAll es a .size) ≡ given sheet
-  pub header : sheet .header ≡ counting (length (sheet .records)) (t .header)
-  pub order : rises idOf 0 (sheet .records) ≡ true
-  pub map : (id : ℕ) → lookup idOf id (sheet .records) ≡ mapAll idOf (doneAll es a) (λ j. lookup idOf j (t .records)) id
 
 pub any-edits : (es : List (Edit idOf)) (a : After) (t : Sheet) → sheetAt (a .bytes) (a .size) ≡ given t → AnyEdits es a t
 any-edits es a t f =

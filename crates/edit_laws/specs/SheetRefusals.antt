@@ -8,7 +8,7 @@ use native.Mathlib.Omega.{arith}
 use lib.ListN.{length, length-drop}
 use lib.Dec.{leb, ltb, eqb}
 use borrow.Author.Tests.{not-false, leb-false}
-use Rattle.layout.specs.LineLaws.{clash}
+use Rattle.truth.specs.Tests.{clash}
 use Rattle.sheet.specs.declared.Header.{Header}
 use Rattle.sheet.specs.declared.Record.{Record}
 use Rattle.sheet.specs.Refusals.{Answer, given, refused}

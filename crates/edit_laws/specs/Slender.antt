@@ -6,7 +6,7 @@ use mathlib.Core.Bool.{true}
 use mathlib.Core.List.{List, [], _∷_}
 use native.Mathlib.Omega.{arith}
 use lib.ListN.{take}
-use Rattle.layout.specs.LineLaws.{clash}
+use Rattle.truth.specs.Tests.{clash}
 use Rattle.sheet.specs.declared.Own.{Own}
 use Rattle.sheet.specs.declared.Own.the-variants.{One, Two}
 use Rattle.sheet.specs.declared.Record.{Record}
@@ -16,7 +16,8 @@ use Rattle.sheet.specs.HeaderBack.{read-holds}
 use Rattle.sheet.specs.Slender.{beyondOwn}
 use Rattle.sheet.specs.Refusals.{Answer, given, refused}
 use Rattle.sheet.specs.RefusalLaws.{given-refused}
-use Rattle.sheet.specs.Exactly.{Exactly, exactly-then}
+use Rattle.sheet.specs.ExactlyLaws.{exactly-then}
+use Rattle.sheet.specs.Exactly.{Exactly}
 use Rattle.numbers.specs.From.{recordFrom}
 use Rattle.numbers.specs.Exactly.{record-from-others}
 use Rattle.checker.specs.Check.{Sheet}
@@ -24,7 +25,8 @@ use Rattle.checker.specs.ThenLaws.{then-given}
 use Rattle.keyed.specs.Keyed.{Edit, put, out}
 use Rattle.edit.specs.Edit.{sheetAt, headerOf, idOf, After, putIn, putNumbersIn, removeIn}
 use Rattle.edit_laws.specs.SheetRefusals.{sheet-9}
-use Rattle.edit_laws.specs.Sequences.{editIn, afterBy, afterAll, one-edit}
+use Rattle.edit_laws.specs.Edits.{IsSlender, editIn, afterBy, afterAll}
+use Rattle.edit_laws.specs.Sequences.{one-edit}
 use Rattle.edit_laws.specs.Rows.{SheetRow, over, own, Slender}
 use Rattle.edit_laws.specs.RowLaws.{sheet-row, put-by-sheet, remove-by-sheet}
 use Rattle.edit_laws.specs.Numbers.{NumbersRow, sheet, numbers, putting, numbers-refused-exactly}
@@ -74,10 +76,6 @@ never-in-version-1 b len v p = (
 )
 
 -- ---- and no edit changes whether it is
-
--- the sheet in a buffer is one of a hull that is too slender
-abbrev pub IsSlender : After → Type 0
-IsSlender a = Slender (a .bytes) (a .size)
 
 -- then it is turned away
 turned-away : (a : After) (t : Sheet) → sheetAt (a .bytes) (a .size) ≡ given t → IsSlender a → ⊥

@@ -18,7 +18,7 @@ use Rattle.sheet.specs.Record.{readRecord}
 use Rattle.sheet.specs.RecordBack.{record-read-any}
 use Rattle.framing.specs.Rules.{memberLine}
 use Rattle.checker.specs.Entry.{entryBytes}
-use Rattle.checker.specs.Check.{_then_, demand, headerFor, recordsPart, recordPart, recordOf, partsFrom, Sheet, sheetIn, entryOf, outputOf}
+use Rattle.checker.specs.Check.{fourAt, _then_, demand, headerFor, recordsPart, recordPart, recordOf, partsFrom, Sheet, sheetIn, entryOf, outputOf}
 use Rattle.checker.specs.ThenLaws.{then-given}
 use Rattle.checker.specs.FrontLaws.{slim-header}
 use Rattle.checker.specs.CheckLaws.{sheet-whole, verdict-at}
@@ -27,8 +27,8 @@ use Rattle.keyed.specs.Keyed.{Edit, put, out, listAfter}
 use Rattle.keyed.specs.Places.{At, put-keeps, out-keeps}
 use Rattle.edit.specs.Edit.{sheetAt, idOf, counting, After}
 use Rattle.edit.specs.Taken.{Reads, nothing, reads, own-parts, taken-at}
-use Rattle.edit_laws.specs.Outcomes.{holding}
-use Rattle.edit_laws.specs.Sequences.{editIn, one-edit}
+use Rattle.edit_laws.specs.Edits.{sheetOf, edited, holding, editIn}
+use Rattle.edit_laws.specs.Sequences.{one-edit}
 
 -- ---- what a verdict rests on
 
@@ -71,19 +71,6 @@ at-read s k (suc m) (r ∷ rs) (reads f a) (suc i) q b =
     (omega (arith, c .0), ap (λ (j : ℕ). readRecord 0 (recordPart s j)) (sym e) ∙ c .1)
 
 -- ---- the theorem
-
--- the sheet in the buffer
-abbrev pub sheetOf : After → List ℕ
-sheetOf a = take (a .size) (a .bytes)
-
--- the four bytes of verdict i in an output
-abbrev pub fourAt : ℕ → List ℕ → List ℕ
-fourAt i o = take 4 (drop (4 * i) o)
-
--- the id that an edit is about
-abbrev pub edited : Edit idOf → ℕ
-edited (put r) = r .id
-edited (out id) = id
 
 keeps : (e : Edit idOf) (rs : List Record) (i : ℕ) (q : Record) → (q .id ≡ edited e → ⊥) → At idOf rs i q → (j : ℕ) × At idOf (listAfter idOf e rs) j q
 unfolding listAfter

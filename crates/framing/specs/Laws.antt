@@ -12,7 +12,7 @@ use Rattle.gauge.specs.ShapeLaws.{monotone, over-floor, excess}
 use Rattle.gauge.specs.declared.Shape.{Shape}
 use Rattle.gauge.specs.declared.Shape.the-variants.{Floor, Square}
 use Rattle.loads.specs.Sources.{Named}
-use Rattle.loads.specs.SourceLaws.{either-both}
+use Rattle.truth.specs.Tests.{either-both}
 use Rattle.sheet.specs.Kinds.{isFloor, isDeep}
 use Rattle.sheet.specs.declared.Header.{Header}
 use Rattle.sheet.specs.declared.Member.{Member}

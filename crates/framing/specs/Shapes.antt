@@ -8,8 +8,8 @@ use native.Mathlib.Nat.{mul-right-comm, mul-pos}
 use lib.Dec.{leb, ltb, lit<}
 use borrow.Author.Tests.{ltb-true}
 use Rattle.gauge.specs.Ceil.{ceilOf}
-use Rattle.gauge.specs.Shape.{meetsOf}
-use Rattle.gauge.specs.ShapeLaws.{Says, either-says, over-floor, excess}
+use Rattle.gauge.specs.Shape.{meetsOf, Says}
+use Rattle.gauge.specs.ShapeLaws.{either-says, over-floor, excess}
 use Rattle.gauge.specs.declared.Shape.{Shape}
 use Rattle.gauge.specs.declared.Shape.the-variants.{Never, Floor, Square}
 use Rattle.quantity.specs.Range.{thickness, modulus, shearArea}

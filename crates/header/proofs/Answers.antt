@@ -16,8 +16,8 @@ use Rattle.layout.specs.Bytes.{readOf, writtenOf}
 use Rattle.layout.specs.BytesLaws.{read-all, write-all}
 use Rattle.layout.specs.Tail.{mid-tail, put-tail}
 use Rattle.layout.specs.Line.{faultFrom}
-use Rattle.sheet.specs.Versions.{firstBytes, one, two, numbered, versionOf, needs}
-use Rattle.sheet.specs.VersionLaws.{under-first, regular, needs-own}
+use Rattle.sheet.specs.Versions.{firstBytes, one, two, numbered, versionOf, needs, under-first}
+use Rattle.sheet.specs.VersionLaws.{regular, needs-own}
 use Rattle.sheet.specs.Lines.{headerLines, firstWidths, ownWidths}
 use Rattle.sheet.specs.Header.{headerSize, firstValues, ownValues, headerAt, rawFault, headerFault, fieldsIn, ownBytes, firstFields, ownFields, versionField, versionIn, headerFields, headerOf, readHeader, headerBytes, headerNeeds, writeHeader}
 use Rattle.sheet.specs.HeaderLaws.{version-at, spareIn, restIn, read-fault}

@@ -4,9 +4,8 @@ use Prim.Native.Nat.{ℕ}
 use mathlib.Core.Path.{_≡_, refl}
 use mathlib.Core.Bool.{false}
 use mathlib.Core.List.{List, [], _∷_, map}
-use Rattle.gauge.specs.Ceil.{ceilOf}
-use Rattle.gauge.specs.Least.{firstFrom, leastIn, numberOf}
-use Rattle.loads.specs.Loads.{sea, relief, bottomPressure, innerPressure, deepPressure, lineLoad}
+use Rattle.gauge.specs.Least.{leastIn, numberOf}
+use Rattle.loads.specs.Loads.{sea, relief}
 use Rattle.sheet.specs.declared.Header.{Header}
 use Rattle.sheet.specs.declared.Own.{Own}
 use Rattle.sheet.specs.declared.Own.the-variants.{One, Two}
@@ -15,7 +14,8 @@ use Rattle.sheet.specs.declared.Member.{Member}
 use Rattle.sheet.specs.Versions.{versionOf}
 use Rattle.verdict.specs.Verdict.{Rule}
 use Rattle.plating.specs.Rules.{K2, asked3, plateRules}
-use Rattle.framing.specs.Rules.{rule4, rule5, rule6, memberLine, webRule, memberRules}
+use Rattle.framing.specs.Rules.{memberLine, webRule, memberRules}
+use Rattle.hull.specs.Computing.{judging}
 
 -- vessel V with another length, moment or modulus, in the version that holds this of its own
 abbrev pub vesselOf : Own → ℕ → ℕ → ℕ → Header
@@ -119,7 +119,7 @@ printed =
     ∷ []
 
 pub twelve-cases : computed ≡ printed
-unfolding firstFrom leastIn ceilOf sea bottomPressure innerPressure deepPressure lineLoad K2 memberLine rule4 rule5 rule6
+unfolding judging
 twelve-cases = refl
 
 -- V in version 2, with depth 300 and this ZDB
@@ -138,5 +138,5 @@ inner ZDB =
 pub inner-cases : (inner 400000 ≡ (458 ∷ 329 ∷ 437 ∷ []) ∷ (458 ∷ 439 ∷ 732 ∷ []) ∷ (530 ∷ 315 ∷ 617 ∷ []) ∷ [])
     × (inner 200000 ≡ (458 ∷ 329 ∷ 617 ∷ []) ∷ (458 ∷ 439 ∷ 1034 ∷ []) ∷ (530 ∷ 315 ∷ 617 ∷ []) ∷ [])
     × (inner 100000 ≡ (458 ∷ 329 ∷ 873 ∷ []) ∷ (458 ∷ 439 ∷ 1463 ∷ []) ∷ (530 ∷ 315 ∷ 617 ∷ []) ∷ [])
-unfolding firstFrom leastIn ceilOf sea bottomPressure innerPressure K2
+unfolding judging
 inner-cases = (refl, refl, refl)

@@ -1,5 +1,6 @@
 pub mod Hull
 pub mod Sources
+pub mod Computing
 pub mod Cases
 pub mod Raising
 pub mod PutLaws

@@ -6,8 +6,9 @@ use mathlib.Core.Bool.{Bool, true, false}
 use native.Mathlib.Omega.{arith}
 use native.Mathlib.Decide.{ℕ-discrete}
 use lib.Dec.{eqb, lit<, lit≤}
-use borrow.Author.Tests.{le-leb, ne-eqb, eqb-false}
-use Rattle.quantity.specs.Range.{Range, within, thickness, modulus, shearArea}
+use borrow.Author.Tests.{ne-eqb, eqb-false}
+use Rattle.quantity.specs.Range.{within, thickness, modulus, shearArea}
+use Rattle.quantity.specs.RangeLaws.{lies-within}
 use Rattle.layout.specs.LineLaws.{all-none}
 use Rattle.sheet.specs.declared.Header.{Header}
 use Rattle.sheet.specs.declared.Plate.{Plate}
@@ -82,10 +83,6 @@ body-put h kind (isMember m) v (there t (there u (here f e))) x =
 
 -- ---- within its values
 
--- a number from the lowest to the highest is within a range
-pub in-range : (r : Range) (x : ℕ) → r .low ≤ x → x ≤ r .high → within r x ≡ true
-in-range r x l h = rw (le-leb _ _ l, le-leb _ _ h)
-
 -- a member with other scantlings within their values
 member-sound : (kind id : ℕ) (m : Member) (T W A : ℕ) → memberFault kind id m ≡ 0 → within thickness T ≡ true → within modulus W ≡ true → within shearArea A ≡ true
     → memberFault kind id (withScantlings T W A m) ≡ 0
@@ -106,7 +103,7 @@ plate-sound kind id p T e t =
 
 -- with x of its gauge in place of the scantling that a rule of the body speaks of
 pub own-sound : (kind id : ℕ) (b : Body) (k x : ℕ) → OwnRule b k → InGauge k x → bodyFault kind id b 0 ≡ 0 → bodyFault kind id (putBody k x b) 0 ≡ 0
-own-sound kind id (isPlate p) k x own g e = plate-sound kind id p x e (in-range thickness x (g .0) (rw (ne-eqb k 5 (λ f. omega (arith, own .1)), ne-eqb k 6 (λ f. omega (arith, own .1))) at (g .1)))
+own-sound kind id (isPlate p) k x own g e = plate-sound kind id p x e (lies-within thickness x (g .0) (rw (ne-eqb k 5 (λ f. omega (arith, own .1)), ne-eqb k 6 (λ f. omega (arith, own .1))) at (g .1)))
 own-sound kind id (isMember m) k x own g e = go (ℕ-discrete k 4) (ℕ-discrete k 5)
   where
     T : within thickness (m .thickness .0) ≡ true
@@ -123,6 +120,6 @@ own-sound kind id (isMember m) k x own g e = go (ℕ-discrete k 4) (ℕ-discrete
     at j q z = subst (λ (i : ℕ). bodyFault kind id (putBody i x (isMember m)) 0 ≡ 0) (sym q) (z (subst (λ (i : ℕ). x ≤ gaugeTop i) q (g .1)))
 
     go : Dec (k ≡ 4) → Dec (k ≡ 5) → bodyFault kind id (putBody k x (isMember m)) 0 ≡ 0
-    go (yes q) five = at 4 q (λ n. member-sound kind id m x (m .modulus .0) (m .area .0) e (in-range thickness x (g .0) n) W A)
-    go (no q) (yes f) = at 5 f (λ n. member-sound kind id m (m .thickness .0) x (m .area .0) e T (in-range modulus x (g .0) n) A)
-    go (no q) (no f) = at 6 (omega (arith, own)) (λ n. member-sound kind id m (m .thickness .0) (m .modulus .0) x e T W (in-range shearArea x (g .0) n))
+    go (yes q) five = at 4 q (λ n. member-sound kind id m x (m .modulus .0) (m .area .0) e (lies-within thickness x (g .0) n) W A)
+    go (no q) (yes f) = at 5 f (λ n. member-sound kind id m (m .thickness .0) x (m .area .0) e T (lies-within modulus x (g .0) n) A)
+    go (no q) (no f) = at 6 (omega (arith, own)) (λ n. member-sound kind id m (m .thickness .0) (m .modulus .0) x e T W (lies-within shearArea x (g .0) n))

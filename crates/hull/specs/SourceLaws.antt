@@ -7,7 +7,8 @@ use mathlib.Core.List.{List, []}
 use lib.Dec.{eqb, lit≤}
 use Rattle.loads.specs.declared.Source.the-variants.{Cargo}
 use Rattle.loads.specs.Sources.{numberOf, Named, deciding, Decides}
-use Rattle.loads.specs.SourceLaws.{either-of, deciding-decides, sea-numbered, bottom-numbered, inner-numbered}
+use Rattle.truth.specs.Tests.{either-of}
+use Rattle.loads.specs.SourceLaws.{deciding-decides, sea-numbered, bottom-numbered, inner-numbered}
 use Rattle.sheet.specs.Kinds.{isBottom, isDeep}
 use Rattle.sheet.specs.declared.Header.{Header}
 use Rattle.sheet.specs.declared.Record.{Record}

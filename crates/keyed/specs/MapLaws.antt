@@ -8,13 +8,10 @@ use mathlib.Core.Option.{Option, none, some}
 use native.Mathlib.Omega.{arith}
 use lib.Dec.{ltb, eqb}
 use borrow.Author.Tests.{ltb-true, ltb-false, lt-ltb, eqb-true, eqb-false, ne-eqb}
+use Rattle.truth.specs.Tests.{both}
 use Rattle.keyed.specs.Keyed.{rises, lookup, putOf, outOf, Edit, put, out, mapAfter, mapAll, listAfter, listAll, Keys}
 
 module _ {A : Type 0} (key : A → ℕ) where
-  both : (a b : Bool) → (a && b) ≡ true → (a ≡ true) × (b ≡ true)
-  both true b e = (refl, e)
-  both false b e = (e, cc)
-
   -- the first of a rising list is above what stands before, and the others rise from it
   pub rises-head : (before : ℕ) (r : A) (rs : List A) → rises key before (r ∷ rs) ≡ true → (before < key r) × (rises key (key r) rs ≡ true)
   unfolding rises

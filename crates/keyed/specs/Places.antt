@@ -1,6 +1,6 @@
 -- Putting in and taking out of a list that rises in its keys, by the place of the key.
 -- Assumes nothing.
-use Prim.Native.Nat.{ℕ, zero, suc, _<_, _≤_}
+use Prim.Native.Nat.{ℕ, zero, suc, _+_, _<_, _≤_}
 use mathlib.Core.Path.{_≡_, refl, sym, ap, _∙_}
 use mathlib.Core.Bool.{Bool, true, false, cond}
 use mathlib.Core.List.{List, [], _∷_, _++_}
@@ -49,6 +49,22 @@ module _ {A : Type 0} (key : A → ℕ) where
           later false k = refl
       go i false true = refl
       go i false false = refl
+
+  -- how many there are once it is in
+  pub put-length : (new : A) (rs : List A) → length (putOf key new rs) ≡ cond (hasOf key (key new) rs) (length rs) (length rs + 1)
+  unfolding putOf hasOf
+  put-length new [] = refl
+  put-length new (r ∷ rs) = go (put-length new rs) (ltb (key r) (key new)) (eqb (key r) (key new))
+    where
+      go : length (putOf key new rs) ≡ cond (hasOf key (key new) rs) (length rs) (length rs + 1) → (s t : Bool)
+          → length (cond s (r ∷ putOf key new rs) (cond t (new ∷ rs) (new ∷ r ∷ rs))) ≡ cond (cond s (hasOf key (key new) rs) t) (suc (length rs)) (suc (length rs) + 1)
+      go i true t = ap suc i ∙ later (hasOf key (key new) rs)
+        where
+          later : (b : Bool) → suc (cond b (length rs) (length rs + 1)) ≡ cond b (suc (length rs)) (suc (length rs) + 1)
+          later true = refl
+          later false = omega arith
+      go i false true = refl
+      go i false false = omega arith
 
   -- a removal, by the place
   pub out-at : (j : ℕ) (rs : List A) → hasOf key j rs ≡ true → outOf key j rs ≡ take (placeOf key j rs) rs ++ drop (suc (placeOf key j rs)) rs

@@ -1,8 +1,9 @@
 -- A layout's lines: how wide each field is and which values it may hold; and the first field that is at fault.
-use Prim.Native.Nat.{ℕ, zero, suc, _^_}
+use Prim.Native.Nat.{ℕ, zero, suc, _^_, _<_}
 use mathlib.Core.Path.{_≡_}
 use mathlib.Core.Bool.{Bool, true, false, cond, _&&_, _||_}
 use mathlib.Core.List.{List, [], _∷_}
+use lib.ListN.{length}
 use lib.Dec.{ltb}
 use Rattle.quantity.specs.Range.{Range, within, from}
 
@@ -54,6 +55,12 @@ faultFrom k [] [] = 0
 faultFrom k [] (v ∷ vs) = k
 faultFrom k (l ∷ ls) [] = k
 faultFrom k (l ∷ ls) (v ∷ vs) = cond (allows l v) (faultFrom (suc k) ls vs) k
+
+-- the field at an index, from 0, is at fault and no earlier one is
+pub record FirstFault (i : ℕ) (ls : List Line) (vs : List ℕ) : Type 0 where
+  pub inside : i < length ls
+  pub faulty : allowsAt i ls vs ≡ false
+  pub earlier : (j : ℕ) → j < i → allowsAt j ls vs ≡ true
 
 -- whether all ranges end below a number
 abbrev pub endBelow : ℕ → List Range → Bool

@@ -8,22 +8,11 @@ use native.Mathlib.Omega.{arith}
 use lib.ListN.{length}
 use lib.Dec.{ltb}
 use borrow.Author.Tests.{leb-true, ltb-true}
+use Rattle.truth.specs.Tests.{both, clash}
 use Rattle.quantity.specs.Range.{Range, within}
+use Rattle.quantity.specs.RangeLaws.{low-high}
 use Rattle.layout.specs.Layout.{Fit}
-use Rattle.layout.specs.Line.{Line, among, allows, widths, Allowed, allowsAt, faultFrom, endBelow, linesFit}
-
--- both halves of a conjunction
-pub both : (a b : Bool) → (a && b) ≡ true → (a ≡ true) × (b ≡ true)
-both true b e = (refl, e)
-both false b e = (e, cc)
-
--- nothing is both
-pub clash : {A : Type 0} {b : Bool} → b ≡ true → b ≡ false → A
-clash p q = let z : _≡_ {A = ℕ} 0 1 = cc in absurd (omega arith)
-
--- a number within a range lies from its lowest to its highest
-pub low-high : (r : Range) (v : ℕ) → within r v ≡ true → (r .low ≤ v) × (v ≤ r .high)
-low-high r v e = let h = both _ _ e in (leb-true _ _ (h .0), leb-true _ _ (h .1))
+use Rattle.layout.specs.Line.{Line, among, allows, widths, Allowed, allowsAt, faultFrom, FirstFault, endBelow, linesFit}
 
 -- no fault, exactly when every value is allowed
 pub none-all : (k : ℕ) (ls : List Line) (vs : List ℕ) → faultFrom (suc k) ls vs ≡ 0 → Allowed ls vs
@@ -127,12 +116,6 @@ allowed-fit [] [] f a = tt
 allowed-fit (l ∷ ls) (v ∷ vs) f a =
     let h = both _ _ f in
     (among-below (2 ^ l .width) (l .values) v (h .0) (a .0), allowed-fit ls vs (h .1) (a .1))
-
--- the field at an index, from 0, is at fault and no earlier one is
-pub record FirstFault (i : ℕ) (ls : List Line) (vs : List ℕ) : Type 0 where
-  pub inside : i < length ls
-  pub faulty : allowsAt i ls vs ≡ false
-  pub earlier : (j : ℕ) → j < i → allowsAt j ls vs ≡ true
 
 -- the fault is numbered i + 1 exactly when the field at i is the first at fault
 module _ (ls : List Line) (vs : List ℕ) (same : length vs ≡ length ls) (i : ℕ) where

@@ -9,19 +9,10 @@ use native.Mathlib.Decide.{decLt}
 use native.Mathlib.Nat.{max-le}
 use lib.Dec.{leb, ltb, lit≤}
 use borrow.Author.Tests.{lt-ltb, le-ltb}
+use Rattle.truth.specs.Tests.{either-of, either-both}
 use Rattle.loads.specs.declared.Source.the-variants.{Cargo}
 use Rattle.loads.specs.Loads.{bottomPressure, innerPressure}
 use Rattle.loads.specs.Sources.{numberOf, Named, seaNamed, tankNamed, cargoNamed, heavier, deciding, bottomNamed, innerNamed, Among, first, later, Decides}
-
--- what holds of both holds of the one that a test takes
-pub either-of : {A : Type 0} (P : A → Type 0) (b : Bool) (x y : A) → P x → P y → P (cond b x y)
-either-of P true x y p q = p
-either-of P false x y p q = q
-
--- and what holds between two pairs, between the two that it takes
-pub either-both : {A B : Type 0} (R : A → B → Type 0) (b : Bool) (x y : A) (m n : B) → R x m → R y n → R (cond b x y) (cond b m n)
-either-both R true x y m n p q = p
-either-both R false x y m n p q = q
 
 -- ---- of two
 

@@ -7,10 +7,11 @@ use mathlib.Core.List.{List, [], _∷_}
 use native.Mathlib.Omega.{arith}
 use lib.Dec.{leb, ltb}
 use borrow.Author.Tests.{le-leb, leb-true, ltb-true}
+use Rattle.truth.specs.Tests.{both, clash, false-of}
 use Rattle.quantity.specs.Range.{Range, within, from}
 use Rattle.quantity.specs.Made.{Held, held as isHeld, refused, Makes}
 use Rattle.layout.specs.Line.{among}
-use Rattle.layout.specs.LineLaws.{low-high}
+use Rattle.quantity.specs.RangeLaws.{low-high}
 use Rattle.numbers.specs.Held.{held, heldIn}
 
 -- whether a range lies within another
@@ -21,17 +22,6 @@ liesIn r s = leb (r .low) (s .low) && leb (s .high) (r .high)
 abbrev pub keeps : (top : ℕ) → Range → List Range → Bool
 keeps top r [] = true
 keeps top r (s ∷ rs) = (liesIn r s && ltb (s .high) top) && keeps top r rs
-
-both : (a b : Bool) → (a && b) ≡ true → (a ≡ true) × (b ≡ true)
-both true b e = (refl, e)
-both false b e = (e, cc)
-
-not-true : (b : Bool) → (b ≡ true → ⊥) → b ≡ false
-not-true true n = absurd (n refl)
-not-true false n = refl
-
-clash : {b : Bool} → b ≡ true → b ≡ false → ⊥
-clash p q = let z : _≡_ {A = ℕ} 0 1 = cc in omega arith
 
 -- what lies within a range lies within one around it
 pub around : (r s : Range) (x : ℕ) → liesIn r s ≡ true → within s x ≡ true → within r x ≡ true
@@ -49,7 +39,7 @@ kept-one top r s x f a =
     (around r s x (h .0) a, omega (arith, ltb-true (s .high) top (h .1), low-high s x a))
 
 kept : (top : ℕ) (r : Range) (rs : List Range) (x : ℕ) → keeps top r rs ≡ true → among rs x ≡ true → (within r x ≡ true) × (x < top)
-kept top r [] x f a = absurd (clash a refl)
+kept top r [] x f a = clash a refl
 kept top r (s ∷ []) x f a = kept-one top r s x (both (liesIn r s && ltb (s .high) top) true f .0) a
 kept top r (s ∷ t ∷ rs) x f a =
     let h = both (liesIn r s && ltb (s .high) top) (keeps top r (t ∷ rs)) f in
@@ -66,8 +56,8 @@ held-allows top r rs x f = go (within r x) refl
     go : (b : Bool) → within r x ≡ b → among rs x ≡ among rs (cond b x top)
     go true e = refl
     go false e =
-        not-true (among rs x) (λ a. clash (kept top r rs x f a .0) e)
-        ∙ sym (not-true (among rs top) (λ a. absurd (omega (arith, kept top r rs top f a .1))))
+        false-of (among rs x) (λ a. clash (kept top r rs x f a .0) e)
+        ∙ sym (false-of (among rs top) (λ a. absurd (omega (arith, kept top r rs top f a .1))))
 
 -- and one that they allow is held as it is
 pub held-in : (top : ℕ) (r : Range) (rs : List Range) (x : ℕ) → keeps top r rs ≡ true → among rs x ≡ true → heldIn r top x ≡ x
@@ -79,7 +69,7 @@ held-alone top r s x f = go (within r x) refl
   where
     go : (b : Bool) → within r x ≡ b → within s x ≡ (b && within s (cond b x top))
     go true e = refl
-    go false e = not-true (within s x) (λ a. clash (around r s x f a) e)
+    go false e = false-of (within s x) (λ a. clash (around r s x f a) e)
 
 -- ---- a maker's answer
 
@@ -106,7 +96,7 @@ made-short top r x f e m = made-held top r m ∙ ap (heldIn r top) e ∙ go (wit
     same false = refl
 
     outside : within (from 0 top) x ≡ false → within r x ≡ false
-    outside q = not-true (within r x) (λ a. clash (kept top (from 0 top) (r ∷ []) x f a .0) q)
+    outside q = false-of (within r x) (λ a. clash (kept top (from 0 top) (r ∷ []) x f a .0) q)
 
     go : (b : Bool) → within (from 0 top) x ≡ b → heldIn r top (cond b x top) ≡ heldIn r top x
     go true q = refl

@@ -12,8 +12,7 @@ use Rattle.sheet.specs.Refusals.{Answer, given, headerRefused, recordRefused}
 use Rattle.sheet.specs.Versions.{firstBytes}
 use Rattle.sheet.specs.Header.{headerFault}
 use Rattle.sheet.specs.Record.{recordFault}
-use Rattle.sheet.specs.HeaderExactly.{headerCases}
-use Rattle.sheet.specs.RecordExactly.{recordCases}
+use Rattle.sheet.specs.Exactly.{headerCases, recordCases}
 use Rattle.numbers.specs.From.{headerOfNumbers, headerNumbersFault, headerFrom, recordOfNumbers, recordNumbersFault, recordFrom}
 use Rattle.numbers.specs.Held.{firstOf, earlierOf, headerHeld, headerApart, recordHeld, recordApart}
 use Rattle.numbers.proofs.Numbers.{header-numbers-fault, header-held-same, header-apart-past, record-numbers-fault, record-held-same, record-apart-past}

@@ -10,7 +10,8 @@ use lib.Dec.{eqb}
 use borrow.Author.Tests.{lt-ltb, le-ltb}
 use Rattle.quantity.specs.Range.{within, from}
 use Rattle.layout.specs.Line.{Allowed, faultFrom}
-use Rattle.layout.specs.LineLaws.{none-all, low-high}
+use Rattle.quantity.specs.RangeLaws.{low-high}
+use Rattle.layout.specs.LineLaws.{none-all}
 use Rattle.sheet.specs.declared.Header.{Header}
 use Rattle.sheet.specs.declared.Own.{Own}
 use Rattle.sheet.specs.declared.Own.the-variants.{One, Two}

@@ -6,8 +6,7 @@ use mathlib.Core.Bool.{Bool, true, false, cond}
 use mathlib.Core.List.{List}
 use lib.ListN.{length, getD, drop}
 use Rattle.quantity.specs.Range.{within}
-use Rattle.layout.specs.Line.{Line, Allowed, faultFrom}
-use Rattle.layout.specs.LineLaws.{FirstFault}
+use Rattle.layout.specs.Line.{Line, Allowed, faultFrom, FirstFault}
 use Rattle.sheet.specs.declared.Header.{Header}
 use Rattle.sheet.specs.declared.Record.{Record}
 use Rattle.sheet.specs.Versions.{firstBytes, one, two, numbers, numbered}
@@ -15,9 +14,9 @@ use Rattle.sheet.specs.VersionLaws.{other-number}
 use Rattle.sheet.specs.Lines.{headerLines}
 use Rattle.sheet.specs.Refusals.{given, refused, recordRefused}
 use Rattle.sheet.specs.Record.{plateLinesOf, memberLinesOf}
-use Rattle.sheet.specs.Exactly.{Exactly, LaterFault, Cases, byFields, exactly-then, exactly-of, in-front, fields-first, fields-later, fields-given, fields-others}
-use Rattle.sheet.specs.HeaderExactly.{headerCases, version-fault}
-use Rattle.sheet.specs.RecordExactly.{recordCases}
+use Rattle.sheet.specs.ExactlyLaws.{exactly-then, exactly-of, in-front, fields-first, fields-later, fields-given, fields-others}
+use Rattle.sheet.specs.Exactly.{Exactly, LaterFault, Cases, byFields, headerCases, recordCases}
+use Rattle.sheet.specs.HeaderExactly.{version-fault}
 use Rattle.numbers.specs.From.{numbersFrom, headerOfNumbers, fieldsAs, inSecond, headerFieldsOf, headerLinesOf, headerNumbersFault, headerFrom, plateNumbered, recordOfNumbers, plateFields, recordNumbersFault, recordFrom}
 
 module _ (ns : List ℕ) where

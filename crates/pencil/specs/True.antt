@@ -13,8 +13,8 @@ use Rattle.gauge.specs.declared.Shape.{Shape}
 use Rattle.gauge.specs.declared.Least.the-variants.{At}
 use Rattle.gauge.specs.Least.{leastIn, numberOf}
 use Rattle.gauge.specs.LeastLaws.{least-is, smaller-fails, larger-passes, none-passes, number-zero, number-least}
-use Rattle.gauge.specs.Shape.{meetsOf, leastOf}
-use Rattle.gauge.specs.ShapeLaws.{Says, least-said, monotone}
+use Rattle.gauge.specs.Shape.{meetsOf, leastOf, Says}
+use Rattle.gauge.specs.ShapeLaws.{least-said, monotone}
 use Rattle.gauge.specs.Worked.{firstIn}
 use Rattle.gauge.specs.WorkedLaws.{first-near}
 use Rattle.sheet.specs.declared.Header.{Header}

@@ -103,7 +103,7 @@ fn put_steps(d: Shape, top: u32, has: u32, unit: u8, page: &mut [u8], at: usize)
     let root = worked.root;
     let first = worked.first;
     let least = worked.least;
-    let number = verdict::number(least) as u64;
+    let number = gauge::number(least) as u64;
     let rooted = put_root(d, root, first, page, at);
     let tested = steps::tested(first, number, top as u64, page, rooted);
     steps::result(unit, number, has as u64, page, tested)

@@ -11,9 +11,10 @@ use borrow.Author.Tests.{lt-ltb, le-ltb}
 use Rattle.quantity.specs.Range.{steelFactor}
 use Rattle.gauge.specs.Ceil.{ceil-most}
 use Rattle.gauge.specs.Least.{Monotone}
-use Rattle.gauge.specs.Monotone.{Rising, at-least, either, both, times, timed, squared, square}
+use Rattle.gauge.specs.Monotone.{Rising, at-least, either, times, timed, squared, square, both-monotone}
 use Rattle.loads.specs.Sources.{Named, deciding, bottomNamed, innerNamed}
-use Rattle.loads.specs.SourceLaws.{either-both, bottom-pressure, inner-pressure}
+use Rattle.truth.specs.Tests.{either-both}
+use Rattle.loads.specs.SourceLaws.{bottom-pressure, inner-pressure}
 use Rattle.sheet.specs.declared.Header.{Header}
 use Rattle.sheet.specs.declared.Plate.{Plate}
 use Rattle.sheet.specs.Kinds.{isLong, isBottom}
@@ -36,7 +37,7 @@ rule1-monotone kind L K S =
     let short = allowance kind + 36 * S in
     let X : ℕ → ℕ = λ T. 100 * T - short in
     let rising : Rising X = λ x y l. omega arith in
-    both (λ (T : ℕ). leb short (100 * T)) _
+    both-monotone (λ (T : ℕ). leb short (100 * T)) _
     (at-least short (λ (T : ℕ). 100 * T) (λ x y l. omega arith))
     (either (isBottom kind) _ _
     (at-least _ _ (times _ _ (squared X rising)))
@@ -49,7 +50,7 @@ rule2-monotone kind K S P =
 pub rule3-monotone : (kind K S K2 R : ℕ) → Monotone (rule3 kind K S K2 R)
 rule3-monotone kind K S K2 R =
     either (isSecond kind K R) (secondForm kind K S K2 R) (firstForm kind S K2 R)
-    (both (λ (T : ℕ). ltb R limit) _ (λ x y l e. e)
+    (both-monotone (λ (T : ℕ). ltb R limit) _ (λ x y l e. e)
     (either (isLong kind) _ _
     (at-least _ _ (timed (limit - R) _ (times _ _ square)))
     (at-least _ _ (timed (limit - R) _ (timed (K2 * K2) _ square)))))

@@ -9,7 +9,8 @@ use lib.Dec.{leb, ltb, lit<}
 use borrow.Author.Tests.{ltb-true}
 use Rattle.quantity.specs.Range.{thickness}
 use Rattle.gauge.specs.declared.Shape.the-variants.{Never}
-use Rattle.gauge.specs.ShapeLaws.{Says, either-says, over-never, over-square, excess}
+use Rattle.gauge.specs.Shape.{Says}
+use Rattle.gauge.specs.ShapeLaws.{either-says, over-never, over-square, excess}
 use Rattle.sheet.specs.Kinds.{isLong, isBottom}
 use Rattle.plating.specs.Rules.{K2, allowance, rule1, rule2, isSecond, limit, firstForm, secondForm, rule3}
 use Rattle.plating.specs.Bounds.{Panel}

@@ -1,3 +1,4 @@
 pub mod Range
+pub mod RangeLaws
 pub mod Made
 pub mod Laws

@@ -13,7 +13,8 @@ use Rattle.sheet.specs.RecordBack.{record-read-fine}
 use Rattle.checker.specs.Check.{_then_, recordsPart, recordPart, Sheet, sheetIn, entryOf, verdicts, failures}
 use Rattle.checker.specs.Entry.{entryValues}
 use Rattle.checker.specs.Unjudged.{room}
-use Rattle.checker.specs.CheckLaws.{Taken, next, sheet-whole}
+use Rattle.checker.specs.Whole.{Taken, next}
+use Rattle.checker.specs.CheckLaws.{sheet-whole}
 use Rattle.checker.specs.Sound.{entry-sound}
 use Rattle.checker.specs.Longer.{enough, sheet-cut}
 use Rattle.checker.specs.Bounds.{Refusable, sheet-told, sheet-counts}

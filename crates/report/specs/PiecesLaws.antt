@@ -16,9 +16,10 @@ use Rattle.checker.specs.declared.Checked.{Checked}
 use Rattle.checker.specs.declared.Checked.the-variants.{Done, Refused as notDone}
 use Rattle.checker.specs.Entry.{entryValues, readEntry}
 use Rattle.checker.specs.EntryLaws.{read-sound}
-use Rattle.checker.specs.Check.{_then_, part, recordsPart, recordOf, Sheet, sheetIn, entryOf, verdicts, failures, Totals, answerOf, outputOf, Checks}
+use Rattle.checker.specs.Check.{fourAt, _then_, part, recordsPart, recordOf, Sheet, sheetIn, entryOf, verdicts, failures, Totals, answerOf, outputOf, Checks}
 use Rattle.checker.specs.Unjudged.{room}
-use Rattle.checker.specs.CheckLaws.{Taken, next, sheet-whole, verdict-read, answer-sheet}
+use Rattle.checker.specs.Whole.{Taken, next}
+use Rattle.checker.specs.CheckLaws.{sheet-whole, verdict-read, answer-sheet}
 use Rattle.checker.specs.Bounds.{sheet-counts}
 use Rattle.report.specs.Text.{linesOf, printed, line, linesText, refusedWord, textBy, textOf}
 use Rattle.report.specs.Page.{longestLine}
@@ -80,7 +81,7 @@ checked-counted s out after (notDone r) l c = tt
 -- ---- the verdicts of a sheet
 
 -- the bytes of verdict i in the output
-four : (out : List ℕ) (i : ℕ) → part out (4 * i) (4 * i + 4) ≡ take 4 (drop (4 * i) out)
+four : (out : List ℕ) (i : ℕ) → part out (4 * i) (4 * i + 4) ≡ fourAt i out
 four out i = let e : 4 * i + 4 - 4 * i ≡ 4 = omega arith in ap (λ (k : ℕ). take k (drop (4 * i) out)) e
 
 -- each verdict's line, for the records from i on of n

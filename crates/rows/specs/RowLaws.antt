@@ -11,7 +11,7 @@ use lib.Dec.{ltb, eqb}
 use Rattle.quantity.specs.Range.{within, from}
 use Rattle.layout.specs.Layout.{total, pack, unpack, bytes}
 use Rattle.layout.specs.Laws.{length-unpack, length-bytes}
-use Rattle.layout.specs.LineLaws.{clash}
+use Rattle.truth.specs.Tests.{clash}
 use Rattle.sheet.specs.Versions.{Version, firstBytes, numbers, numbered, two, one}
 use Rattle.sheet.specs.Lines.{firstWidths, ownWidths, plateWidths, memberWidths}
 use Rattle.sheet.specs.Header.{ownBytes}
@@ -74,7 +74,7 @@ pub fields-length : (i n : ℕ) (ns : List ℕ) → length (fieldsFrom i n ns) �
 fields-length i zero ns = refl
 fields-length i (suc n) ns = ap suc (fields-length (i + 1) n ns)
 
-made-length : (n x : ℕ) → length (unpack (bytes n) x) ≡ n
+pub made-length : (n x : ℕ) → length (unpack (bytes n) x) ≡ n
 made-length n x = length-unpack (bytes n) x ∙ length-bytes n
 
 module _ (f : Form) (ws : List ℕ) (size : ℕ) (is : FormIs f ws size) (ns : List ℕ) where

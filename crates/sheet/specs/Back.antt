@@ -11,7 +11,8 @@ use Rattle.layout.specs.Layout.{total, pack, unpack, bytes, Fit}
 use Rattle.layout.specs.Laws.{pack-lt, pack-unpack-lt, unpack-pack, length-unpack, length-bytes}
 use Rattle.sheet.specs.Refusals.{Answer, given, Wrote}
 use Rattle.sheet.specs.RefusalLaws.{given-refused}
-use Rattle.sheet.specs.Exactly.{Cases, bySlice, slice-long}
+use Rattle.sheet.specs.ExactlyLaws.{slice-long}
+use Rattle.sheet.specs.Exactly.{Cases, bySlice}
 use Rattle.sheet.specs.Written.{written, written-fine, written-given, written-bytes, written-first}
 
 -- the answer of reading the number in the first bytes; 1 where there are too few of them

@@ -10,7 +10,7 @@ use lib.Pow.{high, shr-shr}
 use Rattle.layout.specs.Layout.{total, pack, bytes, Fit}
 use Rattle.layout.specs.Laws.{pack-lt}
 use Rattle.sheet.specs.Header.{versionField}
-use Rattle.sheet.specs.RecordExactly.{numberIn, kindAt}
+use Rattle.sheet.specs.Record.{numberIn, kindAt}
 
 upper-half : (k b : ℕ) (bs : List ℕ) → Fit (bytes (suc k)) (b ∷ bs) → pack (bytes (suc k)) (b ∷ bs) / 2 ^ (total (bytes k) + 4) % 2 ^ 4 ≡ b / 2 ^ 4
 upper-half k b bs f =

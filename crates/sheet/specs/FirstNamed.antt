@@ -8,8 +8,7 @@ use native.Mathlib.Omega.{arith}
 use lib.ListN.{length, take, drop}
 use borrow.Author.Tests.{lt-leb}
 use Rattle.quantity.specs.Range.{within, from}
-use Rattle.layout.specs.Line.{Line, Allowed, allowsAt, faultFrom}
-use Rattle.layout.specs.LineLaws.{FirstFault}
+use Rattle.layout.specs.Line.{Line, Allowed, allowsAt, faultFrom, FirstFault}
 use Rattle.sheet.specs.declared.Header.{Header}
 use Rattle.sheet.specs.declared.Own.the-variants.{One}
 use Rattle.sheet.specs.declared.Plate.{Plate}

@@ -10,7 +10,8 @@ use Rattle.quantity.specs.Range.{from}
 use Rattle.layout.specs.Layout.{pack, unpack, bytes, Fit}
 use Rattle.layout.specs.Laws.{fit-parts, fields-again, bytes-again, bytes-add, length-unpack, length-bytes}
 use Rattle.layout.specs.Line.{Allowed}
-use Rattle.layout.specs.LineLaws.{all-none, low-high}
+use Rattle.quantity.specs.RangeLaws.{low-high}
+use Rattle.layout.specs.LineLaws.{all-none}
 use Rattle.sheet.specs.declared.Header.{Header}
 use Rattle.sheet.specs.declared.Own.{Own}
 use Rattle.sheet.specs.declared.Own.the-variants.{One, Two}

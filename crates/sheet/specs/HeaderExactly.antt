@@ -14,31 +14,20 @@ use Rattle.quantity.specs.Range.{within, from}
 use Rattle.quantity.specs.Laws.{one-value}
 use Rattle.layout.specs.Layout.{pack, unpack, bytes}
 use Rattle.layout.specs.Laws.{length-unpack, length-bytes}
-use Rattle.layout.specs.Line.{line, Allowed}
-use Rattle.layout.specs.LineLaws.{FirstFault, low-high}
+use Rattle.layout.specs.Line.{line, Allowed, FirstFault}
+use Rattle.quantity.specs.RangeLaws.{low-high}
 use Rattle.sheet.specs.declared.Header.{Header}
 use Rattle.sheet.specs.declared.Own.{Own}
 use Rattle.sheet.specs.declared.Own.the-variants.{One, Two}
-use Rattle.sheet.specs.Versions.{Version, firstBytes, numbers, versionOf, needs}
-use Rattle.sheet.specs.VersionLaws.{Under, needs-own, needs-first, under-exactly, other-number, regular, regular-at}
+use Rattle.sheet.specs.Versions.{Version, firstBytes, numbers, versionOf, needs, Under}
+use Rattle.sheet.specs.VersionLaws.{needs-own, needs-first, under-exactly, other-number, regular, regular-at}
 use Rattle.sheet.specs.Lines.{headerLines, firstWidths, ownWidths}
 use Rattle.sheet.specs.Refusals.{Answer, given, refused, headerRefused}
 use Rattle.sheet.specs.Header.{headerSize, firstValues, ownValues, headerValues, rawFault, headerFault, ownBytes, versionField, versionIn, headerFields, headerOf, readHeader, headerBytes, headerNeeds, writeHeader}
 use Rattle.sheet.specs.HeaderLaws.{fields-lines, header-version}
-use Rattle.sheet.specs.Exactly.{Exactly, LaterFault, Cases, byFields, bySlice, exactly-then, exactly-of, in-front, alone, alone-two, first-alone, fields-first, fields-later, fields-given, fields-others, answer-short, answer-first, answer-later, answer-given, answer-others}
+use Rattle.sheet.specs.ExactlyLaws.{exactly-then, exactly-of, in-front, alone, alone-two, first-alone, fields-first, fields-later, fields-given, fields-others, answer-short, answer-first, answer-later, answer-given, answer-others}
+use Rattle.sheet.specs.Exactly.{Exactly, LaterFault, Cases, headerCases, byFields, bySlice}
 use Rattle.sheet.specs.Written.{written, written-answer, written-fine, written-refused, written-all}
-
--- a header that needs so many bytes: 2 for the version, 3 with the field for another
-abbrev pub headerCases : ℕ → Cases
-headerCases size =
-    record {
-      size = size;
-      first = 2;
-      at = 0;
-      later = 3;
-      place = λ k. k;
-      apart = refl;
-    }
 
 -- outside the one value of a line
 other-value : (x v : ℕ) → Exactly (within (from x x) v ≡ false) (v ≡ x → ⊥)

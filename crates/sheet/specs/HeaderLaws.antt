@@ -12,7 +12,8 @@ use Rattle.quantity.specs.Range.{within, from}
 use Rattle.layout.specs.Layout.{Fit, pack, bytes}
 use Rattle.layout.specs.Laws.{fit-parts, length-unpack}
 use Rattle.layout.specs.Line.{among, Allowed, faultFrom}
-use Rattle.layout.specs.LineLaws.{none-all, allowed-fit, low-high, among-below, length-widths}
+use Rattle.quantity.specs.RangeLaws.{low-high}
+use Rattle.layout.specs.LineLaws.{none-all, allowed-fit, among-below, length-widths}
 use Rattle.sheet.specs.declared.Header.{Header}
 use Rattle.sheet.specs.declared.Own.{Own}
 use Rattle.sheet.specs.declared.Own.the-variants.{One, Two}

@@ -11,6 +11,7 @@ pub mod RefusalLaws
 pub mod HeaderLaws
 pub mod RecordLaws
 pub mod Exactly
+pub mod ExactlyLaws
 pub mod VersionLaws
 pub mod Written
 pub mod HeaderExactly

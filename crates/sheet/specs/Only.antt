@@ -18,8 +18,7 @@ use Rattle.sheet.specs.Versions.{Version, IsVersion}
 use Rattle.sheet.specs.Header.{headerSize, innerModulus, headerFault, readHeader, writeHeader}
 use Rattle.sheet.specs.Slender.{tooSlender}
 use Rattle.layout.specs.Bytes.{readOf}
-use Rattle.sheet.specs.RecordLaws.{rawAt}
-use Rattle.sheet.specs.Record.{recordFault, readRecord, writeRecord}
+use Rattle.sheet.specs.Record.{recordFault, readRecord, writeRecord, rawAt}
 use Rattle.sheet.specs.Writes.{Writes}
 
 -- a writer's answer, and the bytes that stand there afterwards

@@ -1,16 +1,20 @@
 -- A record: its fields as values of the layout and back; its first fault; reading and writing one.
 use Prim.Native.Nat.{ℕ}
+use mathlib.Core.Path.{_≡_}
 use mathlib.Core.Bool.{Bool, cond}
 use mathlib.Core.List.{List, [], _∷_, _++_}
 use lib.ListN.{length, getD, take, drop}
 use lib.Dec.{ltb, eqb}
+use Rattle.quantity.specs.Range.{within, from}
 use Rattle.layout.specs.Layout.{pack, unpack, bytes}
+use Rattle.layout.specs.Bytes.{readOf}
 use Rattle.layout.specs.Line.{Line, faultFrom}
 use Rattle.sheet.specs.declared.Plate.{Plate}
 use Rattle.sheet.specs.declared.Member.{Member}
 use Rattle.sheet.specs.declared.Body.{Body}
 use Rattle.sheet.specs.declared.Body.the-variants.{Plate as isPlate, Member as isMember}
 use Rattle.sheet.specs.declared.Record.{Record}
+use Rattle.sheet.specs.declared.Raw.{Raw}
 use Rattle.sheet.specs.Lines.{plateLines, memberLines, plateWidths, memberWidths}
 use Rattle.sheet.specs.Refusals.{Answer, given, refused, recordRefused, Wrote}
 
@@ -134,3 +138,55 @@ writeRecord r o =
       answer = recordRefused 0 (recordFault r 0) (given tt);
       bytes = cond (eqb (recordFault r 0) 0) (recordBytes r ++ drop 16 o) o;
     })
+
+-- ---- what stands in sixteen bytes, whatever it is
+
+-- the record in a number of 128 bits, whatever its values
+abbrev pub recordAt : ℕ → Record
+recordAt n = cond (plateIn n) (plateRecord (unpack plateWidths n)) (memberRecord (unpack memberWidths n))
+
+-- what stands there in the bits that carry nothing
+abbrev pub spareAt : ℕ → ℕ
+spareAt n = cond (plateIn n) (getD (unpack plateWidths n) 11 0) 0
+
+-- both, as they stand in a number of 128 bits
+abbrev pub rawAt : ℕ → Raw
+rawAt n = record { values = recordAt n; spare = spareAt n }
+
+-- the kind in a number of 128 bits, which is where plates and members alike have it
+abbrev pub kindAt : ℕ → ℕ
+kindAt n = getD (unpack plateWidths n) 0 0
+
+-- whether what is carried belongs to the kind
+abbrev pub belongs : ℕ → Body → Bool
+belongs kind (isPlate p) = within (from 1 4) kind
+belongs kind (isMember m) = within (from 5 8) kind
+
+-- the number in the first sixteen bytes
+abbrev pub numberIn : List ℕ → ℕ
+numberIn s = pack (bytes 16) (take 16 s)
+
+-- the record there, whatever its values; its fields; and the lines that they answer to
+abbrev pub recordOf : List ℕ → Record
+recordOf s = recordAt (numberIn s)
+
+abbrev pub fieldsAt : ℕ → List ℕ
+fieldsAt n = cond (plateIn n) (unpack plateWidths n) (unpack memberWidths n)
+
+abbrev pub linesAt : ℕ → List Line
+linesAt n = cond (plateIn n) (plateLinesOf (unpack plateWidths n)) (memberLinesOf (unpack memberWidths n))
+
+-- the lines that a record to be written answers to
+abbrev pub linesIn : ℕ → Body → List Line
+linesIn kind (isPlate p) = plateLines kind (p .ballast) (p .z .0)
+linesIn kind (isMember m) = memberLines kind
+
+abbrev pub linesOf : Record → List Line
+linesOf r = linesIn (r .kind) (r .body)
+
+abbrev pub valuesOf : Record → List ℕ
+valuesOf r = valuesIn (r .kind) (r .id) (r .body)
+
+-- in the first sixteen bytes a record stands that has no fault, and nothing in the bits that carry nothing
+abbrev pub Bare : List ℕ → Record → Type 0
+Bare s r = (rawAt (readOf 16 s) ≡ record { values = r; spare = 0 }) × (recordFault r 0 ≡ 0)

@@ -15,7 +15,8 @@ use Rattle.layout.specs.Bytes.{readOf}
 use Rattle.layout.specs.BytesLaws.{read-few, read-all}
 use Rattle.layout.specs.Laws.{pack-lt, pack-unpack-lt, unpack-pack}
 use Rattle.layout.specs.Line.{Allowed}
-use Rattle.layout.specs.LineLaws.{none-all, low-high}
+use Rattle.quantity.specs.RangeLaws.{low-high}
+use Rattle.layout.specs.LineLaws.{none-all}
 use Rattle.sheet.specs.declared.Plate.{Plate}
 use Rattle.sheet.specs.declared.Body.{Body}
 use Rattle.sheet.specs.declared.Body.the-variants.{Plate as isPlate, Member as isMember}
@@ -24,11 +25,11 @@ use Rattle.sheet.specs.declared.Raw.{Raw}
 use Rattle.sheet.specs.Lines.{plateLines, plateWidths, memberWidths}
 use Rattle.sheet.specs.Refusals.{given, refused, recordRefused}
 use Rattle.sheet.specs.RefusalLaws.{at-none, by-none, given-refused}
-use Rattle.sheet.specs.Record.{plateValues, memberValues, plateAt, plateRecord, memberRecord, plateFault, memberFault, bodyFault, recordFault, plateIn, recordIn, readRecord, widthsIn, valuesIn, recordNumber, writeRecord}
+use Rattle.sheet.specs.Record.{Bare, plateValues, memberValues, plateAt, plateRecord, memberRecord, plateFault, memberFault, bodyFault, recordFault, plateIn, recordIn, readRecord, widthsIn, valuesIn, recordNumber, writeRecord, recordAt, spareAt, rawAt}
 use Rattle.sheet.specs.HeaderLaws.{flag-read}
-use Rattle.sheet.specs.RecordLaws.{recordAt, spareAt, rawAt, plate-values-at, record-in, record-fit, plate-ranges, member-ranges}
-use Rattle.sheet.specs.Exactly.{Exactly, slice-long}
-use Rattle.sheet.specs.RecordExactly.{recordCases}
+use Rattle.sheet.specs.RecordLaws.{plate-values-at, record-in, record-fit, plate-ranges, member-ranges}
+use Rattle.sheet.specs.ExactlyLaws.{slice-long}
+use Rattle.sheet.specs.Exactly.{Exactly, recordCases}
 use Rattle.sheet.specs.Back.{read-again, written-again, written-onto}
 
 -- ---- the number of a record with no fault is read as that record
@@ -93,10 +94,6 @@ same-number n l = go (plateIn n)
         ∙ ap (pack plateWidths) (plate-values-at n)
         ∙ pack-unpack-lt plateWidths n l
     go false z = pack-unpack-lt memberWidths n l
-
--- in the first sixteen bytes a record stands that has no fault, and nothing in the bits that carry nothing
-abbrev pub Bare : List ℕ → Record → Type 0
-Bare s r = (rawAt (readOf 16 s) ≡ record { values = r; spare = 0 }) × (recordFault r 0 ≡ 0)
 
 module _ (i : ℕ) where
   number-read : (r : Record) → recordFault r 0 ≡ 0 → (recordNumber r < 2 ^ total (bytes 16)) × (recordIn i (recordNumber r) ≡ given r)

@@ -12,54 +12,19 @@ use borrow.Author.Tests.{le-leb, ltb-true, ltb-false}
 use Rattle.quantity.specs.Range.{within, from}
 use Rattle.layout.specs.Layout.{pack, unpack, bytes}
 use Rattle.layout.specs.Laws.{length-unpack}
-use Rattle.layout.specs.Line.{Line, line, Allowed, faultFrom}
-use Rattle.layout.specs.LineLaws.{none-all, FirstFault, low-high}
+use Rattle.layout.specs.Line.{Line, line, Allowed, faultFrom, FirstFault}
+use Rattle.truth.specs.Tests.{clash, false-of}
+use Rattle.quantity.specs.RangeLaws.{low-high, lies-within}
+use Rattle.layout.specs.LineLaws.{none-all}
 use Rattle.sheet.specs.declared.Body.{Body}
 use Rattle.sheet.specs.declared.Body.the-variants.{Plate as isPlate, Member as isMember}
 use Rattle.sheet.specs.declared.Record.{Record}
 use Rattle.sheet.specs.Lines.{ids, plateLines, memberLines, plateWidths, memberWidths}
 use Rattle.sheet.specs.Refusals.{given, refused, recordRefused}
-use Rattle.sheet.specs.Record.{plateRecord, memberRecord, plateLinesOf, memberLinesOf, plateFault, memberFault, bodyFault, recordFault, plateIn, recordIn, readRecord, valuesIn, recordNumber, recordBytes, writeRecord}
-use Rattle.sheet.specs.RecordLaws.{recordAt}
-use Rattle.sheet.specs.Exactly.{Exactly, LaterFault, Cases, byFields, bySlice, exactly-then, exactly-of, in-front, in-middle, at-end, same-places, alone, alone-two, first-alone, fields-first, fields-later, fields-given, fields-others, answer-short, answer-first, answer-later, answer-given, answer-others}
+use Rattle.sheet.specs.Record.{numberIn, recordOf, fieldsAt, linesAt, linesIn, linesOf, valuesOf, kindAt, belongs, plateRecord, memberRecord, plateLinesOf, memberLinesOf, plateFault, memberFault, bodyFault, recordFault, plateIn, recordIn, readRecord, valuesIn, recordNumber, recordBytes, writeRecord, recordAt}
+use Rattle.sheet.specs.ExactlyLaws.{exactly-then, exactly-of, in-front, in-middle, at-end, same-places, alone, alone-two, first-alone, fields-first, fields-later, fields-given, fields-others, answer-short, answer-first, answer-later, answer-given, answer-others}
+use Rattle.sheet.specs.Exactly.{Exactly, LaterFault, recordCases, byFields, bySlice}
 use Rattle.sheet.specs.Written.{written, written-answer, written-refused, written-all, written-past, written-length}
-
--- record i: 16 bytes, 6 with the record for the kind, 7 with 32 × record + field for another
-abbrev pub recordCases : ℕ → Cases
-recordCases i =
-    record {
-      size = 16;
-      first = 6;
-      at = i;
-      later = 7;
-      place = λ k. 32 * i + k;
-      apart = refl;
-    }
-
--- the number in the first sixteen bytes
-abbrev pub numberIn : List ℕ → ℕ
-numberIn s = pack (bytes 16) (take 16 s)
-
--- the record there, whatever its values; its fields; and the lines that they answer to
-abbrev pub recordOf : List ℕ → Record
-recordOf s = recordAt (numberIn s)
-
-abbrev pub fieldsAt : ℕ → List ℕ
-fieldsAt n = cond (plateIn n) (unpack plateWidths n) (unpack memberWidths n)
-
-abbrev pub linesAt : ℕ → List Line
-linesAt n = cond (plateIn n) (plateLinesOf (unpack plateWidths n)) (memberLinesOf (unpack memberWidths n))
-
--- the lines that a record to be written answers to
-abbrev pub linesIn : ℕ → Body → List Line
-linesIn kind (isPlate p) = plateLines kind (p .ballast) (p .z .0)
-linesIn kind (isMember m) = memberLines kind
-
-abbrev pub linesOf : Record → List Line
-linesOf r = linesIn (r .kind) (r .body)
-
-abbrev pub valuesOf : Record → List ℕ
-valuesOf r = valuesIn (r .kind) (r .id) (r .body)
 
 -- ---- by the shape
 
@@ -112,15 +77,6 @@ record-id r e =
 
 -- ---- the kind
 
--- the kind in a number of 128 bits, which is where plates and members alike have it
-abbrev pub kindAt : ℕ → ℕ
-kindAt n = getD (unpack plateWidths n) 0 0
-
--- whether what is carried belongs to the kind
-abbrev pub belongs : ℕ → Body → Bool
-belongs kind (isPlate p) = within (from 1 4) kind
-belongs kind (isMember m) = within (from 5 8) kind
-
 low-kinds : (k : ℕ) → k < 5 → within (from 1 4) k ≡ within (from 1 8) k
 low-kinds k l = rw (le-leb k 4 (omega arith), le-leb k 8 (omega arith))
 
@@ -157,19 +113,15 @@ kind-written kind id (isMember m) =
 
 -- nothing belongs to a kind that is not from 1 to 8
 pub no-kind : (kind : ℕ) (b : Body) → within (from 1 8) kind ≡ false → belongs kind b ≡ false
-no-kind kind b e = go (belongs kind b) refl
+no-kind kind b e =
+    false-of (belongs kind b)
+    (λ q.
+    let h = within-all b q in
+    clash (lies-within (from 1 8) kind (h .0) (h .1)) e)
   where
     within-all : (b : Body) → belongs kind b ≡ true → (1 ≤ kind) × (kind ≤ 8)
     within-all (isPlate p) q = let h = low-high (from 1 4) kind q in (omega arith, omega arith)
     within-all (isMember m) q = let h = low-high (from 5 8) kind q in (omega arith, omega arith)
-
-    go : (t : Bool) → belongs kind b ≡ t → t ≡ false
-    go true q =
-        let h = within-all b q in
-        let l : leb 1 kind ≡ true = le-leb 1 kind (h .0) in
-        let m : leb kind 8 ≡ true = le-leb kind 8 (h .1) in
-        cc
-    go false q = refl
 
 -- ---- reading
 

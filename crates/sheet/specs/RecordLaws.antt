@@ -11,7 +11,8 @@ use lib.Dec.{lit≤}
 use Rattle.quantity.specs.Range.{Range, within, from, spacing, thickness, modulus, shearArea, steelFactor}
 use Rattle.layout.specs.Layout.{unpack, Fit}
 use Rattle.layout.specs.Line.{Allowed, faultFrom, linesFit}
-use Rattle.layout.specs.LineLaws.{none-all, allowed-fit, low-high}
+use Rattle.quantity.specs.RangeLaws.{low-high}
+use Rattle.layout.specs.LineLaws.{none-all, allowed-fit}
 use Rattle.sheet.specs.declared.Plate.{Plate}
 use Rattle.sheet.specs.declared.Member.{Member}
 use Rattle.sheet.specs.declared.Body.{Body}
@@ -20,22 +21,11 @@ use Rattle.sheet.specs.declared.Record.{Record}
 use Rattle.sheet.specs.declared.Raw.{Raw}
 use Rattle.sheet.specs.Kinds.{isLong, isBottom, isFloor, isDeep}
 use Rattle.sheet.specs.Lines.{either, none, plateSpacing, sides, plateTable, memberTable, plateLines, memberLines, plateWidths, memberWidths}
+pub use Rattle.sheet.specs.Record.{recordAt, spareAt, rawAt}
 use Rattle.sheet.specs.Record.{plateValues, memberValues, plateAt, plateRecord, memberRecord, plateLinesOf, memberLinesOf, plateFault, memberFault, bodyFault, recordFault, plateIn, recordIn, widthsIn, valuesIn}
 use Rattle.sheet.specs.Ranges.{PlateRanges, MemberRanges}
 use Rattle.sheet.specs.Refusals.{given, recordRefused}
 use Rattle.sheet.specs.HeaderLaws.{flag-written}
-
--- the record in a number of 128 bits, whatever its values
-abbrev pub recordAt : ℕ → Record
-recordAt n = cond (plateIn n) (plateRecord (unpack plateWidths n)) (memberRecord (unpack memberWidths n))
-
--- what stands there in the bits that carry nothing
-abbrev pub spareAt : ℕ → ℕ
-spareAt n = cond (plateIn n) (getD (unpack plateWidths n) 11 0) 0
-
--- both, as they stand in a number of 128 bits
-abbrev pub rawAt : ℕ → Raw
-rawAt n = record { values = recordAt n; spare = spareAt n }
 
 -- the values of the plate that a number's fields are are those fields
 pub plate-values-at : (n : ℕ) → let vs = unpack plateWidths n in plateValues (getD vs 0 0) (getD vs 1 0) (plateAt vs) (getD vs 11 0) ≡ vs

@@ -12,10 +12,11 @@ use borrow.Author.Tests.{eq-eqb, ne-eqb, le-leb, leb-true, ltb-true, eqb-true}
 use Rattle.quantity.specs.Range.{within}
 use Rattle.layout.specs.Layout.{total, bytes}
 use Rattle.layout.specs.Line.{linesFit}
-use Rattle.layout.specs.LineLaws.{both, clash, low-high}
+use Rattle.quantity.specs.RangeLaws.{low-high}
+use Rattle.truth.specs.Tests.{both, clash, false-of}
 use Rattle.sheet.specs.declared.Own.{Own}
 use Rattle.sheet.specs.declared.Own.the-variants.{One, Two}
-use Rattle.sheet.specs.Versions.{Version, firstBytes, one, later, versions, numbers, found, numbered, versionOf, needs, mostRecords, longestSheet}
+use Rattle.sheet.specs.Versions.{Under, under-first, under-own, Version, firstBytes, one, later, versions, numbers, found, numbered, versionOf, needs, mostRecords, longestSheet}
 use Rattle.sheet.specs.Lines.{headerLines, ownWidths}
 use Rattle.sheet.specs.Exactly.{Exactly}
 
@@ -137,18 +138,9 @@ own-number k e = go (decLt k 2) (decLt k (2 + length later))
     go (no l) (no m) = first (λ a b. m b)
 
 pub other-number : (k : ℕ) → Exactly (k ≡ numbered k .number → ⊥) (within numbers k ≡ false)
-other-number k = (go (within numbers k) refl, λ e q. clash (own-number k q) e)
-  where
-    go : (t : Bool) → within numbers k ≡ t → (k ≡ numbered k .number → ⊥) → t ≡ false
-    go true e n = absurd (n (number-own k e))
-    go false e n = refl
+other-number k = (λ n. false-of (within numbers k) (λ e. n (number-own k e)), λ e q. clash (own-number k q) e)
 
 -- ---- how many bytes are needed
-
--- so many bytes are under those of the first fields, or, k being the version's number, under the version's
-pub data Under (len k : ℕ) (v : Version) : Type 0 where
-  under-first : len < firstBytes → Under len k v
-  under-own : k ≡ v .number → len < v .size → Under len k v
 
 module _ (k : ℕ) (v : Version) where
   pub needs-own : k ≡ v .number → needs k v ≡ v .size

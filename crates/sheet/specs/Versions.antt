@@ -1,5 +1,5 @@
 -- The versions of the header, in one table: how many bytes each takes, how many records it counts, and what it holds of its own.
-use Prim.Native.Nat.{ℕ, _+_, _*_, max}
+use Prim.Native.Nat.{ℕ, _+_, _*_, max, _<_}
 use mathlib.Core.Path.{_≡_}
 use mathlib.Core.Bool.{cond}
 use mathlib.Core.List.{List, [], _∷_}
@@ -84,3 +84,8 @@ versionOf (Two s) = two
 -- how many bytes a header needs that names version k and is of version v: those in which k stands, and where k is v's number, v's
 abbrev pub needs : ℕ → Version → ℕ
 needs k v = cond (eqb k (v .number)) (v .size) firstBytes
+
+-- so many bytes are under those of the first fields, or, k being the version's number, under the version's
+pub data Under (len k : ℕ) (v : Version) : Type 0 where
+  under-first : len < firstBytes → Under len k v
+  under-own : k ≡ v .number → len < v .size → Under len k v

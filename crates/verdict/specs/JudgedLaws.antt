@@ -7,20 +7,18 @@ use lib.Dec.{eqb}
 use borrow.Author.Tests.{eq-eqb, eqb-true}
 use Rattle.sheet.specs.declared.Header.{Header}
 use Rattle.sheet.specs.declared.Record.{Record}
+use Rattle.sheet.specs.declared.Refusal.{Refusal}
+use Rattle.sheet.specs.declared.Outcome.{Outcome}
+use Rattle.sheet.specs.declared.Outcome.the-variants.{Fine, Refused as notFine}
 use Rattle.sheet.specs.Header.{headerFault}
 use Rattle.sheet.specs.Record.{recordFault}
-use Rattle.sheet.specs.Refusals.{Answer, given, refused, headerRefused, recordRefused}
+use Rattle.sheet.specs.Refusals.{Answer, given, refused, told, toldOutcome, headerRefused, recordRefused}
 use Rattle.sheet.specs.RefusalLaws.{given-refused, refusal-only, refused-number, refused-place, given-same, by-none}
 use Rattle.loads.specs.Only.{source-only}
 use Rattle.verdict.specs.declared.Verdict.{Verdict}
 use Rattle.verdict.specs.declared.Judged.{Judged}
 use Rattle.verdict.specs.declared.Judged.the-variants.{Verdict as isVerdict, Refused as notJudged}
-use Rattle.verdict.specs.Judged.{Finding, toldJudged, judgedBy}
-
--- neither the header nor the record is at fault
-pub record Sound (h : Header) (r : Record) : Type 0 where
-  pub header : headerFault h ≡ 0
-  pub body : recordFault r 0 ≡ 0
+use Rattle.verdict.specs.Judged.{Finding, toldJudged, judgedBy, Sound}
 
 -- the tests that the answer goes by
 abbrev tested : {A : Type 0} → (t u v w : Bool) → (f g : ℕ) → A → Answer A
@@ -66,6 +64,14 @@ module _ (h : Header) (r : Record) where
   unfolding judgedBy
   refused-same a b k p e =
       tested-refused (eqb (headerFault h) 0) (eqb (headerFault h) 1) (eqb (recordFault r 0) 0) (eqb (recordFault r 0) 1) (headerFault h) (32 * 0 + recordFault r 0) a b k p e
+
+-- an answer to whether the two are within their values: nothing is at fault, or the refusal is what judging answers
+module _ (h : Header) (r : Record) (o : Outcome) (asked : toldOutcome o ≡ judgedBy h r (tt {0})) where
+  pub admitted-sound : o ≡ Fine → Sound h r
+  admitted-sound e = given-sound h r (tt {0}) (tt {0}) (sym asked ∙ ap toldOutcome e)
+
+  pub turned-away : {A : Type 0} (a : A) (x : Refusal) → o ≡ notFine x → told x ≡ judgedBy h r a
+  turned-away a x e = sym (refused-same h r (tt {0}) a _ _ (sym asked ∙ ap toldOutcome e))
 
 -- two answers that say the same are equal
 pub judged-only : (a : Answer Finding) (i j : Judged) → toldJudged i ≡ a → toldJudged j ≡ a → i ≡ j

@@ -2,9 +2,7 @@
 -- Assumes nothing.
 use Prim.Native.Nat.{ℕ}
 use mathlib.Core.Path.{_≡_, sym, _∙_}
-use Rattle.gauge.specs.declared.Least.{Least}
 use Rattle.gauge.specs.declared.Shape.{Shape}
-use Rattle.gauge.specs.Least.{numberOf}
 use Rattle.sheet.specs.declared.Header.{Header}
 use Rattle.sheet.specs.declared.Record.{Record}
 use Rattle.sheet.specs.declared.Outcome.{Outcome}
@@ -13,9 +11,6 @@ use Rattle.sheet.specs.RefusalLaws.{outcome-only}
 use Rattle.verdict.specs.declared.Verdict.{Verdict}
 use Rattle.verdict.specs.Judged.{judgedBy}
 use Rattle.verdict.specs.Verdict.{failedOf}
-
-pub number-only : (l : Least) (a b : ℕ) → a ≡ numberOf l → b ≡ numberOf l → a ≡ b
-number-only l a b p q = p ∙ sym q
 
 pub failed-only : (rule : ℕ) (d : Shape) (top : ℕ) (a b : Verdict) → a ≡ failedOf rule d top → b ≡ failedOf rule d top → a ≡ b
 failed-only rule d top a b p q = p ∙ sym q

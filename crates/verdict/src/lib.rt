@@ -1,5 +1,4 @@
 // The verdict on one member: the first of its rules that fails, with the scantling that the rule requires.
-use gauge::Least;
 use gauge::Shape;
 use loads::Source;
 use sheet::Header;
@@ -8,7 +7,6 @@ use sheet::Outcome;
 use sheet::Plate;
 use sheet::Refusal;
 ghost use mathlib.Core.Path.{_≡_};
-ghost use Rattle.gauge.specs.Least.{numberOf};
 ghost use Rattle.sheet.specs.Refusals.{toldOutcome};
 ghost use Rattle.sheet.specs.Record.{ofPlate, ofMember};
 ghost use Rattle.verdict.specs.Verdict.{failedOf};
@@ -27,21 +25,11 @@ pub enum Judged {
     Refused(Refusal),
 }
 
-// The number of an answer, 0 where there is none.
-pub fn number(l: Least) -> u32
-    ensures { λ r. ⌜ r ≡ numberOf l ⌝ }
-{
-    match l {
-        Least::At(k) => k,
-        Least::Nothing => 0,
-    }
-}
-
 // The verdict where the rule of this number fails: the least of the gauge 1, 2, .., top that meets its shape.
 pub fn failed(rule: u8, d: Shape, top: u32) -> Verdict
     ensures { λ r. ⌜ r ≡ failedOf rule d top ⌝ }
 {
-    let required = number(gauge::least_in(d, top));
+    let required = gauge::number(gauge::least_in(d, top));
     Verdict { rule, required }
 }
 

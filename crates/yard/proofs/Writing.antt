@@ -12,12 +12,10 @@ use Rattle.sheet.specs.declared.Record.{Record}
 use Rattle.sheet.specs.Refusals.{Answer, given, refused, Wrote as WroteBy}
 use Rattle.sheet.specs.RefusalLaws.{refused-number, refused-place, given-refused}
 use Rattle.sheet.specs.Writes.{Writes}
-use Rattle.sheet.specs.Exactly.{Cases, byFault}
+use Rattle.sheet.specs.Exactly.{Cases, byFault, headerCases, recordCases}
 use Rattle.sheet.specs.Written.{written, writtenIf}
 use Rattle.sheet.specs.Header.{headerBytes, writeHeader}
 use Rattle.sheet.specs.Record.{recordBytes, writeRecord}
-use Rattle.sheet.specs.HeaderExactly.{headerCases}
-use Rattle.sheet.specs.RecordExactly.{recordCases}
 use Rattle.numbers.specs.From.{namedSize, headerOfNumbers, headerNumbersFault, headerFrom, recordOfNumbers, recordNumbersFault, recordFrom}
 use Rattle.numbers.specs.Back.{header-taken, record-taken}
 use Rattle.yard.specs.Packed.{fine, Wrote}

@@ -13,10 +13,8 @@ use Rattle.sheet.specs.VersionLaws.{regular-at}
 use Rattle.sheet.specs.Refusals.{Answer, given, refused}
 use Rattle.sheet.specs.Header.{readHeader, headerBytes}
 use Rattle.sheet.specs.Record.{plateLinesOf, memberLinesOf, readRecord, recordBytes}
-use Rattle.sheet.specs.Exactly.{Cases, byFault}
+use Rattle.sheet.specs.Exactly.{Cases, byFault, headerCases, recordCases}
 use Rattle.sheet.specs.Written.{written, written-answer}
-use Rattle.sheet.specs.HeaderExactly.{headerCases}
-use Rattle.sheet.specs.RecordExactly.{recordCases}
 use Rattle.checker.specs.declared.Entry.{Entry}
 use Rattle.checker.specs.Entry.{verdictLines, verdictWidths, entryValues, entryAt, entryFault, entryIn, readEntry}
 use Rattle.checker.specs.Check.{sheetIn, failures, verdicts, Totals, answerOf}

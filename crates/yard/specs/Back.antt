@@ -19,8 +19,8 @@ use Rattle.sheet.specs.Record.{plateFault, memberFault, recordFault, readRecord
 use Rattle.sheet.specs.HeaderLaws.{flag-read, version-at, header-version}
 use Rattle.sheet.specs.RecordLaws.{plate-ranges, member-ranges}
 use Rattle.sheet.specs.Written.{written, written-fine}
-use Rattle.sheet.specs.HeaderExactly.{headerCases, fine-needs}
-use Rattle.sheet.specs.RecordExactly.{recordCases}
+use Rattle.sheet.specs.Exactly.{headerCases, recordCases}
+use Rattle.sheet.specs.HeaderExactly.{fine-needs}
 use Rattle.sheet.specs.HeaderBack.{header-read-again, header-read-fine, header-written-again}
 use Rattle.sheet.specs.RecordBack.{record-read-again, record-read-fine, record-written-again}
 use Rattle.numbers.specs.Fields.{headerNumbers, recordNumbers}

@@ -27,7 +27,7 @@ use Rattle.rows.specs.Rows.{kinds, firstOf, taken, lineBy, firstsOf, ownsOf, he
 use Rattle.csv.specs.Read.{nextLine, recordsMade, sheetMade, sheetFrom, lengthOf}
 use Rattle.csv.specs.Write.{headerCells, line, textOf, textFrom}
 use Rattle.csv.specs.Steps.{recordsText}
-use Rattle.csv.specs.WriteLaws.{header-most, texts-most, Written, header-written}
+use Rattle.csv.specs.WriteLaws.{header-most, texts-most, sound-written}
 use Rattle.yard.specs.PackedLaws.{TextRow, longestText, Converted}
 
 -- ---- refusals
@@ -116,18 +116,13 @@ write-rowed s room = then-rowed (soundSheet s) _ (sound-rowed s) (λ t. then-row
 
 -- ---- lengths
 
--- what is known of a sheet that is not turned away
-written : (s : List ℕ) (t : Sheet) → soundSheet s ≡ given t → Written s (t .header)
-unfolding soundHeader _then_
-written s t e = header-written s (t .header) (sym (ap (λ (x : Answer Sheet). x then λ u. given (u .header)) e))
-
 -- the length of a sheet, and of its text
 sheet-most : (s : List ℕ) (t : Sheet) → soundSheet s ≡ given t → length s ≤ longestSheet
-sheet-most s t e = let w = written s t e in omega (arith, w .whole, header-ranges (t .header) (w .fine) .count-high, regular (t .header .own) .short)
+sheet-most s t e = let w = sound-written s t e in omega (arith, w .whole, header-ranges (t .header) (w .fine) .count-high, regular (t .header .own) .short)
 
 text-most : (s : List ℕ) (t : Sheet) → soundSheet s ≡ given t → length (textOf t) ≤ longestText
 text-most s t e =
-    let w = written s t e in
+    let w = sound-written s t e in
     let same : textOf t ≡ textOf (w .sheet) = ap textOf (given-same (sym e ∙ w .sound)) in
     let records = recordsText (recordsPart (t .header) s) 0 (t .header .count) in
     omega (arith, ap length (same ∙ w .text), length-append (line (headerCells (t .header))) records, header-most (t .header) (w .fine), texts-most (recordsPart (t .header) s) 0 (t .header .count), w .few)

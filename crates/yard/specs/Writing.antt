@@ -4,8 +4,7 @@ use mathlib.Core.List.{List}
 use Rattle.sheet.specs.Refusals.{Wrote}
 use Rattle.sheet.specs.Header.{headerBytes}
 use Rattle.sheet.specs.Record.{recordBytes}
-use Rattle.sheet.specs.HeaderExactly.{headerCases}
-use Rattle.sheet.specs.RecordExactly.{recordCases}
+use Rattle.sheet.specs.Exactly.{headerCases, recordCases}
 use Rattle.sheet.specs.Written.{written}
 use Rattle.numbers.specs.From.{namedSize, headerOfNumbers, headerNumbersFault, recordOfNumbers, recordNumbersFault}
 

@@ -1,18 +1,18 @@
--- `framing::member_verdict` meets its contract: rule by rule the shape fails, or is met and leaves the verdict to the later rules.
+-- `framing::member_verdict` meets its contract: each rule's shape says the rule, and the verdict goes by them in turn.
 -- Assumes nothing.
 use Prim.Native.Nat.{ℕ, _≤_}
 use mathlib.Core.List.{[], _∷_}
 use mathlib.Core.Path.{_≡_, sym, ap, _∙_}
 use borrow.Author.Needs.{needs}
-use borrow.Author.Tests.{not-true, not-false}
 use Rattle.quantity.specs.Range.{thickness, modulus, shearArea, lineLoad}
-use Rattle.gauge.specs.ShapeLaws.{Says, said}
+use Rattle.gauge.specs.Shape.{Says}
+use Rattle.gauge.specs.ShapeLaws.{said}
 use Rattle.loads.specs.Loads.{lineLoad as lineLoadOf}
 use Rattle.verdict.specs.Verdict.{Rule, verdictOf, failedOf}
 use Rattle.framing.specs.Rules.{memberLine, webRule, bendingRule, shearRule}
 use Rattle.framing.specs.Bounds.{member-line-high}
 use Rattle.framing.specs.Shapes.{shape5, shape6, says4, says5, says6}
-use Rattle.verdict.specs.Steps.{first-failed, first-met}
+use Rattle.verdict.specs.Steps.{Step, step}
 use Rattle.framing.proofs.member_verdict.Statement.{statement}
 use Rattle.framing.proofs.member_verdict.Tie as tie
 
@@ -57,32 +57,32 @@ shear-said c =
 web-said : (c : tie.After-rule4) → Says (c .rule4 .result) (thickness .high) (web (c .before) .asks)
 web-said c = let a = c .before .args in said (c .rule4 .ensures) (says4 (a .kind) (a .h .length .0) (a .m .factor .0) (a .m .spacing .0))
 
-web-met : (c : tie.Else1) →
-    verdictOf (bending (start c) ∷ shear (start c) ∷ []) ≡ verdictOf (web (start c) ∷ bending (start c) ∷ shear (start c) ∷ [])
-web-met c =
-    let s = start c in
-    let r = c .before .before .before in
-    first-met (r .rule4 .result) (web s) (bending s ∷ shear s ∷ []) (web-said r) (s .pre .1 .thickness-low) (s .pre .1 .thickness-high)
-    (sym (c .before .meets .ensures) ∙ not-false _ (c .if1 .left))
+step1 : (c : tie.After-meets) → let s = c .before .before .before in Step (c .before .before .rule4 .result) (web s) (bending s ∷ shear s ∷ []) (c .meets .result)
+step1 c =
+    let s = c .before .before .before in
+    step _ (web s) _ (web-said (c .before .before)) (s .pre .1 .thickness-low) (s .pre .1 .thickness-high) (c .meets .ensures)
 
-bending-met : (c : tie.Else2) →
-    verdictOf (shear (start2 c) ∷ []) ≡ verdictOf (web (start2 c) ∷ bending (start2 c) ∷ shear (start2 c) ∷ [])
-bending-met c =
-    let s = start2 c in
-    let r = c .before .before in
-    first-met (r .rule5 .result) (bending s) (shear s ∷ []) (bending-said r) (s .pre .1 .modulus-low) (s .pre .1 .modulus-high)
-    (sym (c .before .meets2 .ensures) ∙ not-false _ (c .if2 .left))
-    ∙ web-met (r .before .before)
+step2 : (c : tie.After-meets2) → let s = start (c .before .before .before) in Step (c .before .rule5 .result) (bending s) (shear s ∷ []) (c .meets2 .result)
+step2 c =
+    let s = start (c .before .before .before) in
+    step _ (bending s) _ (bending-said (c .before)) (s .pre .1 .modulus-low) (s .pre .1 .modulus-high) (c .meets2 .ensures)
+
+step3 : (c : tie.After-meets3) → let s = start2 (c .before .before .before) in Step (c .before .before .rule6 .result) (shear s) [] (c .meets3 .result)
+step3 c =
+    let s = start2 (c .before .before .before) in
+    step _ (shear s) _ (shear-said (c .before .before)) (s .pre .1 .area-low) (s .pre .1 .area-high) (c .meets3 .ensures)
+
+passed1 : (c : tie.Else1) → let s = start c in verdictOf (web s ∷ bending s ∷ shear s ∷ []) ≡ verdictOf (bending s ∷ shear s ∷ [])
+passed1 c = step1 (c .before) .passes (c .if1 .left)
+
+passed2 : (c : tie.Else2) → let s = start2 c in verdictOf (web s ∷ bending s ∷ shear s ∷ []) ≡ verdictOf (shear s ∷ [])
+passed2 c = passed1 (c .before .before .before .before) ∙ step2 (c .before) .passes (c .if2 .left)
 
 returns : tie.Need-returns
 returns c =
-    let w = c .before .before in
-    let s = w .before .before .before in
-    let r = w .before .before in
-    let named : c .failed .result ≡ failedOf 4 (r .rule4 .result) (thickness .high) = c .failed .ensures in
-    named
-    ∙ first-failed (r .rule4 .result) (web s) (bending s ∷ shear s ∷ []) (web-said r) (s .pre .1 .thickness-low) (s .pre .1 .thickness-high)
-    (sym (w .meets .ensures) ∙ not-true _ (c .before .if1 .taken))
+    let m = c .before .before in
+    let named : c .failed .result ≡ failedOf 4 (m .before .before .rule4 .result) (thickness .high) = c .failed .ensures in
+    named ∙ step1 m .fails (c .before .if1 .taken)
 
 rule5-requires : tie.Need-rule5-requires
 rule5-requires c κs =
@@ -91,14 +91,9 @@ rule5-requires c κs =
 
 returns-2 : tie.Need-returns-2
 returns-2 c =
-    let w = c .before .before in
-    let r = w .before in
-    let s = start (r .before .before) in
-    let named : c .failed2 .result ≡ failedOf 5 (r .rule5 .result) (modulus .high) = c .failed2 .ensures in
-    named
-    ∙ first-failed (r .rule5 .result) (bending s) (shear s ∷ []) (bending-said r) (s .pre .1 .modulus-low) (s .pre .1 .modulus-high)
-    (sym (w .meets2 .ensures) ∙ not-true _ (c .before .if2 .taken))
-    ∙ web-met (r .before .before)
+    let m = c .before .before in
+    let named : c .failed2 .result ≡ failedOf 5 (m .before .rule5 .result) (modulus .high) = c .failed2 .ensures in
+    named ∙ step2 m .fails (c .before .if2 .taken) ∙ sym (passed1 (m .before .before .before))
 
 rule6-requires : tie.Need-rule6-requires
 rule6-requires c κs =
@@ -107,23 +102,14 @@ rule6-requires c κs =
 
 returns-3 : tie.Need-returns-3
 returns-3 c =
-    let w = c .before .before in
-    let r = w .before .before in
-    let s = start2 (r .before) in
-    let named : c .failed3 .result ≡ failedOf 6 (r .rule6 .result) (shearArea .high) = c .failed3 .ensures in
-    named
-    ∙ first-failed (r .rule6 .result) (shear s) [] (shear-said r) (s .pre .1 .area-low) (s .pre .1 .area-high)
-    (sym (w .meets3 .ensures) ∙ not-true _ (c .before .if3 .taken))
-    ∙ bending-met (r .before)
+    let m = c .before .before in
+    let named : c .failed3 .result ≡ failedOf 6 (m .before .before .rule6 .result) (shearArea .high) = c .failed3 .ensures in
+    named ∙ step3 m .fails (c .before .if3 .taken) ∙ sym (passed2 (m .before .before .before))
 
 returns-4 : tie.Need-returns-4
 returns-4 c =
-    let w = c .before in
-    let r = w .before .before in
-    let s = start2 (r .before) in
-    first-met (r .rule6 .result) (shear s) [] (shear-said r) (s .pre .1 .area-low) (s .pre .1 .area-high)
-    (sym (w .meets3 .ensures) ∙ not-false _ (c .if3 .left))
-    ∙ bending-met (r .before)
+    let m = c .before in
+    sym (passed2 (m .before .before .before) ∙ step3 m .passes (c .if3 .left))
 
 pub member-verdict-spec : {M : Type 1} → statement M
 member-verdict-spec =
