@@ -7,7 +7,7 @@ ghost use mathlib.Core.Path.{_≡_};
 ghost use mathlib.Core.List.{List};
 ghost use Prim.Native.Nat.{ℕ, _≤_};
 ghost use lib.ListN.{length, take};
-ghost use Rattle.checker.specs.Longer.{enough};
+ghost use Rattle.sheet.specs.Versions.{enough};
 ghost use Rattle.report.specs.Page.{Pages};
 
 // What is printed of an input, from the bytes that were read of it: all, or as many as the buffer holds, which is one more than the longest sheet has.

@@ -15,7 +15,8 @@ use Rattle.sheet.specs.Refusals.{Answer, given, refused}
 use Rattle.sheet.specs.RefusalLaws.{given-refused, refused-number, refused-place}
 use Rattle.checker.specs.Check.{_then_, demand, sheetSize, Sheet, sheetIn}
 use Rattle.checker.specs.Unjudged.{room, soundSheet}
-use Rattle.checker.specs.Longer.{enough, sheet-cut}
+use Rattle.checker.specs.Longer.{sheet-cut}
+use Rattle.sheet.specs.Versions.{enough}
 use Rattle.edit.specs.declared.Edited.{Edited}
 use Rattle.edit.specs.declared.Edited.the-variants.{Length, Refused as notEdited}
 use Rattle.edit.specs.Edit.{sheetAt, headerOf, After, putNumbersIn, removeIn, toldEdited, sizeBy, Edits}

@@ -16,7 +16,7 @@ use sheet::Refusal;
 ghost use mathlib.Core.Path.{_≡_};
 ghost use Prim.Native.Nat.{_≤_};
 ghost use lib.ListN.{length};
-ghost use Rattle.checker.specs.Longer.{enough};
+ghost use Rattle.sheet.specs.Versions.{enough};
 ghost use Rattle.edit.specs.Edit.{putNumbersIn, removeIn};
 ghost use Rattle.barge_edit.specs.Office.{recordsIn, Inside, OfFile};
 

@@ -16,7 +16,8 @@ use Rattle.checker.specs.Check.{_then_, sheetSize, Sheet, sheetIn}
 use Rattle.checker.specs.Unjudged.{room, soundSheet, soundHeader}
 use Rattle.checker.specs.ThenLaws.{then-given}
 use Rattle.checker.specs.CheckLaws.{sheet-whole}
-use Rattle.checker.specs.Longer.{enough, sheet-cut}
+use Rattle.checker.specs.Longer.{sheet-cut}
+use Rattle.sheet.specs.Versions.{enough}
 use Rattle.pencil.specs.declared.Trail.{Trail}
 use Rattle.pencil.specs.Trail.{trailText, room as roomOf, Trails}
 use Rattle.barge_explain.specs.Explain.{Sized}

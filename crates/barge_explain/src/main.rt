@@ -19,7 +19,7 @@ ghost use lib.Dec.{eqb};
 ghost use Rattle.sheet.specs.Refusals.{toldHeader, toldRecord};
 ghost use Rattle.checker.specs.Check.{recordOf, sheetSize};
 ghost use Rattle.checker.specs.Unjudged.{soundHeader};
-ghost use Rattle.checker.specs.Longer.{enough};
+ghost use Rattle.sheet.specs.Versions.{enough};
 ghost use Rattle.barge_explain.specs.Explain.{Sized};
 
 // Where the word stands.

@@ -7,12 +7,12 @@ use native.Mathlib.Omega.{arith}
 use lib.ListN.{length, take, drop, length-append}
 use lib.Seq.{take-at, take-take}
 use Rattle.sheet.specs.declared.Refusal.{Refusal}
-use Rattle.sheet.specs.Versions.{longestSheet}
+use Rattle.sheet.specs.Versions.{longestSheet, enough}
 use Rattle.sheet.specs.Refusals.{Answer, given, refused, numberOf, placeOf}
 use Rattle.sheet.specs.RefusalLaws.{given-same, given-refused, refused-number, refused-place}
 use Rattle.checker.specs.Check.{_then_, sheetIn}
 use Rattle.checker.specs.Unjudged.{room, soundSheet}
-use Rattle.checker.specs.Longer.{enough, sheet-cut}
+use Rattle.checker.specs.Longer.{sheet-cut}
 use Rattle.report.specs.Text.{line, refusedWord, printed, textBy, textOf}
 use Rattle.report.specs.Pieces.{refusalText}
 use Rattle.csv.specs.declared.Converted.{Converted}

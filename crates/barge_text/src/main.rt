@@ -16,10 +16,9 @@ ghost use mathlib.Core.List.{List};
 ghost use Prim.Native.Nat.{ℕ, _≤_};
 ghost use lib.ListN.{length, take};
 ghost use Rattle.sheet.specs.Refusals.{told};
-ghost use Rattle.checker.specs.Longer.{enough};
+ghost use Rattle.sheet.specs.Versions.{enough, longestSheet};
 ghost use Rattle.report.specs.Pieces.{refusalText};
 ghost use Rattle.csv.specs.Read.{sheetFrom, lengthOf, toldConverted, Converts};
-ghost use Rattle.sheet.specs.Versions.{longestSheet};
 ghost use Rattle.csv.specs.Write.{textFrom};
 ghost use Rattle.barge_text.specs.Convert.{Loaded, Inside, isCount, lineIn, printedBy, Shows, Replies};
 

@@ -10,7 +10,7 @@ use lib.Seq.{take-all, take-take}
 use borrow.Author.Tests.{ne-eqb}
 use Rattle.sheet.specs.declared.Header.{Header}
 use Rattle.sheet.specs.Refusals.{Answer, given, refused}
-use Rattle.sheet.specs.Versions.{longestSheet}
+use Rattle.sheet.specs.Versions.{longestSheet, enough}
 use Rattle.sheet.specs.VersionLaws.{regular, regular-at}
 use Rattle.sheet.specs.Header.{versionField, versionIn}
 use Rattle.sheet.specs.HeaderFront.{read-same}
@@ -18,10 +18,6 @@ use Rattle.sheet.specs.HeaderLaws.{header-ranges}
 use Rattle.checker.specs.Check.{_then_, demand, sheetHeader, sheetSize, headerFor, Sheet, sheetIn, outputBy, outputOf, answerOf}
 use Rattle.checker.specs.FrontLaws.{header-slim, header-same}
 use Rattle.sheet.specs.HeaderBack.{header-read-fine}
-
--- one byte more than the longest sheet has
-abbrev pub enough : ℕ
-enough = longestSheet + 1
 
 -- the answer to a sheet that is too long, by its header
 abbrev tooLong : Answer Header → Answer Sheet

@@ -11,8 +11,8 @@ use lib.Seq.{take-all, take-at, take-take, take-append-le, length-take-le}
 use borrow.Author.Tests.{le-leb, lt-leb}
 use Rattle.decimal.specs.Put.{putCount, putOn}
 use Rattle.decimal.specs.PutLaws.{count-all, bytes-all}
-use Rattle.checker.specs.Longer.{enough, sheet-cut}
-use Rattle.sheet.specs.Versions.{mostRecords}
+use Rattle.checker.specs.Longer.{sheet-cut}
+use Rattle.sheet.specs.Versions.{enough, mostRecords}
 use Rattle.sheet.specs.VersionLaws.{regular}
 use Rattle.sheet.specs.Refusals.{Answer, given, refused}
 use Rattle.sheet.specs.HeaderLaws.{header-ranges}

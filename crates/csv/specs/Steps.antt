@@ -9,8 +9,7 @@ use Rattle.decimal.specs.Put.{putCount, putOn}
 use Rattle.sheet.specs.declared.Record.{Record}
 use Rattle.sheet.specs.Refusals.{Answer, given, refused, told}
 use Rattle.sheet.specs.Record.{readRecord}
-use Rattle.sheet.specs.Versions.{longestSheet}
-use Rattle.checker.specs.Longer.{enough}
+use Rattle.sheet.specs.Versions.{longestSheet, enough}
 use Rattle.checker.specs.Check.{_then_, demand, recordPart}
 use Rattle.checker.specs.Unjudged.{soundSheet}
 use Rattle.rows.specs.Pack.{fieldsOf}

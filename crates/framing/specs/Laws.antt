@@ -17,7 +17,8 @@ use Rattle.sheet.specs.Kinds.{isFloor, isDeep}
 use Rattle.sheet.specs.declared.Header.{Header}
 use Rattle.sheet.specs.declared.Member.{Member}
 use Rattle.framing.specs.Rules.{rule4, rule5, rule6, isShort, squared, stressed, byKind, memberPressure, memberNamed}
-use Rattle.framing.specs.Shapes.{stressedShape, stressed-said}
+use Rattle.framing.specs.Shapes.{stressedShape}
+use Rattle.framing.specs.ShapeLaws.{stressed-said}
 
 -- a test that says what a shape does is monotone
 as-shape : (d : Shape) (test : ℕ → Bool) → ((x : ℕ) → meetsOf d x ≡ test x) → Monotone test

@@ -4,3 +4,5 @@ pub mod Shapes
 pub mod Laws
 pub mod Work
 pub mod WorkLaws
+pub mod ShapeLaws
+pub mod BoundLaws

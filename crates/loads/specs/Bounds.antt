@@ -7,7 +7,8 @@ use native.Mathlib.Omega.{arith}
 use native.Mathlib.Nat.{max-le, mul-le-mul}
 use lib.Dec.{lit<, leb, eqb}
 use Rattle.quantity.specs.Range.{spacing, pressure, lineLoad as lineLoads}
-use Rattle.gauge.specs.Ceil.{ceilOf, ceil-most}
+use Rattle.gauge.specs.Ceil.{ceilOf}
+use Rattle.gauge.specs.CeilLaws.{ceil-most}
 use Rattle.loads.specs.Loads.{water, wind, crest, twoRunWater, sea, bottomPressure, innerPressure, deepPressure, lineLoad}
 
 -- one of two numbers that are at most n

@@ -3,8 +3,7 @@ use Prim.Native.Nat.{ℕ, _*_}
 use Prim.Native.String.{String}
 use mathlib.Core.List.{List}
 use Rattle.wording.specs.Words.{bytes, pieces}
-use Rattle.wording.specs.Writes.{Writes}
-use Rattle.wording.specs.WritesLaws.{spot}
+use Rattle.wording.specs.Writes.{Writes, spot}
 
 -- words with a number for each mark; a scantling's mark is that of its unit, $ for mm, % for cm³, & for cm²
 abbrev pub lineIn : ℕ → String → List ℕ → List (List ℕ)

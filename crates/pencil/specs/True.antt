@@ -25,7 +25,7 @@ use Rattle.plating.specs.Rules.{R, plateModulus, platePressure, asked1, asked2,
 use Rattle.plating.specs.ShapeLaws.{says1, says2, says3}
 use Rattle.plating.specs.Work.{workOf as plateWork}
 use Rattle.framing.specs.Rules.{memberLine, webRule, bendingRule, shearRule, memberVerdict}
-use Rattle.framing.specs.Shapes.{says4, says5, says6}
+use Rattle.framing.specs.ShapeLaws.{says4, says5, says6}
 use Rattle.framing.specs.Work.{workOf as memberWork}
 
 -- ---- one rule, whose test a shape says

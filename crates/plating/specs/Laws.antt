@@ -9,7 +9,7 @@ use native.Mathlib.Nat.{mul-le-mul, mul-le-mul-left, mul-pos, le-div-iff-mul-le}
 use lib.Dec.{leb, ltb}
 use borrow.Author.Tests.{lt-ltb, le-ltb}
 use Rattle.quantity.specs.Range.{steelFactor}
-use Rattle.gauge.specs.Ceil.{ceil-most}
+use Rattle.gauge.specs.CeilLaws.{ceil-most}
 use Rattle.gauge.specs.Least.{Monotone}
 use Rattle.gauge.specs.Monotone.{Rising, at-least, either, times, timed, squared, square, both-monotone}
 use Rattle.loads.specs.Sources.{Named, deciding, bottomNamed, innerNamed}

@@ -10,8 +10,8 @@ use borrow.Author.Tests.{lt-ltb, le-ltb, eq-eqb, ne-eqb}
 use Rattle.layout.specs.Layout.{unpack, bytes}
 use Rattle.layout.specs.Bytes.{readOf, writtenOf}
 use Rattle.layout.specs.BytesLaws.{read-all, write-all}
-use Rattle.sheet.specs.Record.{recordFault, recordIn, readRecord, recordNumber, writeRecord}
-use Rattle.sheet.specs.RecordLaws.{recordAt, spareAt, record-in}
+use Rattle.sheet.specs.Record.{recordFault, recordIn, readRecord, recordNumber, writeRecord, recordAt, spareAt}
+use Rattle.sheet.specs.RecordLaws.{record-in}
 use Rattle.sheet.specs.Refusals.{Answer, given, refused, told, toldOutcome, toldRecord, recordRefused}
 use Rattle.sheet.specs.RefusalLaws.{at-none, says}
 use Rattle.sheet.specs.Writes.{Writes}

@@ -10,8 +10,7 @@ use lib.Dec.{ltb}
 use Rattle.layout.specs.Layout.{unpack}
 use Rattle.layout.specs.Laws.{unpack-words}
 use Rattle.sheet.specs.Lines.{plateWidths, memberWidths}
-use Rattle.sheet.specs.Record.{plateAt, memberAt}
-use Rattle.sheet.specs.RecordLaws.{recordAt, spareAt}
+use Rattle.sheet.specs.Record.{plateAt, memberAt, recordAt, spareAt}
 use Rattle.sheet.specs.declared.Plate.{Plate}
 use Rattle.sheet.specs.declared.Member.{Member}
 use Rattle.sheet.specs.declared.Record.{Record}

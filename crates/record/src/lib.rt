@@ -22,8 +22,7 @@ ghost use lib.Dec.{eqb};
 ghost use Rattle.layout.specs.Layout.{Fit};
 ghost use Rattle.layout.specs.Bytes.{longOf, readOf};
 ghost use Rattle.sheet.specs.Refusals.{given, toldOutcome, toldRecord, recordRefused};
-ghost use Rattle.sheet.specs.Record.{ofPlate, ofMember, recordFault, readRecord, writeRecord, widthsIn, valuesIn, recordNumber};
-ghost use Rattle.sheet.specs.RecordLaws.{recordAt, spareAt, rawAt};
+ghost use Rattle.sheet.specs.Record.{ofPlate, ofMember, recordFault, readRecord, writeRecord, widthsIn, valuesIn, recordNumber, recordAt, spareAt, rawAt};
 ghost use Rattle.sheet.specs.Writes.{Writes};
 
 // The first field outside its values, kind being 1, or 0, with what stands in the bits that carry nothing.

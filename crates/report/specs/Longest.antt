@@ -16,7 +16,8 @@ use Rattle.checker.specs.Unjudged.{room}
 use Rattle.checker.specs.Whole.{Taken, next}
 use Rattle.checker.specs.CheckLaws.{sheet-whole}
 use Rattle.checker.specs.Sound.{entry-sound}
-use Rattle.checker.specs.Longer.{enough, sheet-cut}
+use Rattle.checker.specs.Longer.{sheet-cut}
+use Rattle.sheet.specs.Versions.{enough}
 use Rattle.checker.specs.Bounds.{Refusable, sheet-told, sheet-counts}
 use Rattle.report.specs.Text.{linesOf, printed, line, linesText, refusedWord, textBy, textOf}
 use Rattle.report.specs.TextLaws.{pair-most, entry-most, lines-last}

@@ -63,6 +63,10 @@ mostRecords = greatest (λ v. v .most) versions
 abbrev pub longestSheet : ℕ
 longestSheet = greatest (λ v. v .size + 16 * v .most) versions
 
+-- one byte more: as many as have to be read of a longer input
+abbrev pub enough : ℕ
+enough = longestSheet + 1
+
 -- the numbers of the versions
 abbrev pub numbers : Range
 numbers = from 1 (length versions)

@@ -9,8 +9,8 @@ use native.Mathlib.Nat.{add-zero}
 use lib.ListN.{length, drop, getD, length-append, drop-of-length-le}
 use lib.Seq.{drop-drop, drop-cons}
 use Rattle.wording.specs.Words.{isMark, pieceOf, headOf, leftOf, pieces, longestMark, most}
-use Rattle.wording.specs.Writes.{Spot, writeAll, textOf, Writes}
-use Rattle.wording.specs.WritesLaws.{spot, text-append, write-append, all-length}
+use Rattle.wording.specs.Writes.{Spot, writeAll, textOf, Writes, spot}
+use Rattle.wording.specs.WritesLaws.{text-append, write-append, all-length}
 
 -- of the words those from i on are left, with the numbers from k on
 pub record Filling (unit : ℕ) (words numbers page₀ : List ℕ) (at : ℕ) (page : List ℕ) (next k i : ℕ) : Type 0 where

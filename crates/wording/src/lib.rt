@@ -8,8 +8,7 @@ ghost use lib.ListN.{length, drop};
 ghost use lib.Dec.{eqb};
 ghost use Rattle.decimal.specs.Decimal.{decimalOf};
 ghost use Rattle.wording.specs.Words.{isMark as isMarkOf, headOf, hundredths as hundredthsOf, tenths as tenthsOf, shown, pieceOf, pieces, longestMark, most};
-ghost use Rattle.wording.specs.Writes.{Writes};
-ghost use Rattle.wording.specs.WritesLaws.{spot, numberMost};
+ghost use Rattle.wording.specs.Writes.{Writes, spot, numberMost};
 
 // A text behind what the page has before `at`.
 pub fn put_text(text: &[u8], page: &mut [u8], at: usize) -> usize

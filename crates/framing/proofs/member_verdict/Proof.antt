@@ -10,8 +10,9 @@ use Rattle.gauge.specs.ShapeLaws.{said}
 use Rattle.loads.specs.Loads.{lineLoad as lineLoadOf}
 use Rattle.verdict.specs.Verdict.{Rule, verdictOf, failedOf}
 use Rattle.framing.specs.Rules.{memberLine, webRule, bendingRule, shearRule}
-use Rattle.framing.specs.Bounds.{member-line-high}
-use Rattle.framing.specs.Shapes.{shape5, shape6, says4, says5, says6}
+use Rattle.framing.specs.BoundLaws.{member-line-high}
+use Rattle.framing.specs.Shapes.{shape5, shape6}
+use Rattle.framing.specs.ShapeLaws.{says4, says5, says6}
 use Rattle.verdict.specs.Steps.{Step, step}
 use Rattle.framing.proofs.member_verdict.Statement.{statement}
 use Rattle.framing.proofs.member_verdict.Tie as tie

@@ -5,7 +5,7 @@ use borrow.Author.Needs.{needs}
 use mathlib.Core.Path.{ap, ap₂, _∙_}
 use Rattle.sheet.specs.declared.Record.{Record}
 use Rattle.sheet.specs.declared.Raw.{Raw}
-use Rattle.sheet.specs.RecordLaws.{rawAt}
+use Rattle.sheet.specs.Record.{rawAt}
 use Rattle.record.proofs.record_in.Statement.{statement}
 use Rattle.record.proofs.record_in.Tie as tie
 
