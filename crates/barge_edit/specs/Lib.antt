@@ -1,2 +1,2 @@
 pub mod Office
-pub mod OfficeLaws
+pub mod laws

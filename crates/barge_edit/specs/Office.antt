@@ -17,8 +17,8 @@ unfoldable pub fieldsOf : ℕ → ℕ
 fieldsOf kind = cond (ltb kind 5) 11 13
 
 -- how many records a sheet of so many bytes has: whatever its header takes past twelve bytes is less than a record, and the division leaves it over
-abbrev pub recordsIn : ℕ → ℕ
-recordsIn len = (len - 12) / 16
+abbrev pub recordCount : ℕ → ℕ
+recordCount len = (len - 12) / 16
 
 -- what the file beside a sheet is called, but for the six bytes that make it another one each time
 abbrev pub besideTail : List ℕ
@@ -30,9 +30,9 @@ Loaded (Got n) b = n ≤ length b
 Loaded Failed b = Unit {0}
 
 -- the new sheet is in a buffer of so many bytes
-abbrev pub Inside : Edited → (size : ℕ) → Type 0
-Inside (Length n) size = n ≤ size
-Inside (notEdited r) size = Unit {0}
+abbrev pub EditInside : Edited → (size : ℕ) → Type 0
+EditInside (Length n) size = n ≤ size
+EditInside (notEdited r) size = Unit {0}
 
 -- An edit of a file of which the buffer b has the first `got` bytes, all or as many as it holds: it answers x, and what the whole file is turned away for
 -- it is turned away for.

@@ -18,7 +18,7 @@ ghost use Prim.Native.Nat.{_≤_};
 ghost use lib.ListN.{length};
 ghost use Rattle.sheet.specs.Versions.{enough};
 ghost use Rattle.edit.specs.Edit.{putNumbersIn, removeIn};
-ghost use Rattle.barge_edit.specs.Office.{recordsIn, Inside, OfFile};
+ghost use Rattle.barge_edit.specs.Office.{recordCount, EditInside, OfFile};
 
 // Where the words stand.
 const COMMAND: usize = 1;
@@ -34,7 +34,7 @@ const GROUP: usize = 5;
 const FIRST: usize = 6;
 
 fn records_in(len: usize) -> usize
-    ensures { λ r. ⌜ r ≡ recordsIn len ⌝ }
+    ensures { λ r. ⌜ r ≡ recordCount len ⌝ }
 {
     if len < 12 {
         return 0;
@@ -77,7 +77,7 @@ fn rights() -> Rights {
 
 // A refusal leaves the file; else the new sheet takes the old one's place, and the number of its records is printed.
 fn finish(path: &[u8], sheet: &[u8], e: Edited)
-    requires { ⌜ Inside e (length (now sheet)) ⌝ }
+    requires { ⌜ EditInside e (length (now sheet)) ⌝ }
 {
     match e {
         Edited::Refused(r) => print_refusal(r),

@@ -1,2 +1,2 @@
 pub mod Explain
-pub mod ExplainLaws
+pub mod laws

@@ -24,9 +24,9 @@ Loaded (Got n) space = n ≤ length space
 Loaded Failed space = Unit {0}
 
 -- what was made is in an output of so many bytes
-abbrev pub Inside : Converted → (size : ℕ) → Type 0
-Inside (Length n) size = n ≤ size
-Inside (notConverted r) size = Unit {0}
+abbrev pub MadeInside : Converted → (size : ℕ) → Type 0
+MadeInside (Length n) size = n ≤ size
+MadeInside (notConverted r) size = Unit {0}
 
 -- the line that an answer is turned away by, which 14 and 15 name; 0 where there is none
 abbrev pub lineIn : Answer ℕ → ℕ

@@ -1,6 +1,4 @@
 pub mod Shown
-pub mod ShownLaws
 pub mod Filled
-pub mod FilledLaws
 pub mod Convert
-pub mod ConvertLaws
+pub mod laws

@@ -20,7 +20,7 @@ ghost use Rattle.sheet.specs.Versions.{enough, longestSheet};
 ghost use Rattle.report.specs.Pieces.{refusalText};
 ghost use Rattle.csv.specs.Read.{sheetFrom, lengthOf, toldConverted, Converts};
 ghost use Rattle.csv.specs.Write.{textFrom};
-ghost use Rattle.barge_text.specs.Convert.{Loaded, Inside, isCount, lineIn, printedBy, Shows, Replies};
+ghost use Rattle.barge_text.specs.Convert.{Loaded, MadeInside, isCount, lineIn, printedBy, Shows, Replies};
 
 // Where the word stands.
 const COMMAND: usize = 1;
@@ -110,7 +110,7 @@ fn refusal_page(r: Refusal) -> Page
 
 // What is printed of what a text was converted to.
 fn page_by(c: Converted, sheet: &[u8]) -> Page
-    requires { ⌜ Inside c (length (now sheet)) ⌝ }
+    requires { ⌜ MadeInside c (length (now sheet)) ⌝ }
     ensures { λ p. ⌜ Shows (printedBy c (now (sheet .entry))) p ⌝ }
 {
     match c {
@@ -139,7 +139,7 @@ fn text_of(buffer: &[u8], got: usize, out: &mut [u8]) -> Converted
 
 // What was made of the input goes to standard output, or the refusal to standard error.
 fn deliver(c: Converted, made: &[u8])
-    requires { ⌜ Inside c (length (now made)) ⌝ }
+    requires { ⌜ MadeInside c (length (now made)) ⌝ }
 {
     match c {
         Converted::Length(n) => print(&made[..n]),

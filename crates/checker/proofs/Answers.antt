@@ -7,7 +7,7 @@ use lib.ListN.{length, drop}
 use borrow.Author.Tests.{lt-ltb, le-ltb, eq-eqb, ne-eqb}
 use Rattle.layout.specs.Layout.{pack, unpack, bytes}
 use Rattle.layout.specs.Bytes.{readOf, writtenOf}
-use Rattle.layout.specs.BytesLaws.{read-all, write-all}
+use Rattle.layout.specs.laws.BytesLaws.{read-all, write-all}
 use Rattle.sheet.specs.Refusals.{given, refused, toldOutcome}
 use Rattle.sheet.specs.Writes.{Writes}
 use Rattle.sheet.specs.declared.Refusal.the-variants.{SheetShort, OutputShort, Field}

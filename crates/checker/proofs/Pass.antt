@@ -13,21 +13,21 @@ use Rattle.sheet.specs.declared.Header.{Header}
 use Rattle.sheet.specs.declared.Record.{Record}
 use Rattle.sheet.specs.declared.Raw.{Raw}
 use Rattle.sheet.specs.Refusals.{Answer, given, refused}
-use Rattle.sheet.specs.RefusalLaws.{given-refused, refused-number, refused-place, given-same}
+use Rattle.sheet.specs.laws.RefusalLaws.{given-refused, refused-number, refused-place, given-same}
 use Rattle.sheet.specs.Header.{headerFault}
 use Rattle.sheet.specs.Record.{recordFault, readRecord, rawAt}
-use Rattle.sheet.specs.RecordBack.{record-read-fine, record-read-raw}
+use Rattle.sheet.specs.laws.RecordBack.{record-read-fine, record-read-raw}
 use Rattle.verdict.specs.Judged.{Finding, judgedBy}
-use Rattle.verdict.specs.JudgedLaws.{given-sound, sound-given}
+use Rattle.verdict.specs.laws.JudgedLaws.{given-sound, sound-given}
 use Rattle.hull.specs.Hull.{finding}
 use Rattle.checker.specs.declared.Entry.{Entry}
 use Rattle.checker.specs.Entry.{entryFault, entryBytes, writeEntry}
-use Rattle.checker.specs.EntryLaws.{bytes-written}
+use Rattle.checker.specs.laws.EntryLaws.{bytes-written}
 use Rattle.checker.specs.Check.{_then_, recordPart, partsFrom, soundAfter, recordsIn, entryWith, entryOf, bytesOf, failing, failures}
-use Rattle.checker.specs.ThenLaws.{then-given}
-use Rattle.checker.specs.CheckLaws.{sound-read}
+use Rattle.checker.specs.laws.ThenLaws.{then-given}
+use Rattle.checker.specs.laws.CheckLaws.{sound-read}
 use Rattle.checker.specs.Passes.{Refuses, judgedAfter, Pass, passOver}
-use Rattle.checker.specs.Sound.{entry-sound}
+use Rattle.checker.specs.laws.Sound.{entry-sound}
 use Rattle.checker.proofs.Faults.{record-good}
 
 -- ---- one record

@@ -7,7 +7,7 @@ use native.Mathlib.Nat.{sub-zero}
 use Rattle.sheet.specs.declared.Header.{Header}
 use Rattle.sheet.specs.declared.Record.{Record}
 use Rattle.sheet.specs.Refusals.{Answer, given, refused}
-use Rattle.sheet.specs.RefusalLaws.{given-refused, refused-number, refused-place}
+use Rattle.sheet.specs.laws.RefusalLaws.{given-refused, refused-number, refused-place}
 use Rattle.checker.specs.Check.{_then_, headerFor, recordsPart, recordPart, partsFrom, soundAfter, recordsIn, Sheet, sheetIn}
 use Rattle.checker.specs.Unjudged.{room, soundSheet, soundHeader, recordsSound}
 use Rattle.checker.proofs.Pass.{rest, rest-step, rest-none}

@@ -10,16 +10,16 @@ use Rattle.sheet.specs.declared.Header.{Header}
 use Rattle.sheet.specs.declared.Record.{Record}
 use Rattle.sheet.specs.declared.Refusal.{Refusal}
 use Rattle.sheet.specs.Refusals.{Answer, given, refused, told}
-use Rattle.sheet.specs.RefusalLaws.{given-refused, refused-number, refused-place, given-same}
+use Rattle.sheet.specs.laws.RefusalLaws.{given-refused, refused-number, refused-place, given-same}
 use Rattle.sheet.specs.Versions.{mostRecords}
 use Rattle.sheet.specs.Header.{headerSize}
-use Rattle.sheet.specs.HeaderLaws.{header-ranges}
-use Rattle.sheet.specs.HeaderBack.{header-read-fine}
+use Rattle.sheet.specs.laws.HeaderLaws.{header-ranges}
+use Rattle.sheet.specs.laws.HeaderBack.{header-read-fine}
 use Rattle.checker.specs.declared.Checked.the-variants.{Done, Refused as notDone}
 use Rattle.checker.specs.Check.{_then_, headerFor, recordsPart, partsFrom, recordsIn, Sheet, sheetIn, entryOf, verdicts, bytesOf, answerOf, Checks}
-use Rattle.checker.specs.ThenLaws.{then-given}
-use Rattle.checker.specs.FrontLaws.{header-fits}
-use Rattle.checker.specs.CheckLaws.{taken, bytes-length, answer-done, output-done, refused-as-lent}
+use Rattle.checker.specs.laws.ThenLaws.{then-given}
+use Rattle.checker.specs.laws.FrontLaws.{header-fits}
+use Rattle.checker.specs.laws.CheckLaws.{taken, bytes-length, answer-done, output-done, refused-as-lent}
 use Rattle.checker.specs.Passes.{Ready, Pass, passOf, passOver}
 
 -- ---- what the table says

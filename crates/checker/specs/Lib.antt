@@ -1,15 +1,7 @@
 pub mod Entry
-pub mod EntryLaws
 pub mod Check
 pub mod Computing
 pub mod Whole
-pub mod ThenLaws
-pub mod FrontLaws
 pub mod Unjudged
 pub mod Passes
-pub mod Sound
-pub mod CheckLaws
-pub mod Only
-pub mod Bounds
-pub mod Longer
-pub mod UnjudgedLaws
+pub mod laws

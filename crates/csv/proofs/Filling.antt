@@ -11,7 +11,7 @@ use lib.Seq.{take-all, take-take, length-take-le}
 use lib.Dec.{leb}
 use borrow.Author.Tests.{leb-true}
 use borrow.Rule.Slice.PartMut.{midOf, putMid}
-use Rattle.layout.specs.Tail.{mid-tail, put-tail}
+use Rattle.layout.specs.laws.Tail.{mid-tail, put-tail}
 use Rattle.decimal.specs.Put.{putCount, putOn, Puts}
 use Rattle.sheet.specs.declared.Refusal.{Refusal}
 use Rattle.sheet.specs.Refusals.{Answer, given, refused, told}
@@ -25,8 +25,8 @@ use Rattle.csv.specs.declared.Made.{Made}
 use Rattle.csv.specs.declared.Made.the-variants as Made
 use Rattle.csv.specs.Read.{nextLine, recordsMade, sheetMade}
 use Rattle.csv.specs.Steps.{draftSize, Held, PutsBehind, Fills}
-use Rattle.csv.specs.ReadLaws.{sheet-by-row, header-twenty, in-front, nothing-in-front, given-in-front, refused-in-front, records-by-row, record-sixteen, Goes, Stops, row-more, row-last, row-refused}
-use Rattle.csv.specs.HeldLaws.{held-first, held-more}
+use Rattle.csv.specs.laws.ReadLaws.{sheet-by-row, header-twenty, in-front, nothing-in-front, given-in-front, refused-in-front, records-by-row, record-sixteen, Goes, Stops, row-more, row-last, row-refused}
+use Rattle.csv.specs.laws.HeldLaws.{held-first, held-more}
 
 -- ---- a part that goes to the end of the draft
 

@@ -7,13 +7,13 @@ use native.Mathlib.Omega.{arith}
 use lib.ListN.{length, getD, take, length-append}
 use Rattle.decimal.specs.Decimal.{decimalOf}
 use Rattle.decimal.specs.Laid.{laid, Laid}
-use Rattle.decimal.specs.LaidLaws.{laid-length, laid-laid, laid-none, laid-both, laid-taken}
-use Rattle.decimal.specs.LineLaws.{line-one, line-more}
+use Rattle.decimal.specs.laws.LaidLaws.{laid-length, laid-laid, laid-none, laid-both, laid-taken}
+use Rattle.decimal.specs.laws.LineLaws.{line-one, line-more}
 use Rattle.rows.specs.Pack.{fieldsFrom, fieldsOf}
 use Rattle.sheet.specs.declared.Header.{Header}
 use Rattle.sheet.specs.Versions.{mostRecords}
 use Rattle.csv.specs.Write.{line, headerCells, textOf}
-use Rattle.csv.specs.WriteLaws.{Written, header-most, texts-most}
+use Rattle.csv.specs.laws.WriteLaws.{Written, header-most, texts-most}
 use Rattle.csv.specs.Steps.{recordText, recordsText, longestLine}
 use Rattle.checker.specs.Check.{recordPart, recordsPart}
 

@@ -9,7 +9,7 @@ use Rattle.sheet.specs.declared.Header.{Header}
 use Rattle.sheet.specs.declared.Refusal.{Refusal}
 use Rattle.sheet.specs.declared.Refusal.the-variants.{OutputShort}
 use Rattle.sheet.specs.Refusals.{Answer, given, refused, told}
-use Rattle.sheet.specs.RefusalLaws.{given-refused, refused-number, refused-place}
+use Rattle.sheet.specs.laws.RefusalLaws.{given-refused, refused-number, refused-place}
 use Rattle.checker.specs.Check.{_then_, demand, Sheet}
 use Rattle.checker.specs.Unjudged.{soundSheet, soundHeader}
 use Rattle.fields.specs.Lines.{linesAt}
@@ -20,7 +20,7 @@ use Rattle.csv.specs.declared.Made.the-variants as Made
 use Rattle.csv.specs.Read.{sheetMade, sheetFrom, toldConverted, lengthOf, outputBy, Converts}
 use Rattle.csv.specs.Write.{textOf, textFrom}
 use Rattle.csv.specs.Steps.{Held, Fills, fitsIn, soundIn}
-use Rattle.csv.specs.HeldLaws.{held-sound}
+use Rattle.csv.specs.laws.HeldLaws.{held-sound}
 
 -- a refusal, with every byte as it was lent
 pub refuses : (a : Answer (List ℕ)) (o : List ℕ) (x : Refusal) → a ≡ told x → Converts a o (Converted.Refused x) o

@@ -7,7 +7,7 @@ use lib.ListN.{length, drop}
 use lib.Dec.{leb, ltb}
 use Rattle.sheet.specs.Refusals.{Answer, given, refused, told}
 use Rattle.fields.specs.Lines.{Lines, none, bad, row, linesIn}
-use Rattle.text.specs.LinesLaws.{valueIn}
+use Rattle.text.specs.laws.LinesLaws.{valueIn}
 use Rattle.rows.specs.Rows.{headerLine, recordLine}
 use Rattle.checker.specs.Check.{_then_, demand}
 use Rattle.checker.specs.Unjudged.{soundSheet}

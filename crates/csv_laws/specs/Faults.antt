@@ -8,10 +8,10 @@ use lib.ListN.{length, getD}
 use lib.Dec.{eqb}
 use Rattle.quantity.specs.Range.{within}
 use Rattle.decimal.specs.Decimal.{decimalOf}
-use Rattle.sheet.specs.Versions.{numbers, numbered}
+use Rattle.sheet.specs.Versions.{versionNumbers, numbered}
 use Rattle.sheet.specs.Lines.{firstWidths, ownWidths}
 use Rattle.fields.specs.Lines.{Lines, none, bad, row}
-use Rattle.text.specs.LinesLaws.{valueIn}
+use Rattle.text.specs.laws.LinesLaws.{valueIn}
 use Rattle.rows.specs.Pack.{below, powers}
 use Rattle.rows.specs.Forms.{firstCount, ownCount, recordWidths, recordCount}
 use Rattle.rows.specs.Rows.{kinds, firstOf, taken, firstsOf, ownsOf, recordsOf}
@@ -27,7 +27,7 @@ firstIn fs = firstOf (map valueIn fs)
 
 -- the version of the first line, or the kind of another, is known
 abbrev pub known : (head : Bool) → List (List ℕ) → Bool
-known head fs = cond head (within numbers (firstIn fs)) (within kinds (firstIn fs))
+known head fs = cond head (within versionNumbers (firstIn fs)) (within kinds (firstIn fs))
 
 -- how many fields it then has
 abbrev pub countOf : (head : Bool) → List (List ℕ) → ℕ

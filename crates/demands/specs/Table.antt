@@ -8,7 +8,7 @@ use lib.Dec.{ltb, eqb}
 use Rattle.quantity.specs.Range.{within, from}
 use Rattle.layout.specs.Layout.{pack, unpack, bytes}
 use Rattle.layout.specs.Line.{Line, Allowed, FirstFault}
-use Rattle.sheet.specs.Versions.{numbers}
+use Rattle.sheet.specs.Versions.{versionNumbers}
 use Rattle.sheet.specs.Header.{headerFields, versionField, versionIn}
 use Rattle.sheet.specs.Lines.{headerLines, plateLines, plateWidths, memberLines, memberWidths}
 
@@ -94,9 +94,9 @@ pub data Row (s : List ℕ) (room : ℕ) : (k p : ℕ) → Type 0 where
   -- 1: sheet under 12 bytes
   sheet-short : length s < 12 → Row s room 1 0
   -- 2: version, the first field, none of those that there are
-  version : 12 ≤ length s → within numbers (versionField s) ≡ false → Row s room 2 0
+  version : 12 ≤ length s → within versionNumbers (versionField s) ≡ false → Row s room 2 0
   -- 1 again: sheet under the bytes that the header of its version takes
-  header-short : 12 ≤ length s → within numbers (versionField s) ≡ true → length s < headSize s → Row s room 1 0
+  header-short : 12 ≤ length s → within versionNumbers (versionField s) ≡ true → length s < headSize s → Row s room 1 0
   -- 3: a later header field outside its values, the first such; place: field, version being 1
   header-field : (f : ℕ) → headSize s ≤ length s → FirstFault (suc f) (headerLines (versionIn s)) (headerFields s) → Row s room 3 (f + 2)
   -- 9: the hull is too slender

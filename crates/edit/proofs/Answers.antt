@@ -12,21 +12,21 @@ use Rattle.sheet.specs.declared.Header.{Header}
 use Rattle.sheet.specs.declared.Record.{Record}
 use Rattle.sheet.specs.declared.Refusal.{Refusal}
 use Rattle.sheet.specs.declared.Refusal.the-variants.{NoSuchId, NoRoom}
-use Rattle.sheet.specs.Refusals.{Answer, given, refused, numberOf, placeOf as placeIn-table, told, headerRefused, recordRefused}
-use Rattle.sheet.specs.RefusalLaws.{at-none, by-none, given-refused, given-same, refused-number, refused-place}
+use Rattle.sheet.specs.Refusals.{Answer, given, refused, numberOf, placeOf, told, headerRefused, recordRefused}
+use Rattle.sheet.specs.laws.RefusalLaws.{at-none, by-none, given-refused, given-same, refused-number, refused-place}
 use Rattle.sheet.specs.Header.{headerFault}
 use Rattle.sheet.specs.Record.{recordFault}
 use Rattle.numbers.specs.From.{recordFrom}
 use Rattle.checker.specs.Check.{_then_, demand, sheetSize, recordsPart, Sheet}
-use Rattle.checker.specs.ThenLaws.{then-given}
+use Rattle.checker.specs.laws.ThenLaws.{then-given}
 use Rattle.checker.specs.Unjudged.{soundHeader}
 use Rattle.edit.specs.declared.Edited.the-variants.{Length, Refused as notEdited}
-use Rattle.keyed.specs.Keyed.{placeOf, hasOf}
-use Rattle.keyed.specs.Places.{place-le, has-lt}
+use Rattle.keyed.specs.Keyed.{positionOf, hasOf}
+use Rattle.keyed.specs.laws.Places.{place-le, has-lt}
 use Rattle.edit.specs.Edit.{sheetAt, headerOf, highest, idOf, counting, replacing, inserting, removing, After, hasRoom, placing, putIn, putNumbersIn, removeIn, sizeBy, bytesBy, Edits}
 use Rattle.edit.specs.Steps.{placeIn, hasIn, Known}
-use Rattle.edit.specs.HeaderCount.{counting-sound, counting-few}
-use Rattle.edit.specs.Taken.{Taken, taken-at, place-same, has-same}
+use Rattle.edit.specs.laws.HeaderCount.{counting-sound, counting-few}
+use Rattle.edit.specs.laws.Taken.{Taken, taken-at, place-same, has-same}
 
 -- ---- the sheet in the buffer
 
@@ -92,7 +92,7 @@ given-edits a b after size e = record { answer = rw e; bytes = rw e }
 module _ (b : List ℕ) (len : ℕ) where
   pub put-refused : (r : Record) (x : Refusal) → told x ≡ headerOf b len → Edits (putIn b len r) b (notEdited x) b
   unfolding putIn _then_
-  put-refused r x e = refused-edits (putIn b len r) b x (rw (sheet-refused b len (numberOf x) (placeIn-table x) e))
+  put-refused r x e = refused-edits (putIn b len r) b x (rw (sheet-refused b len (numberOf x) (placeOf x) e))
 
   pub numbers-turned : (ns : List ℕ) (x : Refusal) → told x ≡ headerOf b len → Edits (putNumbersIn b len ns) b (notEdited x) b
   unfolding putNumbersIn _then_
@@ -100,7 +100,7 @@ module _ (b : List ℕ) (len : ℕ) where
 
   pub remove-refused : (id : ℕ) (x : Refusal) → told x ≡ headerOf b len → Edits (removeIn b len id) b (notEdited x) b
   unfolding removeIn _then_
-  remove-refused id x e = refused-edits (removeIn b len id) b x (rw (sheet-refused b len (numberOf x) (placeIn-table x) e))
+  remove-refused id x e = refused-edits (removeIn b len id) b x (rw (sheet-refused b len (numberOf x) (placeOf x) e))
 
   module _ (h : Header) (k : Known b len h) where
     abbrev t : Sheet
@@ -132,7 +132,7 @@ module _ (b : List ℕ) (len : ℕ) where
 
     module _ (id : ℕ) where
       abbrev i : ℕ
-      i = placeOf idOf id (t .records)
+      i = positionOf idOf id (t .records)
 
       pub place-is : placeIn rs n id ≡ i
       place-is = ap (λ (g : Header). placeIn (recordsPart g b) (g .count) id) (k .header) ∙ place-same b len t sheet-taken id

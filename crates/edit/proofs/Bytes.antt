@@ -8,12 +8,12 @@ use lib.ListN.{length, take, drop, replicate, length-append, length-take, length
 use lib.Seq.{take-at, drop-at, take-append-le, drop-append-le, take-append-add, take-take, drop-drop, length-take-le}
 use borrow.Author.Tests.{le-ltb, eq-eqb}
 use borrow.Rule.Slice.PartMut.{putMid}
-use Rattle.layout.specs.BytesLaws.{drop-take}
+use Rattle.layout.specs.laws.BytesLaws.{drop-take}
 use Rattle.sheet.specs.declared.Header.{Header}
 use Rattle.sheet.specs.declared.Record.{Record}
 use Rattle.sheet.specs.Header.{headerSize, headerFault, headerBytes, writeHeader}
-use Rattle.sheet.specs.HeaderLaws.{header-allowed}
-use Rattle.sheet.specs.HeaderExactly.{header-write-given, header-write-bytes}
+use Rattle.sheet.specs.laws.HeaderLaws.{header-allowed}
+use Rattle.sheet.specs.laws.HeaderExactly.{header-write-given, header-write-bytes}
 use Rattle.sheet.specs.Record.{recordFault, recordBytes, writeRecord}
 use Rattle.checker.specs.Check.{part}
 use Rattle.edit.specs.Edit.{start, replacing, inserting, removing}

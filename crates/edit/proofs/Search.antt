@@ -10,13 +10,13 @@ use lib.Dec.{ltb, eqb}
 use lib.ListN.{length, getD}
 use borrow.Author.Tests.{le-ltb, lt-ltb}
 use Rattle.checker.specs.Check.{recordPart, partsFrom}
-use Rattle.keyed.specs.Keyed.{placeOf, hasOf}
+use Rattle.keyed.specs.Keyed.{positionOf, hasOf}
 use Rattle.edit.specs.Steps.{idIn, placeIn, hasIn}
-use Rattle.edit.specs.Parts.{parts-length}
+use Rattle.edit.specs.laws.Parts.{parts-length}
 
 -- the place among the records from record i on, of n
 unfoldable pub placeFrom : List ℕ → (n id i : ℕ) → ℕ
-placeFrom s n id i = placeOf idIn id (partsFrom s i (n - i))
+placeFrom s n id i = positionOf idIn id (partsFrom s i (n - i))
 
 pub place-start : (s : List ℕ) (n id : ℕ) → placeFrom s n id 0 ≡ placeIn s n id
 unfolding placeFrom placeIn
@@ -30,15 +30,15 @@ module _ (s : List ℕ) (n id i : ℕ) where
       rw e
 
   pub place-here : i < n → id ≤ idIn (recordPart s i) → placeFrom s n id i ≡ 0
-  unfolding placeFrom placeOf
+  unfolding placeFrom positionOf
   place-here l m = rw (rest-step l, le-ltb (idIn (recordPart s i)) id m)
 
   pub place-next : i < n → idIn (recordPart s i) < id → placeFrom s n id i ≡ suc (placeFrom s n id (i + 1))
-  unfolding placeFrom placeOf
+  unfolding placeFrom positionOf
   place-next l m = rw (rest-step l, lt-ltb (idIn (recordPart s i)) id m)
 
   pub place-end : n ≤ i → placeFrom s n id i ≡ 0
-  unfolding placeFrom placeOf partsFrom
+  unfolding placeFrom positionOf partsFrom
   place-end l =
       let e : n - i ≡ 0 = omega arith in
       rw e
@@ -53,22 +53,22 @@ part-at s i (suc m) zero l = let e : i ≡ i + 0 = omega arith in ap (recordPart
 part-at s i (suc m) (suc k) l = let e : i + 1 + k ≡ i + suc k = omega arith in part-at s (i + 1) m k (omega arith) ∙ ap (recordPart s) e
 
 module _ (id : ℕ) where
-  past : (ps : List (List ℕ)) → length ps ≤ placeOf idIn id ps → hasOf idIn id ps ≡ false
-  unfolding placeOf hasOf
+  past : (ps : List (List ℕ)) → length ps ≤ positionOf idIn id ps → hasOf idIn id ps ≡ false
+  unfolding positionOf hasOf
   past [] l = refl
   past (p ∷ ps) l = go (past ps) (ltb (idIn p) id) l
     where
-      go : (length ps ≤ placeOf idIn id ps → hasOf idIn id ps ≡ false) → (b : Bool) → suc (length ps) ≤ cond b (suc (placeOf idIn id ps)) 0 → cond b (hasOf idIn id ps) (eqb (idIn p) id) ≡ false
+      go : (length ps ≤ positionOf idIn id ps → hasOf idIn id ps ≡ false) → (b : Bool) → suc (length ps) ≤ cond b (suc (positionOf idIn id ps)) 0 → cond b (hasOf idIn id ps) (eqb (idIn p) id) ≡ false
       go h true m = h (omega arith)
       go h false m = absurd (omega arith)
 
-  here : (ps : List (List ℕ)) → placeOf idIn id ps < length ps → eqb (idIn (getD ps (placeOf idIn id ps) [])) id ≡ hasOf idIn id ps
-  unfolding placeOf hasOf
+  here : (ps : List (List ℕ)) → positionOf idIn id ps < length ps → eqb (idIn (getD ps (positionOf idIn id ps) [])) id ≡ hasOf idIn id ps
+  unfolding positionOf hasOf
   here [] l = absurd (omega arith)
   here (p ∷ ps) l = go (here ps) (ltb (idIn p) id) l
     where
-      go : (placeOf idIn id ps < length ps → eqb (idIn (getD ps (placeOf idIn id ps) [])) id ≡ hasOf idIn id ps) → (b : Bool) → cond b (suc (placeOf idIn id ps)) 0 < suc (length ps)
-          → eqb (idIn (getD (p ∷ ps) (cond b (suc (placeOf idIn id ps)) 0) [])) id ≡ cond b (hasOf idIn id ps) (eqb (idIn p) id)
+      go : (positionOf idIn id ps < length ps → eqb (idIn (getD ps (positionOf idIn id ps) [])) id ≡ hasOf idIn id ps) → (b : Bool) → cond b (suc (positionOf idIn id ps)) 0 < suc (length ps)
+          → eqb (idIn (getD (p ∷ ps) (cond b (suc (positionOf idIn id ps)) 0) [])) id ≡ cond b (hasOf idIn id ps) (eqb (idIn p) id)
       go h true m = h (omega arith)
       go h false m = refl
 

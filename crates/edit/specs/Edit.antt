@@ -16,7 +16,7 @@ use Rattle.checker.specs.Check.{_then_, demand, part, Sheet}
 use Rattle.checker.specs.Unjudged.{soundSheet}
 use Rattle.edit.specs.declared.Edited.{Edited}
 use Rattle.edit.specs.declared.Edited.the-variants.{Length, Refused as notEdited}
-use Rattle.keyed.specs.Keyed.{placeOf, hasOf}
+use Rattle.keyed.specs.Keyed.{positionOf, hasOf}
 
 -- ---- the sheet in the buffer
 
@@ -84,7 +84,7 @@ hasRoom h len size = leb (len + 16) size && ltb (h .count) (highest h)
 unfoldable pub placing : Sheet → (buffer : List ℕ) (len : ℕ) → Record → Answer After
 placing t b len r =
     let h = t .header in
-    let i = placeOf idOf (r .id) (t .records) in
+    let i = positionOf idOf (r .id) (t .records) in
     cond (hasOf idOf (r .id) (t .records))
     (given (record { size = len; bytes = replacing h i r b }))
     (demand (hasRoom h len (length b)) 11 then λ u. given (record { size = len + 16; bytes = inserting (counting (h .count + 1) h) i len r b }))
@@ -105,7 +105,7 @@ unfoldable pub removeIn : (buffer : List ℕ) (len id : ℕ) → Answer After
 removeIn b len id =
     sheetAt b len
     then λ t. demand (hasOf idOf id (t .records)) 10
-    then λ u. given (record { size = len - 16; bytes = removing (counting (t .header .count - 1) (t .header)) (placeOf idOf id (t .records)) len b })
+    then λ u. given (record { size = len - 16; bytes = removing (counting (t .header .count - 1) (t .header)) (positionOf idOf id (t .records)) len b })
 
 -- what the code's answer says
 abbrev pub toldEdited : Edited → Answer ℕ

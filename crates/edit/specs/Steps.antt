@@ -11,7 +11,7 @@ use Rattle.sheet.specs.Refusals.{given}
 use Rattle.sheet.specs.Header.{headerFault}
 use Rattle.sheet.specs.Record.{recordFault, rawAt}
 use Rattle.checker.specs.Check.{partsFrom, Sheet}
-use Rattle.keyed.specs.Keyed.{placeOf, hasOf}
+use Rattle.keyed.specs.Keyed.{positionOf, hasOf}
 use Rattle.edit.specs.Edit.{sheetAt, start}
 
 -- ---- bytes that move by sixteen
@@ -40,7 +40,7 @@ idIn b = rawAt (readOf 16 b) .values .id
 
 -- the place of an id among the first n records, by the bytes of all of them
 unfoldable pub placeIn : List ℕ → (n id : ℕ) → ℕ
-placeIn b n id = placeOf idIn id (partsFrom b 0 n)
+placeIn b n id = positionOf idIn id (partsFrom b 0 n)
 
 -- whether one of them has it
 unfoldable pub hasIn : List ℕ → (n id : ℕ) → Bool

@@ -1,13 +1,3 @@
 pub mod Rows
 pub mod Edits
-pub mod Rebuilt
-pub mod Outcomes
-pub mod Sequences
-pub mod Touched
-pub mod BackAgain
-pub mod Verdicts
-pub mod SheetRefusals
-pub mod RowLaws
-pub mod Numbers
-pub mod Slender
-pub mod Example
+pub mod laws

@@ -3,6 +3,4 @@ pub mod Marks
 pub mod Field
 pub mod Rest
 pub mod Lines
-pub mod First
-pub mod Only
-mod Cases
+pub mod laws

@@ -13,17 +13,17 @@ use borrow.Rule.Slice.PartMut.{midOf, putMid}
 use borrow.Author.Tests.{lt-ltb, le-ltb, eq-eqb, ne-eqb, eqb-true}
 use Rattle.layout.specs.Layout.{pack, unpack, bytes}
 use Rattle.layout.specs.Bytes.{readOf, writtenOf}
-use Rattle.layout.specs.BytesLaws.{read-all, write-all}
-use Rattle.layout.specs.Tail.{mid-tail, put-tail}
+use Rattle.layout.specs.laws.BytesLaws.{read-all, write-all}
+use Rattle.layout.specs.laws.Tail.{mid-tail, put-tail}
 use Rattle.layout.specs.Line.{faultFrom}
-use Rattle.sheet.specs.Versions.{firstBytes, one, two, numbered, versionOf, needs, under-first}
-use Rattle.sheet.specs.VersionLaws.{regular, needs-own}
+use Rattle.sheet.specs.Versions.{firstBytes, one, two, numbered, versionOf, bytesNeeded, under-first}
+use Rattle.sheet.specs.laws.VersionLaws.{regular, needs-own}
 use Rattle.sheet.specs.Lines.{headerLines, firstWidths, ownWidths}
 use Rattle.sheet.specs.Header.{headerSize, firstValues, ownValues, headerAt, rawFault, headerFault, fieldsIn, ownBytes, firstFields, ownFields, versionField, versionIn, headerFields, headerOf, readHeader, headerBytes, headerNeeds, writeHeader}
-use Rattle.sheet.specs.HeaderLaws.{version-at, spareIn, restIn, read-fault}
-use Rattle.sheet.specs.HeaderExactly.{header-read-1, fine-needs}
+use Rattle.sheet.specs.laws.HeaderLaws.{version-at, spareIn, restIn, read-fault}
+use Rattle.sheet.specs.laws.HeaderExactly.{header-read-1, fine-needs}
 use Rattle.sheet.specs.Refusals.{Answer, given, refused, told, toldOutcome, toldHeader, headerRefused}
-use Rattle.sheet.specs.RefusalLaws.{at-none, says}
+use Rattle.sheet.specs.laws.RefusalLaws.{at-none, says}
 use Rattle.sheet.specs.Writes.{Writes}
 use Rattle.sheet.specs.declared.Header.{Header}
 use Rattle.sheet.specs.declared.Own.the-variants.{One, Two}
@@ -67,12 +67,12 @@ module _ (s : List ℕ) (l : firstBytes ≤ length s) (n w : ℕ) (h : Header) (
   kept : versionOf (h .own) ≡ versionIn s
   kept = ap (λ (g : Header). versionOf (g .own)) eh ∙ version-at (getD (unpack firstWidths n) 0 0) (drop 9 (fieldsIn n w)) ∙ ap (λ (m : ℕ). numbered (getD (unpack firstWidths m) 0 0)) number
 
-  same-needs : headerNeeds h ≡ needs (versionField s) (versionIn s)
-  same-needs = ap₂ needs named kept
+  same-needs : headerNeeds h ≡ bytesNeeded (versionField s) (versionIn s)
+  same-needs = ap₂ bytesNeeded named kept
 
   pub read-under : length s < headerNeeds h → toldHeader (noHeader SheetShort) ≡ readHeader s
   unfolding readHeader
-  read-under u = rw (lt-ltb (length s) (needs (versionField s) (versionIn s)) (omega (arith, same-needs)))
+  read-under u = rw (lt-ltb (length s) (bytesNeeded (versionField s) (versionIn s)) (omega (arith, same-needs)))
 
   module _ (enough : headerNeeds h ≤ length s) where
     -- in version 2 there are bytes for its own fields
@@ -80,7 +80,7 @@ module _ (s : List ℕ) (l : firstBytes ≤ length s) (n w : ℕ) (h : Header) (
     own-read true e =
         let k = eqb-true (versionField s) (two .number) e in
         let v : versionIn s ≡ two = ap numbered k in
-        let long : 8 ≤ length (drop firstBytes s) = omega (arith, same-needs, needs-own (versionField s) two k, ap (needs (versionField s)) v, length-drop firstBytes s) in
+        let long : 8 ≤ length (drop firstBytes s) = omega (arith, same-needs, needs-own (versionField s) two k, ap (bytesNeeded (versionField s)) v, length-drop firstBytes s) in
         ap (unpack (ownWidths two)) (ew ∙ read-all 8 (drop firstBytes s) long)
     own-read false e = refl
 
@@ -115,7 +115,7 @@ module _ (s : List ℕ) (l : firstBytes ≤ length s) (n w : ℕ) (h : Header) (
       read-as : headerRefused f (given h) ≡ readHeader s
       unfolding readHeader
       read-as =
-          rw (le-ltb (length s) (needs (versionField s) (versionIn s)) (omega (arith, same-needs)))
+          rw (le-ltb (length s) (bytesNeeded (versionField s) (versionIn s)) (omega (arith, same-needs)))
           (ap₂ (λ (k : ℕ) (a : Header). headerRefused k (given a)) found is-header)
 
       pub read-good : f ≡ 0 → toldHeader (goodHeader h) ≡ readHeader s

@@ -5,7 +5,7 @@ use mathlib.Core.Path.{_≡_, refl, _∙_}
 use mathlib.Core.List.{List, [], _∷_}
 use native.Mathlib.Nat.{div-one, div-div-eq-div-mul}
 use Rattle.layout.specs.Layout.{unpack}
-use Rattle.layout.specs.Laws.{unpack-words}
+use Rattle.layout.specs.laws.Laws.{unpack-words}
 use Rattle.sheet.specs.Lines.{firstWidths}
 
 -- the parts of the two words

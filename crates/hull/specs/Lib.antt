@@ -1,8 +1,5 @@
 pub mod Hull
 pub mod Sources
 pub mod Computing
-pub mod Cases
 pub mod Raising
-pub mod PutLaws
-pub mod RaisingLaws
-pub mod SourceLaws
+pub mod laws

@@ -12,9 +12,9 @@ module _ {A : Type 0} (key : A → ℕ) where
   rises before (r ∷ rs) = let rest = rises (key r) rs in ltb before (key r) && rest
 
   -- how many come before the first whose key is not below k: the place of the one with key k, or where such a one goes in
-  unfoldable pub placeOf : (k : ℕ) → List A → ℕ
-  placeOf k [] = 0
-  placeOf k (r ∷ rs) = let rest = placeOf k rs in cond (ltb (key r) k) (suc rest) 0
+  unfoldable pub positionOf : (k : ℕ) → List A → ℕ
+  positionOf k [] = 0
+  positionOf k (r ∷ rs) = let rest = positionOf k rs in cond (ltb (key r) k) (suc rest) 0
 
   -- whether one has the key k
   unfoldable pub hasOf : (k : ℕ) → List A → Bool

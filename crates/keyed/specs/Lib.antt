@@ -1,3 +1,2 @@
 pub mod Keyed
-pub mod MapLaws
-pub mod Places
+pub mod laws

@@ -8,8 +8,8 @@ use lib.ListN.{length, take, drop}
 use lib.Seq.{take-add, drop-drop, length-take-le}
 use borrow.Rule.Slice.PartMut.{midOf, putMid}
 use Rattle.layout.specs.Layout.{total, pack, unpack, bytes}
-use Rattle.layout.specs.Tail.{mid-tail, put-tail}
-use Rattle.layout.specs.Laws.{pack-append, unpack-append, length-bytes}
+use Rattle.layout.specs.laws.Tail.{mid-tail, put-tail}
+use Rattle.layout.specs.laws.Laws.{pack-append, unpack-append, length-bytes}
 
 -- the bytes of a first part and of a second make the bytes' number together
 pub get-law : (a b : ℕ) (s : List ℕ) → a + b ≤ length s

@@ -7,11 +7,11 @@ use mathlib.Core.List.{List, [], _∷_}
 use native.Mathlib.Omega.{arith}
 use lib.Dec.{leb, ltb}
 use borrow.Author.Tests.{le-leb, leb-true, ltb-true}
-use Rattle.truth.specs.Tests.{both, clash, false-of}
+use Rattle.truth.specs.laws.Tests.{both, clash, false-of}
 use Rattle.quantity.specs.Range.{Range, within, from}
 use Rattle.quantity.specs.Made.{Held, held as isHeld, refused, Makes}
 use Rattle.layout.specs.Line.{among}
-use Rattle.quantity.specs.RangeLaws.{low-high}
+use Rattle.quantity.specs.laws.RangeLaws.{low-high}
 use Rattle.numbers.specs.Held.{held, heldIn}
 
 -- whether a range lies within another

@@ -9,9 +9,9 @@ use lib.ListN.{getD}
 use lib.Dec.{eqb, lit≤, leb·zero}
 use borrow.Author.Tests.{eq-eqb, ne-eqb, eqb-true, eqb-false}
 use Rattle.quantity.specs.Range.{Range, within, from, span, spacing, thickness, modulus, shearArea, steelFactor}
-use Rattle.quantity.specs.Laws.{one-value}
+use Rattle.quantity.specs.laws.Laws.{one-value}
 use Rattle.layout.specs.Line.{Line, zeros, Allowed, faultFrom}
-use Rattle.layout.specs.LineLaws.{none-all}
+use Rattle.layout.specs.laws.LineLaws.{none-all}
 use Rattle.sheet.specs.declared.Header.{Header}
 use Rattle.sheet.specs.declared.Own.{Own}
 use Rattle.sheet.specs.declared.Own.the-variants.{One, Two}
@@ -22,7 +22,7 @@ use Rattle.sheet.specs.Versions.{Version, depths, one, two, versionOf}
 use Rattle.sheet.specs.Lines.{either, none, ruleLength, counts, ids, plateSpacing, sides, headerLines, plateLines, memberLines, waves}
 use Rattle.sheet.specs.Header.{ownValues, rawFault, headerFault}
 use Rattle.sheet.specs.Record.{plateValues, memberValues, plateRecord, memberRecord, plateLinesOf, memberLinesOf, plateFault, memberFault, bodyFault, recordFault}
-use Rattle.sheet.specs.HeaderLaws.{flag-within}
+use Rattle.sheet.specs.laws.HeaderLaws.{flag-within}
 use Rattle.numbers.specs.Held.{held, heldIn, firstOf, headerHeld, headerApart, plateHeld, plateApart, memberHeld, memberApart, recordHeld, recordApart}
 use Rattle.numbers.specs.From.{numbersFrom, headerOfNumbers, fieldsAs, inSecond, headerNumbersFault, plateFields, recordOfNumbers, recordNumbersFault, plateNumbered}
 use Rattle.numbers.proofs.First.{okays, Agree, agree-fault}

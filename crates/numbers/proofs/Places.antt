@@ -8,7 +8,7 @@ use lib.Dec.{ltb, eqb}
 use borrow.Author.Tests.{eqb-true, eqb-false, ltb-true, ltb-false, lt-ltb, le-ltb}
 use Rattle.sheet.specs.declared.Refusal.{Refusal}
 use Rattle.sheet.specs.Refusals.{Answer, given, refused, numberOf, placeOf, told}
-use Rattle.sheet.specs.RefusalLaws.{Which, which, none, first, later, at-later}
+use Rattle.sheet.specs.laws.RefusalLaws.{Which, which, none, first, later, at-later}
 use Rattle.sheet.specs.Exactly.{Cases, byFault}
 use Rattle.numbers.specs.Held.{firstOf, earlierOf}
 use Rattle.numbers.proofs.First.{first-left, first-right, first-none}

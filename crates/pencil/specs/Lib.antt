@@ -4,7 +4,4 @@ pub mod Plates
 pub mod Members
 pub mod Steps
 pub mod Trail
-pub mod TrailLaws
-pub mod True
-pub mod Only
-pub mod Cases
+pub mod laws

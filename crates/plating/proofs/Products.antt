@@ -6,7 +6,7 @@ use native.Mathlib.Nat.{mul-le-mul}
 use Rattle.quantity.specs.Range.{steelFactor}
 use Rattle.plating.specs.Rules.{K2}
 use Rattle.sheet.specs.Lines.{plateSpacing}
-use Rattle.plating.specs.Laws.{K2-range}
+use Rattle.plating.specs.laws.Laws.{K2-range}
 
 -- S² and S²K of a plate
 pub in-range : {S K : ℕ} → S ≤ plateSpacing .high → K ≤ steelFactor .high → (S * S ≤ 4000000) × (S * S * K ≤ 4000000000)

@@ -4,7 +4,7 @@ use Prim.Native.Nat.{ℕ, _≤_}
 use mathlib.Core.Bool.{Bool, true, false, cond}
 use native.Mathlib.Omega.{arith}
 use Rattle.quantity.specs.Range.{pressure}
-use Rattle.loads.specs.Bounds.{either, bottom-bound, inner-bound}
+use Rattle.loads.specs.laws.Bounds.{either, bottom-bound, inner-bound}
 use Rattle.sheet.specs.declared.Header.{Header}
 use Rattle.sheet.specs.declared.Plate.{Plate}
 use Rattle.sheet.specs.Kinds.{isBottom}

@@ -1,4 +1,3 @@
 pub mod Range
-pub mod RangeLaws
 pub mod Made
-pub mod Laws
+pub mod laws

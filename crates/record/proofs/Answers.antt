@@ -9,11 +9,11 @@ use lib.Dec.{eqb}
 use borrow.Author.Tests.{lt-ltb, le-ltb, eq-eqb, ne-eqb}
 use Rattle.layout.specs.Layout.{unpack, bytes}
 use Rattle.layout.specs.Bytes.{readOf, writtenOf}
-use Rattle.layout.specs.BytesLaws.{read-all, write-all}
+use Rattle.layout.specs.laws.BytesLaws.{read-all, write-all}
 use Rattle.sheet.specs.Record.{recordFault, recordIn, readRecord, recordNumber, writeRecord, recordAt, spareAt}
-use Rattle.sheet.specs.RecordLaws.{record-in}
+use Rattle.sheet.specs.laws.RecordLaws.{record-in}
 use Rattle.sheet.specs.Refusals.{Answer, given, refused, told, toldOutcome, toldRecord, recordRefused}
-use Rattle.sheet.specs.RefusalLaws.{at-none, says}
+use Rattle.sheet.specs.laws.RefusalLaws.{at-none, says}
 use Rattle.sheet.specs.Writes.{Writes}
 use Rattle.sheet.specs.declared.Record.{Record}
 use Rattle.sheet.specs.declared.Refusal.{Refusal}

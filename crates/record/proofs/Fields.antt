@@ -8,7 +8,7 @@ use native.Mathlib.Nat.{div-one, div-div-eq-div-mul}
 use lib.ListN.{getD}
 use lib.Dec.{ltb}
 use Rattle.layout.specs.Layout.{unpack}
-use Rattle.layout.specs.Laws.{unpack-words}
+use Rattle.layout.specs.laws.Laws.{unpack-words}
 use Rattle.sheet.specs.Lines.{plateWidths, memberWidths}
 use Rattle.sheet.specs.Record.{plateAt, memberAt, recordAt, spareAt}
 use Rattle.sheet.specs.declared.Plate.{Plate}

@@ -8,10 +8,10 @@ use native.Mathlib.Nat.{sub-zero}
 use lib.ListN.{length, length-append}
 use Rattle.checker.specs.Check.{part}
 use Rattle.decimal.specs.Laid.{laid, Laid}
-use Rattle.decimal.specs.LaidLaws.{laid-length, laid-laid, laid-none}
+use Rattle.decimal.specs.laws.LaidLaws.{laid-length, laid-laid, laid-none}
 use Rattle.report.specs.Page.{longestLine}
 use Rattle.report.specs.Pieces.{verdictText, verdictsText}
-use Rattle.report.specs.PiecesLaws.{verdict-most, verdicts-most}
+use Rattle.report.specs.laws.PiecesLaws.{verdict-most, verdicts-most}
 
 -- of n lines, those from i on are left, and go to `at` on
 pub record Putting (out : List ℕ) (n : ℕ) (page₀ page : List ℕ) (at i : ℕ) : Type 0 where

@@ -1,10 +1,5 @@
 pub mod Text
-pub mod TextLaws
 pub mod Page
 pub mod Pieces
-pub mod PageLaws
-pub mod PiecesLaws
-pub mod Longest
 pub mod Reading
-pub mod Back
-pub mod Cases
+pub mod laws

@@ -9,9 +9,9 @@ use lib.ListN.{length, getD}
 use lib.Dec.{ltb}
 use borrow.Author.Tests.{lt-ltb, le-ltb}
 use Rattle.layout.specs.Layout.{pack, unpack, bytes, Fit}
-use Rattle.layout.specs.Laws.{unpack-pack, length-unpack, length-bytes}
+use Rattle.layout.specs.laws.Laws.{unpack-pack, length-unpack, length-bytes}
 use Rattle.rows.specs.Pack.{appended, fieldsFrom, fieldsOf, below, joined, packedOn}
-use Rattle.rows.specs.PackLaws.{appended-number}
+use Rattle.rows.specs.laws.PackLaws.{appended-number}
 
 -- the field at i, and those behind it
 pub next-field : (i n : ℕ) (ns : List ℕ) → i < n → fieldsFrom i (n - i) ns ≡ getD ns i 0 ∷ fieldsFrom (i + 1) (n - (i + 1)) ns

@@ -11,7 +11,7 @@ use lib.ListN.{length, getD, take, drop, set, length-set, drop-of-length-le}
 use lib.Seq.{drop-cons, set-split, take-set-le, take-take, drop-at, length-take-le}
 use Rattle.layout.specs.Layout.{pack, unpack, bytes}
 use Rattle.rows.specs.Pack.{appended}
-use Rattle.rows.specs.PackLaws.{beyond, turn-bytes, turn-carry}
+use Rattle.rows.specs.laws.PackLaws.{beyond, turn-bytes, turn-carry}
 
 -- a byte times a limit
 pub product : (b l : ℕ) → b < 256 → l < 4294967296 → b * l ≤ 1095216660225

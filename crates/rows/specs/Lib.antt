@@ -1,7 +1,5 @@
 pub mod Pack
-pub mod PackLaws
 pub mod Forms
 pub mod Rows
 pub mod Steps
-pub mod RowLaws
-pub mod Only
+pub mod laws

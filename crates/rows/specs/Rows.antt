@@ -7,7 +7,7 @@ use lib.ListN.{length, getD, replicate}
 use lib.Dec.{eqb}
 use Rattle.quantity.specs.Range.{Range, within, from}
 use Rattle.layout.specs.Layout.{pack, unpack, bytes}
-use Rattle.sheet.specs.Versions.{Version, firstBytes, numbers, numbered}
+use Rattle.sheet.specs.Versions.{Version, firstBytes, versionNumbers, numbered}
 use Rattle.sheet.specs.Lines.{firstWidths, ownWidths}
 use Rattle.sheet.specs.Header.{ownBytes}
 use Rattle.sheet.specs.Refusals.{Answer, given, refused, told}
@@ -57,7 +57,7 @@ headerMade v vs = unpack (bytes firstBytes) (pack firstWidths (firstsOf vs)) ++ 
 unfoldable pub headerLine : (line count : ℕ) → List ℕ → Answer (List ℕ)
 headerLine line count vs =
     let v = numbered (firstOf vs) in
-    let known = within numbers (firstOf vs) in
+    let known = within versionNumbers (firstOf vs) in
     let ns = taken known vs in
     lineBy line (known && not (eqb count (firstCount + ownCount v))) (below (powers firstWidths) (firstsOf ns) && below (powers (ownWidths v)) (ownsOf v ns)) (headerMade v ns)
 

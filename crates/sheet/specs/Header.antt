@@ -9,7 +9,7 @@ use Rattle.layout.specs.Line.{faultFrom}
 use Rattle.sheet.specs.declared.Header.{Header}
 use Rattle.sheet.specs.declared.Own.{Own}
 use Rattle.sheet.specs.declared.Own.the-variants.{One, Two}
-use Rattle.sheet.specs.Versions.{Version, firstBytes, two, numbered, versionOf, needs}
+use Rattle.sheet.specs.Versions.{Version, firstBytes, two, numbered, versionOf, bytesNeeded}
 use Rattle.sheet.specs.Lines.{headerLines, firstWidths, ownWidths}
 use Rattle.sheet.specs.Refusals.{Answer, given, refused, headerRefused, Wrote}
 
@@ -103,7 +103,7 @@ headerOf s = headerAt (headerFields s)
 -- reading: 1 where there are under 12 bytes; 2; 1 where there are fewer than the version takes; then 3. Bytes past the header play no part
 unfoldable pub readHeader : List ℕ → Answer Header
 readHeader s =
-    cond (ltb (length s) (needs (versionField s) (versionIn s)))
+    cond (ltb (length s) (bytesNeeded (versionField s) (versionIn s)))
     (refused 1 0)
     (headerRefused (faultFrom 1 (headerLines (versionIn s)) (headerFields s)) (given (headerOf s)))
 
@@ -115,7 +115,7 @@ headerBytes h =
 
 -- how many bytes are asked for before it is written
 abbrev pub headerNeeds : Header → ℕ
-headerNeeds h = needs (h .version) (versionOf (h .own))
+headerNeeds h = bytesNeeded (h .version) (versionOf (h .own))
 
 -- writing: 5 where there are under 12 bytes; 2; 5 where there are fewer than the version takes; then 3. A refusal leaves every byte, and else the first
 -- are the header's

@@ -68,8 +68,8 @@ abbrev pub enough : ℕ
 enough = longestSheet + 1
 
 -- the numbers of the versions
-abbrev pub numbers : Range
-numbers = from 1 (length versions)
+abbrev pub versionNumbers : Range
+versionNumbers = from 1 (length versions)
 
 -- the version of a number among those of a list; version 1 where none has it
 abbrev pub found : List Version → ℕ → Version
@@ -86,8 +86,8 @@ versionOf One = one
 versionOf (Two s) = two
 
 -- how many bytes a header needs that names version k and is of version v: those in which k stands, and where k is v's number, v's
-abbrev pub needs : ℕ → Version → ℕ
-needs k v = cond (eqb k (v .number)) (v .size) firstBytes
+abbrev pub bytesNeeded : ℕ → Version → ℕ
+bytesNeeded k v = cond (eqb k (v .number)) (v .size) firstBytes
 
 -- so many bytes are under those of the first fields, or, k being the version's number, under the version's
 pub data Under (len k : ℕ) (v : Version) : Type 0 where

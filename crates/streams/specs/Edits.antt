@@ -13,8 +13,8 @@ use Rattle.streams.specs.declared.edits.Done.{Done}
 use Rattle.streams.specs.Parts.{numberAt, fieldsIn}
 
 -- the edit that a form asks for: 0 puts a record, another number removes one
-unfoldable pub editIn : (form buffer : List ℕ) (len : ℕ) → Answer After
-editIn form b len = cond (eqb (numberAt form 0) 0) (putNumbersIn b len (fieldsIn form)) (removeIn b len (numberAt form 1))
+unfoldable pub askedEdit : (form buffer : List ℕ) (len : ℕ) → Answer After
+askedEdit form b len = cond (eqb (numberAt form 0) 0) (putNumbersIn b len (fieldsIn form)) (removeIn b len (numberAt form 1))
 
 -- the sheet's length after an edit: a refusal leaves it
 abbrev pub lengthAfter : ℕ → Edited → ℕ

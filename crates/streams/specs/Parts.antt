@@ -35,6 +35,6 @@ lineFor (given n) = decimalOf n ++ (10 ∷ [])
 lineFor (refused number place) = refusedWord ++ line (number ∷ place ∷ [])
 
 -- the length is one of the largest output
-abbrev pub Inside : Answer ℕ → Type 0
-Inside (given n) = n ≤ 65536
-Inside (refused number place) = Unit {0}
+abbrev pub ShortLine : Answer ℕ → Type 0
+ShortLine (given n) = n ≤ 65536
+ShortLine (refused number place) = Unit {0}

@@ -9,7 +9,7 @@ ghost use mathlib.Core.Path.{_≡_};
 ghost use Prim.Native.Nat.{_≤_};
 ghost use lib.ListN.{length};
 ghost use Rattle.edit.specs.Edit.{Edits};
-ghost use Rattle.streams.specs.Edits.{editIn, IsDone};
+ghost use Rattle.streams.specs.Edits.{askedEdit, IsDone};
 
 // What is printed of an edit, and the length that the next one finds.
 struct Done {
@@ -25,7 +25,7 @@ enum Next {
 // The edit that a form asks for.
 fn edited(buf: &mut [u8], len: usize, form: &[u8]) -> Edited
     requires { ⌜ 56 ≤ length (now form) ⌝ }
-    ensures { λ e. ⌜ Edits (editIn (now (form .entry)) (now (buf .entry)) len) (now (buf .entry)) e (now (buf .exit)) ⌝ }
+    ensures { λ e. ⌜ Edits (askedEdit (now (form .entry)) (now (buf .entry)) len) (now (buf .entry)) e (now (buf .exit)) ⌝ }
 {
     if parts::number(form, 0) == 0 {
         let f = parts::fields(form);

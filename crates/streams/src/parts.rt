@@ -7,7 +7,7 @@ ghost use Prim.Native.Nat.{_+_, _*_, _≤_, _<_};
 ghost use lib.ListN.{length};
 ghost use Rattle.decimal.specs.Laid.{Laid};
 ghost use Rattle.csv.specs.Read.{toldConverted};
-ghost use Rattle.streams.specs.Parts.{numberAt, fieldsIn, lineFor, Inside};
+ghost use Rattle.streams.specs.Parts.{numberAt, fieldsIn, lineFor, ShortLine};
 
 // A refusal's longest line; a length's has fewer bytes.
 pub const LINE: usize = 22;
@@ -46,7 +46,7 @@ pub fn fields(form: &[u8]) -> [u32; 13]
 
 // The line of an answer: a length, or a refusal.
 pub fn put_line(c: Converted, line: &mut [u8]) -> usize
-    requires { ⌜ (22 ≤ length (now line)) × Inside (toldConverted c) ⌝ }
+    requires { ⌜ (22 ≤ length (now line)) × ShortLine (toldConverted c) ⌝ }
     ensures { λ r. ⌜ Laid (now (line .entry)) 0 (lineFor (toldConverted c)) r (now (line .exit)) ⌝ }
 {
     match c {
@@ -63,7 +63,7 @@ pub fn put_line(c: Converted, line: &mut [u8]) -> usize
 
 // The line, and the bytes that it speaks of.
 pub fn print(c: Converted, bytes: &[u8])
-    requires { ⌜ Inside (toldConverted c) ⌝ }
+    requires { ⌜ ShortLine (toldConverted c) ⌝ }
 {
     let mut line = [0u8; LINE];
     let end = put_line(c, &mut line);

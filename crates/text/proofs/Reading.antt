@@ -9,7 +9,7 @@ use Rattle.fields.specs.Number.{valueOf}
 use Rattle.text.specs.declared.LineEnd.{LineEnd}
 use Rattle.text.specs.declared.Line.{Line}
 use Rattle.text.specs.Line.{Numbers, behind, over, Reads}
-use Rattle.text.specs.LineLaws.{over-more, over-length}
+use Rattle.text.specs.laws.LineLaws.{over-more, over-length}
 
 -- of the line l so many numbers are stored, and `rest` is left
 pub record Reading (l rest : Numbers) (before now : List ℕ) (count : ℕ) : Type 0 where

@@ -1,4 +1,2 @@
 pub mod Line
-pub mod LineLaws
-pub mod LinesLaws
-pub mod Only
+pub mod laws

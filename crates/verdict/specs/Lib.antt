@@ -1,8 +1,4 @@
 pub mod Verdict
-pub mod Steps
 pub mod Judged
-pub mod JudgedLaws
 pub mod Raising
-pub mod RaisingLaws
-pub mod PutLaws
-pub mod Only
+pub mod laws

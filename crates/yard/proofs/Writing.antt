@@ -10,17 +10,17 @@ use borrow.Author.Tests.{lt-ltb, le-ltb}
 use Rattle.sheet.specs.declared.Header.{Header}
 use Rattle.sheet.specs.declared.Record.{Record}
 use Rattle.sheet.specs.Refusals.{Answer, given, refused, Wrote as WroteBy}
-use Rattle.sheet.specs.RefusalLaws.{refused-number, refused-place, given-refused}
+use Rattle.sheet.specs.laws.RefusalLaws.{refused-number, refused-place, given-refused}
 use Rattle.sheet.specs.Writes.{Writes}
 use Rattle.sheet.specs.Exactly.{Cases, byFault, headerCases, recordCases}
-use Rattle.sheet.specs.Written.{written, writtenIf}
+use Rattle.sheet.specs.laws.Written.{written, writtenIf}
 use Rattle.sheet.specs.Header.{headerBytes, writeHeader}
 use Rattle.sheet.specs.Record.{recordBytes, writeRecord}
 use Rattle.numbers.specs.From.{namedSize, headerOfNumbers, headerNumbersFault, headerFrom, recordOfNumbers, recordNumbersFault, recordFrom}
-use Rattle.numbers.specs.Back.{header-taken, record-taken}
+use Rattle.numbers.specs.laws.Back.{header-taken, record-taken}
 use Rattle.yard.specs.Packed.{fine, Wrote}
 use Rattle.yard.specs.Writing.{writeHeaderNumbers, writeRecordNumbers}
-use Rattle.yard.specs.Back.{header-same, record-same}
+use Rattle.yard.specs.laws.Back.{header-same, record-same}
 
 -- by another writer that does the same
 wrote-by : {w v : WroteBy} {a : Answer (Unit {0})} {r : ℕ} {after : List ℕ} → w ≡ v → r ≡ fine a → Writes w a after → Wrote v r after

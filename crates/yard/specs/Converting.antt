@@ -7,6 +7,6 @@ use Rattle.csv.specs.Read.{lengthOf, outputBy}
 use Rattle.yard.specs.Editing.{resized}
 
 -- What is promised: the answer, the length of what was written where there is no refusal, and every byte of the output as it returns.
-pub record Converts (a : Answer (List ℕ)) (before : List ℕ) (r : ℕ) (after : List ℕ) : Type 0 where
+pub record ConvertsPacked (a : Answer (List ℕ)) (before : List ℕ) (r : ℕ) (after : List ℕ) : Type 0 where
   pub answer : r ≡ resized (lengthOf a)
   pub bytes : after ≡ outputBy a before

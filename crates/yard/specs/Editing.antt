@@ -11,6 +11,6 @@ abbrev pub resized : Answer ℕ → ℕ
 resized a = packedBy (λ n. n) a
 
 -- What an edit promises: the answer, and every byte of the buffer as it returns.
-pub record Edits (a : Answer After) (before : List ℕ) (r : ℕ) (after : List ℕ) : Type 0 where
+pub record EditsPacked (a : Answer After) (before : List ℕ) (r : ℕ) (after : List ℕ) : Type 0 where
   pub answer : r ≡ resized (sizeBy a)
   pub bytes : after ≡ bytesBy a before

@@ -3,9 +3,4 @@ pub mod Fields
 pub mod Writing
 pub mod Editing
 pub mod Converting
-pub mod PackedLaws
-pub mod Only
-pub mod Back
-pub mod Answers
-pub mod EditAnswers
-pub mod ConvertAnswers
+pub mod laws

@@ -5,7 +5,7 @@ use Rattle.sheet.specs.Refusals.{Wrote}
 use Rattle.sheet.specs.Header.{headerBytes}
 use Rattle.sheet.specs.Record.{recordBytes}
 use Rattle.sheet.specs.Exactly.{headerCases, recordCases}
-use Rattle.sheet.specs.Written.{written}
+use Rattle.sheet.specs.laws.Written.{written}
 use Rattle.numbers.specs.From.{namedSize, headerOfNumbers, headerNumbersFault, recordOfNumbers, recordNumbersFault}
 
 -- writing a header: 5 where there are fewer bytes than its version takes, or than 12 where there is no such version, then 2 and 3; a refusal leaves every byte,

@@ -19,8 +19,8 @@ ghost use Rattle.sheet.specs.Record.{readRecord};
 ghost use Rattle.yard.specs.Packed.{packed, fine, Checks, Reads, Wrote};
 ghost use Rattle.yard.specs.Writing.{writeHeaderNumbers, writeRecordNumbers};
 ghost use Rattle.yard.specs.Fields.{numbered};
-ghost use Rattle.yard.specs.Editing.{resized, Edits};
-ghost use Rattle.yard.specs.Converting.{Converts};
+ghost use Rattle.yard.specs.Editing.{resized, EditsPacked};
+ghost use Rattle.yard.specs.Converting.{ConvertsPacked};
 ghost use Rattle.edit.specs.Edit.{putNumbersIn, removeIn, toldEdited};
 ghost use Rattle.csv.specs.Read.{sheetFrom, toldConverted};
 ghost use Rattle.csv.specs.Write.{textFrom};
@@ -155,14 +155,14 @@ fn packed_edited(e: Edited) -> u64
 
 #[no_mangle]
 pub extern "C" fn yard_put(buf: &mut [u8], len: usize, fields: &[u32; 13]) -> u64
-    ensures { λ r. ⌜ Edits (putNumbersIn (now (buf .entry)) len (now (fields .entry))) (now (buf .entry)) r (now (buf .exit)) ⌝ }
+    ensures { λ r. ⌜ EditsPacked (putNumbersIn (now (buf .entry)) len (now (fields .entry))) (now (buf .entry)) r (now (buf .exit)) ⌝ }
 {
     packed_edited(edit::put_numbers(buf, len, *fields))
 }
 
 #[no_mangle]
 pub extern "C" fn yard_remove(buf: &mut [u8], len: usize, id: u32) -> u64
-    ensures { λ r. ⌜ Edits (removeIn (now (buf .entry)) len id) (now (buf .entry)) r (now (buf .exit)) ⌝ }
+    ensures { λ r. ⌜ EditsPacked (removeIn (now (buf .entry)) len id) (now (buf .entry)) r (now (buf .exit)) ⌝ }
 {
     packed_edited(edit::remove(buf, len, id))
 }
@@ -178,14 +178,14 @@ fn packed_converted(c: Converted) -> u64
 
 #[no_mangle]
 pub extern "C" fn yard_read_text(text: &[u8], out: &mut [u8]) -> u64
-    ensures { λ r. ⌜ Converts (sheetFrom (now (text .entry)) (length (now (out .entry)))) (now (out .entry)) r (now (out .exit)) ⌝ }
+    ensures { λ r. ⌜ ConvertsPacked (sheetFrom (now (text .entry)) (length (now (out .entry)))) (now (out .entry)) r (now (out .exit)) ⌝ }
 {
     packed_converted(csv::read_sheet(text, out))
 }
 
 #[no_mangle]
 pub extern "C" fn yard_write_text(sheet: &[u8], out: &mut [u8]) -> u64
-    ensures { λ r. ⌜ Converts (textFrom (now (sheet .entry)) (length (now (out .entry)))) (now (out .entry)) r (now (out .exit)) ⌝ }
+    ensures { λ r. ⌜ ConvertsPacked (textFrom (now (sheet .entry)) (length (now (out .entry)))) (now (out .entry)) r (now (out .exit)) ⌝ }
 {
     packed_converted(csv::write_text(sheet, out))
 }

@@ -6,8 +6,8 @@ use denote.Ref.{now}
 use lib.ListN.{length, take}
 use lib.Seq.{length-take-le}
 use Rattle.report.specs.Text.{textOf}
-use Rattle.report.specs.PageLaws.{page-same}
-use Rattle.report.specs.Longest.{text-cut}
+use Rattle.report.specs.laws.PageLaws.{page-same}
+use Rattle.report.specs.laws.Longest.{text-cut}
 use Rattle.barge.proofs.answer.Statement.{statement}
 use Rattle.barge.proofs.answer.Tie as tie
 

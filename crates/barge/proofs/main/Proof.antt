@@ -6,7 +6,7 @@ use mathlib.Core.Path.{sym}
 use native.Mathlib.Omega.{arith}
 use lib.ListN.{length, take, length-take}
 use lib.Seq.{length-take-le, take-all}
-use Rattle.report.specs.PageLaws.{page-within}
+use Rattle.report.specs.laws.PageLaws.{page-within}
 use Rattle.barge.proofs.main.Statement.{statement}
 use Rattle.barge.proofs.main.Tie as tie
 

@@ -7,14 +7,14 @@ use denote.Ref.{now}
 use lib.ListN.{length}
 use lib.Seq.{length-take-le}
 use Rattle.edit.specs.declared.Edited.{Edited}
-use Rattle.barge_edit.specs.Office.{Inside}
+use Rattle.barge_edit.specs.Office.{EditInside}
 use Rattle.barge_edit.proofs.finish.Statement.{statement}
 use Rattle.barge_edit.proofs.finish.Tie as tie
 
 within : (c : tie.After-e2) → c .e2 .given .0 .0 ≤ length (now (c .before .before .before .before .args .sheet))
 within c =
     let s = c .before .before .before .before in
-    subst (λ (x : Edited). Inside x (length (now (s .args .sheet)))) (c .e2 .given .1) (s .pre)
+    subst (λ (x : Edited). EditInside x (length (now (s .args .sheet)))) (c .e2 .given .1) (s .pre)
 
 pub finish-spec : {M : Type 1} → statement M
 finish-spec =

@@ -5,8 +5,8 @@ use Prim.Native.Nat.{ℕ}
 use mathlib.Core.Path.{sym, subst}
 use native.Mathlib.Omega.{arith}
 use Rattle.barge_edit.specs.declared.file.Read.{Read}
-use Rattle.barge_edit.specs.Office.{Loaded, Inside}
-use Rattle.barge_edit.specs.OfficeLaws.{put-inside}
+use Rattle.barge_edit.specs.Office.{Loaded, EditInside}
+use Rattle.barge_edit.specs.laws.OfficeLaws.{put-inside}
 use Rattle.barge_edit.proofs.put.Statement.{statement}
 use Rattle.barge_edit.proofs.put.Tie as tie
 
@@ -22,7 +22,7 @@ finish-requires : tie.Need-finish-requires
 finish-requires c κs =
     let p = c .before .before in
     let e = p .put-in .result in
-    subst (λ (n : ℕ). Inside e n) (sym (p .put-in .kept .0)) (put-inside _ _ _ e _ (p .put-in .ensures .edits))
+    subst (λ (n : ℕ). EditInside e n) (sym (p .put-in .kept .0)) (put-inside _ _ _ e _ (p .put-in .ensures .edits))
 
 pub put-spec : {M : Type 1} → statement M
 put-spec =

@@ -2,7 +2,7 @@
 -- Assumes nothing.
 use borrow.Author.Needs.{needs}
 use denote.Ref.{now}
-use Rattle.barge_edit.specs.OfficeLaws.{put-of-file}
+use Rattle.barge_edit.specs.laws.OfficeLaws.{put-of-file}
 use Rattle.barge_edit.proofs.put_in.Statement.{statement}
 use Rattle.barge_edit.proofs.put_in.Tie as tie
 

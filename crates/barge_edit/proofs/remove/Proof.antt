@@ -5,8 +5,8 @@ use Prim.Native.Nat.{ℕ}
 use mathlib.Core.Path.{sym, subst}
 use native.Mathlib.Omega.{arith}
 use Rattle.barge_edit.specs.declared.file.Read.{Read}
-use Rattle.barge_edit.specs.Office.{Loaded, Inside}
-use Rattle.barge_edit.specs.OfficeLaws.{remove-inside}
+use Rattle.barge_edit.specs.Office.{Loaded, EditInside}
+use Rattle.barge_edit.specs.laws.OfficeLaws.{remove-inside}
 use Rattle.barge_edit.proofs.remove.Statement.{statement}
 use Rattle.barge_edit.proofs.remove.Tie as tie
 
@@ -22,7 +22,7 @@ finish-requires : tie.Need-finish-requires
 finish-requires c κs =
     let p = c .before .before in
     let e = p .remove-in .result in
-    subst (λ (n : ℕ). Inside e n) (sym (p .remove-in .kept .0)) (remove-inside _ _ _ e _ (p .remove-in .ensures .edits))
+    subst (λ (n : ℕ). EditInside e n) (sym (p .remove-in .kept .0)) (remove-inside _ _ _ e _ (p .remove-in .ensures .edits))
 
 pub remove-spec : {M : Type 1} → statement M
 remove-spec =

@@ -2,7 +2,7 @@
 -- Assumes nothing.
 use borrow.Author.Needs.{needs}
 use denote.Ref.{now}
-use Rattle.barge_edit.specs.OfficeLaws.{remove-of-file}
+use Rattle.barge_edit.specs.laws.OfficeLaws.{remove-of-file}
 use Rattle.barge_edit.proofs.remove_in.Statement.{statement}
 use Rattle.barge_edit.proofs.remove_in.Tie as tie
 

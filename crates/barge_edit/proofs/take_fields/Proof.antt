@@ -2,7 +2,7 @@
 -- Assumes nothing.
 use borrow.Author.Needs.{needs}
 use native.Mathlib.Omega.{arith}
-use Rattle.barge_edit.specs.OfficeLaws.{fields-most}
+use Rattle.barge_edit.specs.laws.OfficeLaws.{fields-most}
 use Rattle.barge_edit.proofs.take_fields.Statement.{statement}
 use Rattle.barge_edit.proofs.take_fields.Tie as tie
 

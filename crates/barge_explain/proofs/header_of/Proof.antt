@@ -8,7 +8,7 @@ use lib.ListN.{length, take}
 use lib.Seq.{length-take-le}
 use Rattle.checker.specs.Unjudged.{soundHeader}
 use Rattle.barge_explain.specs.Explain.{Sized}
-use Rattle.barge_explain.specs.ExplainLaws.{header-cut, sized}
+use Rattle.barge_explain.specs.laws.ExplainLaws.{header-cut, sized}
 use Rattle.barge_explain.proofs.header_of.Statement.{statement}
 use Rattle.barge_explain.proofs.header_of.Tie as tie
 

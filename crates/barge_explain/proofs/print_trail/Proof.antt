@@ -5,7 +5,7 @@ use Prim.Native.Nat.{_≤_}
 use mathlib.Core.Path.{sym}
 use lib.ListN.{length}
 use lib.Seq.{length-take-le}
-use Rattle.barge_explain.specs.ExplainLaws.{trail-inside}
+use Rattle.barge_explain.specs.laws.ExplainLaws.{trail-inside}
 use Rattle.barge_explain.proofs.print_trail.Statement.{statement}
 use Rattle.barge_explain.proofs.print_trail.Tie as tie
 

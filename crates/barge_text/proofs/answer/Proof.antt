@@ -6,7 +6,7 @@ use denote.Ref.{now}
 use lib.ListN.{replicate}
 use Rattle.sheet.specs.Versions.{longestSheet}
 use Rattle.barge_text.specs.Convert.{lineIn}
-use Rattle.barge_text.specs.ConvertLaws.{made-inside, made-printed}
+use Rattle.barge_text.specs.laws.ConvertLaws.{made-inside, made-printed}
 use Rattle.barge_text.proofs.answer.Statement.{statement}
 use Rattle.barge_text.proofs.answer.Tie as tie
 

@@ -3,7 +3,7 @@
 use borrow.Author.Needs.{needs}
 use lib.ListN.{replicate}
 use Rattle.sheet.specs.Versions.{longestSheet}
-use Rattle.barge_text.specs.ConvertLaws.{made-inside}
+use Rattle.barge_text.specs.laws.ConvertLaws.{made-inside}
 use Rattle.barge_text.proofs.make_sheet.Statement.{statement}
 use Rattle.barge_text.proofs.make_sheet.Tie as tie
 

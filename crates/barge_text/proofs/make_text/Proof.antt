@@ -6,7 +6,7 @@ use native.Mathlib.Omega.{arith}
 use denote.Ref.{now}
 use lib.ListN.{length, take, length-take}
 use lib.Seq.{take-all}
-use Rattle.barge_text.specs.ConvertLaws.{made-inside}
+use Rattle.barge_text.specs.laws.ConvertLaws.{made-inside}
 use Rattle.barge_text.proofs.make_text.Statement.{statement}
 use Rattle.barge_text.proofs.make_text.Tie as tie
 

@@ -6,16 +6,16 @@ use mathlib.Core.Path.{sym, ap, subst, _∙_}
 use denote.Ref.{now}
 use lib.ListN.{length, take}
 use lib.Seq.{length-take-le}
-use Rattle.report.specs.PageLaws.{page-within, page-text}
+use Rattle.report.specs.laws.PageLaws.{page-within, page-text}
 use Rattle.csv.specs.declared.Converted.{Converted}
-use Rattle.barge_text.specs.Convert.{Inside, printedBy}
+use Rattle.barge_text.specs.Convert.{MadeInside, printedBy}
 use Rattle.barge_text.proofs.page_by.Statement.{statement}
 use Rattle.barge_text.proofs.page_by.Tie as tie
 
 within : (c : tie.After-c) → c .c .given .0 .0 ≤ length (now (c .before .before .before .args .sheet))
 within c =
     let s = c .before .before .before in
-    subst (λ (x : Converted). Inside x (length (now (s .args .sheet)))) (c .c .given .1) (s .pre)
+    subst (λ (x : Converted). MadeInside x (length (now (s .args .sheet)))) (c .c .given .1) (s .pre)
 
 returns : tie.Need-returns
 returns c =

@@ -8,9 +8,9 @@ use native.Mathlib.Omega.{arith}
 use lib.ListN.{length, take, drop, replicate}
 use lib.Seq.{take-at}
 use Rattle.sheet.specs.Refusals.{given}
-use Rattle.sheet.specs.RefusalLaws.{given-same, given-refused}
+use Rattle.sheet.specs.laws.RefusalLaws.{given-same, given-refused}
 use Rattle.report.specs.Page.{longest, toldLength}
-use Rattle.report.specs.PageLaws.{refusal-told}
+use Rattle.report.specs.laws.PageLaws.{refusal-told}
 use Rattle.report.specs.Pieces.{refusalText}
 use Rattle.barge_text.proofs.refusal_page.Statement.{statement}
 use Rattle.barge_text.proofs.refusal_page.Tie as tie

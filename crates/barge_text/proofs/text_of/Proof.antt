@@ -10,7 +10,7 @@ use lib.Seq.{length-take-le}
 use Rattle.sheet.specs.Refusals.{Answer}
 use Rattle.csv.specs.Read.{Converts}
 use Rattle.csv.specs.Write.{textFrom}
-use Rattle.barge_text.specs.ConvertLaws.{text-cut}
+use Rattle.barge_text.specs.laws.ConvertLaws.{text-cut}
 use Rattle.barge_text.proofs.text_of.Statement.{statement}
 use Rattle.barge_text.proofs.text_of.Tie as tie
 

@@ -8,10 +8,10 @@ use native.Mathlib.Omega.{arith}
 use denote.Ref.{now}
 use Rattle.sheet.specs.declared.Header.{Header}
 use Rattle.sheet.specs.Refusals.{given, toldHeader}
-use Rattle.sheet.specs.VersionLaws.{regular}
+use Rattle.sheet.specs.laws.VersionLaws.{regular}
 use Rattle.sheet.specs.Header.{headerSize, readHeader}
 use Rattle.sheet.specs.Slender.{tooSlender}
-use Rattle.checker.specs.FrontLaws.{header-refused, header-slender, header-length, header-room, header-good}
+use Rattle.checker.specs.laws.FrontLaws.{header-refused, header-slender, header-length, header-room, header-good}
 use Rattle.checker.proofs.header_for.Statement.{statement}
 use Rattle.checker.proofs.header_for.Tie as tie
 

@@ -9,10 +9,10 @@ use Prim.Native.Nat.{ℕ}
 use borrow.Rule.Slice.PartMut.{midOf}
 use denote.Ref.{now}
 use lib.ListN.{length, take, length-take}
-use Rattle.layout.specs.Tail.{mid-past}
+use Rattle.layout.specs.laws.Tail.{mid-past}
 use Rattle.sheet.specs.Header.{headerSize}
 use Rattle.checker.specs.Check.{recordsPart}
-use Rattle.checker.specs.FrontLaws.{header-fits}
+use Rattle.checker.specs.laws.FrontLaws.{header-fits}
 use Rattle.checker.specs.Passes.{Ready, toldPassed, passOver}
 use Rattle.checker.proofs.Whole.{ready, at-records, refused-checks, copied, done-checks}
 use Rattle.checker.proofs.judge_sheet.Statement.{statement}

@@ -8,11 +8,11 @@ use native.Mathlib.Omega.{arith}
 use lib.ListN.{length, length-drop}
 use borrow.Rule.Slice.PartMut.{midOf}
 use denote.Ref.{now}
-use Rattle.layout.specs.Tail.{mid-past}
+use Rattle.layout.specs.laws.Tail.{mid-past}
 use Rattle.sheet.specs.Refusals.{given, toldHeader, toldOutcome}
 use Rattle.sheet.specs.Header.{headerSize}
 use Rattle.checker.specs.Check.{headerFor, recordsPart}
-use Rattle.checker.specs.FrontLaws.{header-fits}
+use Rattle.checker.specs.laws.FrontLaws.{header-fits}
 use Rattle.checker.specs.Unjudged.{room, recordsSound}
 use Rattle.checker.proofs.Unjudged.{header-refused, records-refused, all-sound}
 use Rattle.checker.proofs.sound_header.Statement.{statement}

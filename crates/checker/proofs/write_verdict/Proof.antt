@@ -3,7 +3,7 @@
 use borrow.Author.Needs.{needs}
 use mathlib.Core.Path.{sym, _∙_}
 use denote.Ref.{now}
-use Rattle.checker.specs.EntryLaws.{entry-fit}
+use Rattle.checker.specs.laws.EntryLaws.{entry-fit}
 use Rattle.checker.proofs.Answers.{write-short, write-bad, write-good}
 use Rattle.checker.proofs.write_verdict.Statement.{statement}
 use Rattle.checker.proofs.write_verdict.Tie as tie

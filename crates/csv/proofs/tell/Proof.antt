@@ -5,7 +5,7 @@ use mathlib.Core.Path.{_∙_}
 use denote.Ref.{now}
 use lib.ListN.{length}
 use Rattle.sheet.specs.declared.Refusal.the-variants.{OutputShort}
-use Rattle.decimal.specs.PutLaws.{bytes-all}
+use Rattle.decimal.specs.laws.PutLaws.{bytes-all}
 use Rattle.csv.specs.Steps.{fitsIn}
 use Rattle.csv.proofs.Telling.{refuses, converts, fits-short, fits-long}
 use Rattle.csv.proofs.tell.Statement.{statement}

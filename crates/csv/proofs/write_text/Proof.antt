@@ -9,7 +9,7 @@ use lib.ListN.{length, take, length-drop}
 use lib.Seq.{length-take-le}
 use borrow.Rule.Slice.PartMut.{midOf}
 use denote.Ref.{now}
-use Rattle.layout.specs.Tail.{mid-past}
+use Rattle.layout.specs.laws.Tail.{mid-past}
 use Rattle.decimal.specs.Laid.{Laid}
 use Rattle.sheet.specs.declared.Header.{Header}
 use Rattle.sheet.specs.Refusals.{toldHeader}
@@ -17,7 +17,7 @@ use Rattle.sheet.specs.Header.{headerSize}
 use Rattle.checker.specs.Check.{recordsPart}
 use Rattle.csv.specs.Write.{textOf, textFrom}
 use Rattle.csv.specs.Steps.{fitsIn, recordsText}
-use Rattle.csv.specs.WriteLaws.{Written, header-written}
+use Rattle.csv.specs.laws.WriteLaws.{Written, header-written}
 use Rattle.csv.proofs.Laying.{rest-fits, text-inside, text-taken}
 use Rattle.csv.proofs.Telling.{refuses, converts-same, text-refused, text-given}
 use Rattle.csv.proofs.write_text.Statement.{statement}

@@ -4,7 +4,7 @@ use borrow.Author.Needs.{needs}
 use mathlib.Core.Path.{_≡_, sym, ap, _∙_}
 use denote.Ref.{now}
 use Rattle.sheet.specs.Refusals.{given, toldHeader, toldOutcome, recordRefused}
-use Rattle.sheet.specs.RefusalLaws.{by-none}
+use Rattle.sheet.specs.laws.RefusalLaws.{by-none}
 use Rattle.sheet.specs.Record.{recordFault}
 use Prim.Native.Nat.{_+_, _*_}
 use Rattle.edit.specs.Steps.{Known}

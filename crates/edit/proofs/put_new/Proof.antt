@@ -9,7 +9,7 @@ use lib.ListN.{length}
 use Rattle.sheet.specs.declared.Header.{Header}
 use Rattle.sheet.specs.Refusals.{given, toldOutcome, headerRefused}
 use Rattle.sheet.specs.Header.{headerSize, headerFault}
-use Rattle.sheet.specs.VersionLaws.{regular}
+use Rattle.sheet.specs.laws.VersionLaws.{regular}
 use Rattle.checker.specs.Check.{sheetSize}
 use Rattle.edit.specs.Edit.{highest, counting, inserting}
 use Rattle.edit.proofs.Answers.{no-room, room-for-one, at-highest, below-highest, size, its-header, place-most, put-full, put-inserted}

@@ -8,7 +8,7 @@ use native.Mathlib.Omega.{arith}
 use denote.Ref.{now}
 use lib.ListN.{length, length-drop}
 use borrow.Rule.Slice.PartMut.{midOf}
-use Rattle.layout.specs.Tail.{mid-past}
+use Rattle.layout.specs.laws.Tail.{mid-past}
 use Rattle.sheet.specs.Header.{headerSize}
 use Rattle.checker.specs.Check.{sheetSize, recordsPart}
 use Rattle.edit.specs.Edit.{replacing}

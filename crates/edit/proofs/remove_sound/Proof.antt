@@ -9,12 +9,12 @@ use native.Mathlib.Omega.{arith}
 use denote.Ref.{now}
 use lib.ListN.{length, length-drop}
 use borrow.Rule.Slice.PartMut.{midOf}
-use Rattle.layout.specs.Tail.{mid-past}
+use Rattle.layout.specs.laws.Tail.{mid-past}
 use Rattle.sheet.specs.declared.Header.{Header}
 use Rattle.sheet.specs.Header.{headerSize, headerFault}
 use Rattle.checker.specs.Check.{sheetSize, recordsPart}
 use Rattle.edit.specs.Edit.{highest, removing}
-use Rattle.edit.specs.HeaderCount.{counting-sound}
+use Rattle.edit.specs.laws.HeaderCount.{counting-sound}
 use Rattle.edit.specs.Steps.{placeIn, hasIn}
 use Rattle.edit.proofs.Answers.{size, its-header, place-within, remove-none, remove-done}
 use Rattle.edit.proofs.remove_sound.Statement.{statement}

@@ -4,12 +4,12 @@ use borrow.Author.Needs.{needs}
 use mathlib.Core.Path.{_≡_, sym, ap, _∙_}
 use Rattle.loads.specs.Sources.{Named, toldLoad}
 use Rattle.sheet.specs.Record.{ofMember}
-use Rattle.sheet.specs.HeaderLaws.{header-ranges}
-use Rattle.sheet.specs.RecordLaws.{member-ranges}
+use Rattle.sheet.specs.laws.HeaderLaws.{header-ranges}
+use Rattle.sheet.specs.laws.RecordLaws.{member-ranges}
 use Rattle.verdict.specs.Judged.{Sound}
-use Rattle.verdict.specs.JudgedLaws.{admitted-sound, turned-away, found-given}
+use Rattle.verdict.specs.laws.JudgedLaws.{admitted-sound, turned-away, found-given}
 use Rattle.framing.specs.Rules.{memberPressure, memberNamed, memberVerdict, memberFinding}
-use Rattle.framing.specs.Laws.{member-pressure}
+use Rattle.framing.specs.laws.Laws.{member-pressure}
 use Rattle.framing.proofs.judge.Statement.{statement}
 use Rattle.framing.proofs.judge.Tie as tie
 

@@ -6,14 +6,14 @@ use mathlib.Core.Path.{_≡_, sym, ap, _∙_}
 use borrow.Author.Needs.{needs}
 use Rattle.quantity.specs.Range.{thickness, modulus, shearArea, lineLoad}
 use Rattle.gauge.specs.Shape.{Says}
-use Rattle.gauge.specs.ShapeLaws.{said}
+use Rattle.gauge.specs.laws.ShapeLaws.{said}
 use Rattle.loads.specs.Loads.{lineLoad as lineLoadOf}
 use Rattle.verdict.specs.Verdict.{Rule, verdictOf, failedOf}
 use Rattle.framing.specs.Rules.{memberLine, webRule, bendingRule, shearRule}
-use Rattle.framing.specs.BoundLaws.{member-line-high}
+use Rattle.framing.specs.laws.BoundLaws.{member-line-high}
 use Rattle.framing.specs.Shapes.{shape5, shape6}
-use Rattle.framing.specs.ShapeLaws.{says4, says5, says6}
-use Rattle.verdict.specs.Steps.{Step, step}
+use Rattle.framing.specs.laws.ShapeLaws.{says4, says5, says6}
+use Rattle.verdict.specs.laws.Steps.{Step, step}
 use Rattle.framing.proofs.member_verdict.Statement.{statement}
 use Rattle.framing.proofs.member_verdict.Tie as tie
 

@@ -9,8 +9,8 @@ use Rattle.loads.specs.Loads.{lineLoad as lineLoadOf}
 use Rattle.loads.specs.Sources.{Named}
 use Rattle.verdict.specs.declared.Verdict.{Verdict}
 use Rattle.framing.specs.Rules.{memberLine, memberPressure}
-use Rattle.framing.specs.Laws.{member-pressure}
-use Rattle.framing.specs.BoundLaws.{member-line-high}
+use Rattle.framing.specs.laws.Laws.{member-pressure}
+use Rattle.framing.specs.laws.BoundLaws.{member-line-high}
 use Rattle.framing.specs.Shapes.{shape5, shape6}
 use Rattle.framing.specs.Work.{Work}
 use Rattle.framing.proofs.member_work.Statement.{statement}

@@ -2,7 +2,7 @@
 -- Assumes nothing.
 use borrow.Author.Needs.{needs}
 use Rattle.sheet.specs.Header.{rawFault}
-use Rattle.sheet.specs.HeaderLaws.{flag-within}
+use Rattle.sheet.specs.laws.HeaderLaws.{flag-within}
 use Rattle.header.proofs.fault.Statement.{statement}
 use Rattle.header.proofs.fault.Tie as tie
 

@@ -3,7 +3,7 @@
 use borrow.Author.Needs.{needs}
 use mathlib.Core.Path.{sym, _∙_}
 use Rattle.sheet.specs.Versions.{versionOf}
-use Rattle.sheet.specs.VersionLaws.{needs-own, needs-first}
+use Rattle.sheet.specs.laws.VersionLaws.{needs-own, needs-first}
 use Rattle.header.proofs.needs.Statement.{statement}
 use Rattle.header.proofs.needs.Tie as tie
 

@@ -9,7 +9,7 @@ use lib.ListN.{getD, drop}
 use denote.Ref.{now}
 use Rattle.layout.specs.Layout.{unpack}
 use Rattle.layout.specs.Bytes.{readOf}
-use Rattle.layout.specs.Tail.{mid-tail}
+use Rattle.layout.specs.laws.Tail.{mid-tail}
 use Rattle.sheet.specs.Lines.{firstWidths}
 use Rattle.header.proofs.Fields.{first-fields}
 use Rattle.header.proofs.Answers.{read-few, read-under, read-good, read-bad}

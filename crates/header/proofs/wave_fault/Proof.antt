@@ -1,7 +1,7 @@
 -- `header::wave_fault` meets its contract.
 -- Assumes nothing.
 use borrow.Author.Tests.{eq-eqb, ne-eqb}
-use Rattle.quantity.specs.Laws.{one-value}
+use Rattle.quantity.specs.laws.Laws.{one-value}
 use Rattle.header.proofs.wave_fault.Statement.{statement}
 use Rattle.header.proofs.wave_fault.Tie as tie
 

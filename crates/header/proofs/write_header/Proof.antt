@@ -6,10 +6,10 @@ use Prim.Native.Nat.{_≤_}
 use mathlib.Core.Path.{_≡_, sym, ap, _∙_}
 use lib.ListN.{length, length-drop}
 use denote.Ref.{now}
-use Rattle.layout.specs.Tail.{mid-tail}
+use Rattle.layout.specs.laws.Tail.{mid-tail}
 use Rattle.sheet.specs.Header.{headerSize, headerFault}
-use Rattle.sheet.specs.VersionLaws.{regular}
-use Rattle.sheet.specs.HeaderLaws.{header-fit}
+use Rattle.sheet.specs.laws.VersionLaws.{regular}
+use Rattle.sheet.specs.laws.HeaderLaws.{header-fit}
 use Rattle.header.proofs.Answers.{write-under, write-bad, room, write-good, both-parts}
 use Rattle.header.proofs.write_header.Statement.{statement}
 use Rattle.header.proofs.write_header.Tie as tie

@@ -5,7 +5,7 @@ use native.Mathlib.Omega.{arith}
 use mathlib.Core.Path.{ap}
 use denote.Ref.{now}
 use Rattle.layout.specs.Layout.{pack, bytes}
-use Rattle.layout.specs.Laws.{take-firsts}
+use Rattle.layout.specs.laws.Laws.{take-firsts}
 use Rattle.layout.proofs.half.Statement.{statement}
 use Rattle.layout.proofs.half.Tie as tie
 

@@ -7,7 +7,7 @@ use mathlib.Core.List.{List, reverse}
 use Prim.Native.Nat.{ℕ}
 use denote.Ref.{now}
 use Rattle.layout.specs.Layout.{pack, bytes, Fit}
-use Rattle.layout.specs.Laws.{take-firsts}
+use Rattle.layout.specs.laws.Laws.{take-firsts}
 use Rattle.layout.proofs.little.Statement.{statement}
 use Rattle.layout.proofs.little.Tie as tie
 

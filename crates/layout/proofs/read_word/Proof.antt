@@ -3,7 +3,7 @@
 use borrow.Author.Needs.{needs}
 use mathlib.Core.Path.{sym, _∙_}
 use denote.Ref.{now}
-use Rattle.layout.specs.BytesLaws.{read-few, read-all}
+use Rattle.layout.specs.laws.BytesLaws.{read-few, read-all}
 use Rattle.layout.proofs.read_word.Statement.{statement}
 use Rattle.layout.proofs.read_word.Tie as tie
 

@@ -7,7 +7,7 @@ use Prim.Native.Nat.{ℕ}
 use lib.ListN.{take}
 use denote.Ref.{now}
 use Rattle.layout.specs.Layout.{pack, unpack, bytes}
-use Rattle.layout.specs.Laws.{unpack-pack}
+use Rattle.layout.specs.laws.Laws.{unpack-pack}
 use Rattle.layout.proofs.word.Statement.{statement}
 use Rattle.layout.proofs.word.Tie as tie
 

@@ -2,7 +2,7 @@
 -- Assumes nothing.
 use borrow.Author.Needs.{needs}
 use mathlib.Core.Path.{sym, _∙_}
-use Rattle.layout.specs.BytesLaws.{write-few, write-all}
+use Rattle.layout.specs.laws.BytesLaws.{write-few, write-all}
 use Rattle.layout.proofs.write_half.Statement.{statement}
 use Rattle.layout.proofs.write_half.Tie as tie
 

@@ -4,9 +4,9 @@ use Prim.Native.Nat.{_≤_}
 use borrow.Author.Needs.{needs}
 use native.Mathlib.Omega.{arith}
 use lib.Dec.{lit<}
-use Rattle.gauge.specs.CeilLaws.{ceil-most}
+use Rattle.gauge.specs.laws.CeilLaws.{ceil-most}
 use Rattle.loads.specs.Loads.{water, twoRunWater, deepPressure}
-use Rattle.loads.specs.Bounds.{either}
+use Rattle.loads.specs.laws.Bounds.{either}
 use Rattle.loads.proofs.deep.Statement.{statement}
 use Rattle.loads.proofs.deep.Tie as tie
 

@@ -7,7 +7,7 @@ use native.Mathlib.Omega.{arith}
 use native.Mathlib.Nat.{max-le}
 use lib.Dec.{eqb}
 use Rattle.loads.specs.Loads.{wind, crest, sea}
-use Rattle.loads.specs.Bounds.{either}
+use Rattle.loads.specs.laws.Bounds.{either}
 use Rattle.loads.proofs.sea.Statement.{statement}
 use Rattle.loads.proofs.sea.Tie as tie
 

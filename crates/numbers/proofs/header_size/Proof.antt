@@ -7,7 +7,7 @@ use lib.ListN.{getD}
 use Rattle.quantity.specs.Range.{span}
 use Rattle.sheet.specs.declared.Own.{Own}
 use Rattle.sheet.specs.Versions.{Version, versionOf}
-use Rattle.sheet.specs.HeaderLaws.{version-at}
+use Rattle.sheet.specs.laws.HeaderLaws.{version-at}
 use Rattle.numbers.specs.Held.{heldIn}
 use Rattle.numbers.proofs.header_size.Statement.{statement}
 use Rattle.numbers.proofs.header_size.Tie as tie

@@ -7,7 +7,7 @@ use native.Mathlib.Omega.{arith}
 use lib.Dec.{ltb}
 use Rattle.sheet.specs.Kinds.{isLong}
 use Rattle.plating.specs.Work.{toldWork}
-use Rattle.wording.specs.WritesLaws.{within, and-then}
+use Rattle.wording.specs.laws.WritesLaws.{within, and-then}
 use Rattle.pencil.specs.Plates.{stressOf, firstFormOf, secondFormOf}
 use Rattle.pencil.specs.Trail.{isNever, rightOf, bendingPart}
 use Rattle.pencil.proofs.put_bending.Statement.{statement}

@@ -2,7 +2,7 @@
 -- Assumes nothing.
 use borrow.Author.Needs.{needs}
 use native.Mathlib.Omega.{arith}
-use Rattle.wording.specs.WritesLaws.{within, and-then}
+use Rattle.wording.specs.laws.WritesLaws.{within, and-then}
 use Rattle.pencil.specs.Trail.{memberTrail}
 use Rattle.pencil.proofs.put_member.Statement.{statement}
 use Rattle.pencil.proofs.put_member.Tie as tie

@@ -4,7 +4,7 @@ use borrow.Author.Needs.{needs}
 use native.Mathlib.Omega.{arith}
 use Rattle.quantity.specs.Range.{modulus}
 use Rattle.framing.specs.Work.{toldWork}
-use Rattle.wording.specs.WritesLaws.{within, and-then}
+use Rattle.wording.specs.laws.WritesLaws.{within, and-then}
 use Rattle.pencil.specs.Members.{rule5Of, rule6Of}
 use Rattle.pencil.specs.Trail.{isNever, rightOf, stepsOf, memberLast}
 use Rattle.pencil.proofs.put_member_last.Statement.{statement}

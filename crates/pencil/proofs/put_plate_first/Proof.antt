@@ -6,7 +6,7 @@ use native.Mathlib.Omega.{arith}
 use Rattle.quantity.specs.Range.{thickness}
 use Rattle.sheet.specs.Kinds.{isLong}
 use Rattle.plating.specs.Work.{toldWork}
-use Rattle.wording.specs.WritesLaws.{within, and-then}
+use Rattle.wording.specs.laws.WritesLaws.{within, and-then}
 use Rattle.pencil.specs.Plates.{rule1Of, rule2Of}
 use Rattle.pencil.specs.Trail.{rightOf, stepsOf, plateFirst}
 use Rattle.pencil.proofs.put_plate_first.Statement.{statement}

@@ -2,7 +2,7 @@
 -- Assumes nothing.
 use borrow.Author.Needs.{needs}
 use native.Mathlib.Omega.{arith}
-use Rattle.wording.specs.WritesLaws.{within}
+use Rattle.wording.specs.laws.WritesLaws.{within}
 use Rattle.pencil.proofs.put_refusal.Statement.{statement}
 use Rattle.pencil.proofs.put_refusal.Tie as tie
 

@@ -2,7 +2,7 @@
 -- Assumes nothing.
 use borrow.Author.Needs.{needs}
 use native.Mathlib.Omega.{arith}
-use Rattle.wording.specs.WritesLaws.{within, none}
+use Rattle.wording.specs.laws.WritesLaws.{within, none}
 use Rattle.pencil.proofs.put_root.Statement.{statement}
 use Rattle.pencil.proofs.put_root.Tie as tie
 

@@ -5,7 +5,7 @@ use mathlib.Core.Path.{_≡_, ap, _∙_}
 use native.Mathlib.Omega.{arith}
 use Rattle.gauge.specs.Least.{numberOf}
 use Rattle.gauge.specs.Shape.{leastOf}
-use Rattle.wording.specs.WritesLaws.{within, and-then}
+use Rattle.wording.specs.laws.WritesLaws.{within, and-then}
 use Rattle.pencil.specs.Trail.{stepsOf}
 use Rattle.pencil.proofs.put_steps.Statement.{statement}
 use Rattle.pencil.proofs.put_steps.Tie as tie

@@ -1,7 +1,7 @@
 -- `pencil::trail_of` meets its contract.
 -- Assumes nothing.
 use borrow.Author.Needs.{needs}
-use Rattle.pencil.specs.TrailLaws.{on-blank}
+use Rattle.pencil.specs.laws.TrailLaws.{on-blank}
 use Rattle.pencil.proofs.trail_of.Statement.{statement}
 use Rattle.pencil.proofs.trail_of.Tie as tie
 

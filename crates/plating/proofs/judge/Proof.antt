@@ -4,12 +4,12 @@ use borrow.Author.Needs.{needs}
 use mathlib.Core.Path.{_≡_, sym, ap, _∙_}
 use Rattle.loads.specs.Sources.{Named, toldLoad}
 use Rattle.sheet.specs.Record.{ofPlate}
-use Rattle.sheet.specs.HeaderLaws.{header-ranges}
-use Rattle.sheet.specs.RecordLaws.{plate-ranges}
+use Rattle.sheet.specs.laws.HeaderLaws.{header-ranges}
+use Rattle.sheet.specs.laws.RecordLaws.{plate-ranges}
 use Rattle.verdict.specs.Judged.{Sound}
-use Rattle.verdict.specs.JudgedLaws.{admitted-sound, turned-away, found-given}
+use Rattle.verdict.specs.laws.JudgedLaws.{admitted-sound, turned-away, found-given}
 use Rattle.plating.specs.Rules.{platePressure, plateNamed, plateVerdict, plateFinding}
-use Rattle.plating.specs.Laws.{plate-pressure}
+use Rattle.plating.specs.laws.Laws.{plate-pressure}
 use Rattle.plating.proofs.judge.Statement.{statement}
 use Rattle.plating.proofs.judge.Tie as tie
 

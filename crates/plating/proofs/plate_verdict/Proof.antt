@@ -7,13 +7,13 @@ use borrow.Author.Needs.{needs}
 use Rattle.quantity.specs.Range.{thickness}
 use Rattle.gauge.specs.declared.Shape.{Shape}
 use Rattle.gauge.specs.Shape.{meetsOf}
-use Rattle.gauge.specs.ShapeLaws.{said}
+use Rattle.gauge.specs.laws.ShapeLaws.{said}
 use Rattle.verdict.specs.Verdict.{Rule, verdictOf, failedOf}
-use Rattle.verdict.specs.Steps.{Step, step}
+use Rattle.verdict.specs.laws.Steps.{Step, step}
 use Rattle.plating.specs.Rules.{R, plateModulus, K2, platePressure, asked1, asked2, asked3}
-use Rattle.plating.specs.Laws.{R-high}
+use Rattle.plating.specs.laws.Laws.{R-high}
 use Rattle.plating.specs.Shapes.{shape2, shape3}
-use Rattle.plating.specs.ShapeLaws.{says1, says2, says3}
+use Rattle.plating.specs.laws.ShapeLaws.{says1, says2, says3}
 use Rattle.plating.proofs.Ranges.{load-high, modulus-some, panel}
 use Rattle.plating.proofs.plate_verdict.Statement.{statement}
 use Rattle.plating.proofs.plate_verdict.Tie as tie

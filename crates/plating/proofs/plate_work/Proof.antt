@@ -9,7 +9,7 @@ use Rattle.loads.specs.Sources.{Named}
 use Rattle.verdict.specs.declared.Verdict.{Verdict}
 use Rattle.plating.specs.Rules.{R, plateModulus, K2, isSecond, platePressure}
 use Rattle.plating.specs.Bounds.{greatestR}
-use Rattle.plating.specs.Laws.{R-high, plate-pressure}
+use Rattle.plating.specs.laws.Laws.{R-high, plate-pressure}
 use Rattle.plating.specs.Shapes.{shape2, shape3}
 use Rattle.plating.specs.Work.{Work, panelK2}
 use Rattle.plating.proofs.Ranges.{load-high, modulus-some, panel}

@@ -6,7 +6,7 @@ use borrow.Author.Needs.{needs}
 use native.Mathlib.Omega.{arith}
 use native.Mathlib.Nat.{mul-le-mul}
 use lib.Dec.{eqb}
-use Rattle.loads.specs.Bounds.{either}
+use Rattle.loads.specs.laws.Bounds.{either}
 use Rattle.plating.specs.Rules.{allowance}
 use Rattle.plating.specs.Shapes.{shape1}
 use Rattle.plating.proofs.rule1.Statement.{statement}

@@ -4,10 +4,10 @@ use borrow.Author.Needs.{needs}
 use mathlib.Core.Path.{_≡_, sym, ap, _∙_}
 use Rattle.sheet.specs.Refusals.{given}
 use Rattle.sheet.specs.Record.{ofPlate}
-use Rattle.sheet.specs.HeaderLaws.{header-ranges}
-use Rattle.sheet.specs.RecordLaws.{plate-ranges}
+use Rattle.sheet.specs.laws.HeaderLaws.{header-ranges}
+use Rattle.sheet.specs.laws.RecordLaws.{plate-ranges}
 use Rattle.verdict.specs.Judged.{Sound}
-use Rattle.verdict.specs.JudgedLaws.{admitted-sound, turned-away, sound-given}
+use Rattle.verdict.specs.laws.JudgedLaws.{admitted-sound, turned-away, sound-given}
 use Rattle.plating.specs.Work.{toldWork, workOf}
 use Rattle.plating.proofs.worked.Statement.{statement}
 use Rattle.plating.proofs.worked.Tie as tie

@@ -3,7 +3,7 @@
 use borrow.Author.Needs.{needs}
 use mathlib.Core.Path.{sym, _∙_}
 use denote.Ref.{now}
-use Rattle.sheet.specs.RecordLaws.{record-fit}
+use Rattle.sheet.specs.laws.RecordLaws.{record-fit}
 use Rattle.record.proofs.Answers.{write-short, write-bad, write-good}
 use Rattle.record.proofs.write_record.Statement.{statement}
 use Rattle.record.proofs.write_record.Tie as tie

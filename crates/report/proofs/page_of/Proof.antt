@@ -2,8 +2,8 @@
 -- Assumes nothing.
 use borrow.Author.Needs.{needs}
 use native.Mathlib.Omega.{arith}
-use Rattle.report.specs.PageLaws.{page-laid}
-use Rattle.report.specs.PiecesLaws.{checked-counted, text-checked}
+use Rattle.report.specs.laws.PageLaws.{page-laid}
+use Rattle.report.specs.laws.PiecesLaws.{checked-counted, text-checked}
 use Rattle.report.proofs.page_of.Statement.{statement}
 use Rattle.report.proofs.page_of.Tie as tie
 

@@ -10,11 +10,11 @@ use lib.ListN.{length, length-append}
 use Rattle.sheet.specs.Versions.{mostRecords}
 use Rattle.checker.specs.declared.Checked.{Checked}
 use Rattle.decimal.specs.Laid.{Laid}
-use Rattle.decimal.specs.LaidLaws.{second-fits, laid-both}
+use Rattle.decimal.specs.laws.LaidLaws.{second-fits, laid-both}
 use Rattle.report.specs.Text.{line}
-use Rattle.report.specs.TextLaws.{pair-most}
+use Rattle.report.specs.laws.TextLaws.{pair-most}
 use Rattle.report.specs.Pieces.{verdictsText, checkedText, Counted}
-use Rattle.report.specs.PiecesLaws.{verdicts-most}
+use Rattle.report.specs.laws.PiecesLaws.{verdicts-most}
 use Rattle.report.proofs.put_checked.Statement.{statement}
 use Rattle.report.proofs.put_checked.Tie as tie
 

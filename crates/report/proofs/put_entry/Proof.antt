@@ -9,8 +9,8 @@ use Rattle.checker.specs.declared.Entry.{Entry}
 use Rattle.checker.specs.Entry.{entryValues}
 use Rattle.decimal.specs.Decimal.{decimalOf}
 use Rattle.decimal.specs.Line.{lineOf}
-use Rattle.decimal.specs.LineLaws.{line-one, line-more}
-use Rattle.decimal.specs.LaidLaws.{first-fits, second-fits, laid-both}
+use Rattle.decimal.specs.laws.LineLaws.{line-one, line-more}
+use Rattle.decimal.specs.laws.LaidLaws.{first-fits, second-fits, laid-both}
 use Rattle.report.specs.Text.{line}
 use Rattle.report.proofs.put_entry.Statement.{statement}
 use Rattle.report.proofs.put_entry.Tie as tie

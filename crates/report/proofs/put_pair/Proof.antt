@@ -7,8 +7,8 @@ use Prim.Native.Nat.{ℕ}
 use denote.Ref.{now}
 use Rattle.decimal.specs.Decimal.{decimalOf}
 use Rattle.decimal.specs.Line.{lineOf}
-use Rattle.decimal.specs.LineLaws.{line-one, line-more}
-use Rattle.decimal.specs.LaidLaws.{first-fits, second-fits, laid-both}
+use Rattle.decimal.specs.laws.LineLaws.{line-one, line-more}
+use Rattle.decimal.specs.laws.LaidLaws.{first-fits, second-fits, laid-both}
 use Rattle.report.proofs.put_pair.Statement.{statement}
 use Rattle.report.proofs.put_pair.Tie as tie
 

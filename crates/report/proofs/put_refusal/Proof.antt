@@ -8,11 +8,11 @@ use native.Mathlib.Omega.{arith}
 use denote.Ref.{now}
 use lib.ListN.{length}
 use Rattle.decimal.specs.Laid.{Laid}
-use Rattle.decimal.specs.LaidLaws.{put-front, second-fits, laid-both}
+use Rattle.decimal.specs.laws.LaidLaws.{put-front, second-fits, laid-both}
 use Rattle.report.specs.Text.{line, refusedWord}
-use Rattle.report.specs.TextLaws.{pair-most}
+use Rattle.report.specs.laws.TextLaws.{pair-most}
 use Rattle.report.specs.Pieces.{refusalText}
-use Rattle.report.specs.PiecesLaws.{number-small}
+use Rattle.report.specs.laws.PiecesLaws.{number-small}
 use Rattle.report.proofs.put_refusal.Statement.{statement}
 use Rattle.report.proofs.put_refusal.Tie as tie
 

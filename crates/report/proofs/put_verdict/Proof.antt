@@ -10,8 +10,8 @@ use lib.ListN.{length}
 use Rattle.sheet.specs.Refusals.{given}
 use Rattle.checker.specs.Entry.{toldEntry, readEntry}
 use Rattle.decimal.specs.Laid.{Laid}
-use Rattle.decimal.specs.LaidLaws.{laid-none}
-use Rattle.report.specs.PiecesLaws.{verdict-line, verdict-none, verdict-most}
+use Rattle.decimal.specs.laws.LaidLaws.{laid-none}
+use Rattle.report.specs.laws.PiecesLaws.{verdict-line, verdict-none, verdict-most}
 use Rattle.report.proofs.put_verdict.Statement.{statement}
 use Rattle.report.proofs.put_verdict.Tie as tie
 

@@ -3,7 +3,7 @@
 use borrow.Author.Needs.{needs}
 use mathlib.Core.Path.{refl}
 use denote.Ref.{now}
-use Rattle.report.specs.PageLaws.{tells-none, tells-all}
+use Rattle.report.specs.laws.PageLaws.{tells-none, tells-all}
 use Rattle.report.proofs.tell.Statement.{statement}
 use Rattle.report.proofs.tell.Tie as tie
 

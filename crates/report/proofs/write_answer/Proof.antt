@@ -7,7 +7,7 @@ use Prim.Native.Nat.{ℕ}
 use denote.Ref.{now}
 use lib.Seq.{length-take-le}
 use Rattle.report.specs.Page.{Tells}
-use Rattle.report.specs.PageLaws.{page-within, page-text}
+use Rattle.report.specs.laws.PageLaws.{page-within, page-text}
 use Rattle.report.proofs.write_answer.Statement.{statement}
 use Rattle.report.proofs.write_answer.Tie as tie
 

@@ -8,7 +8,7 @@ use native.Mathlib.Omega.{arith}
 use denote.Ref.{now}
 use lib.ListN.{length, replicate}
 use lib.Seq.{length-take-le}
-use Rattle.decimal.specs.LaidLaws.{laid-inside, laid-taken}
+use Rattle.decimal.specs.laws.LaidLaws.{laid-inside, laid-taken}
 use Rattle.report.specs.Page.{Tells}
 use Rattle.report.specs.Pieces.{refusalText}
 use Rattle.report.proofs.write_refusal.Statement.{statement}

@@ -11,7 +11,7 @@ use Rattle.text.specs.declared.LineEnd.{LineEnd}
 use Rattle.text.specs.declared.Line.{Line}
 use Rattle.text.specs.Line.{Numbers, Reads}
 use Rattle.rows.specs.Rows.{zeros, headerLine, rowBy, headerRow, shown}
-use Rattle.rows.specs.RowLaws.{header-held}
+use Rattle.rows.specs.laws.RowLaws.{header-held}
 use Rattle.rows.proofs.header_at.Statement.{statement}
 use Rattle.rows.proofs.header_at.Tie as tie
 

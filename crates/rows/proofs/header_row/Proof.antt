@@ -10,7 +10,7 @@ use Rattle.sheet.specs.Header.{ownBytes}
 use Rattle.rows.specs.declared.form.Form.{Form}
 use Rattle.rows.specs.declared.RowEnd.{RowEnd}
 use Rattle.rows.specs.Rows.{firstOf, headerLine, toldEnd, shown}
-use Rattle.rows.specs.RowLaws.{FormIs, first-form, own-form, own-small, row-fault, header-miscounted, header-wide, header-fine}
+use Rattle.rows.specs.laws.RowLaws.{FormIs, first-form, own-form, own-small, row-fault, header-miscounted, header-wide, header-fine}
 use Rattle.rows.proofs.header_row.Statement.{statement}
 use Rattle.rows.proofs.header_row.Tie as tie
 

@@ -11,7 +11,7 @@ use Rattle.text.specs.declared.LineEnd.{LineEnd}
 use Rattle.text.specs.declared.Line.{Line}
 use Rattle.text.specs.Line.{Numbers, Reads}
 use Rattle.rows.specs.Rows.{zeros, recordLine, rowBy, recordRow, shown}
-use Rattle.rows.specs.RowLaws.{record-held}
+use Rattle.rows.specs.laws.RowLaws.{record-held}
 use Rattle.rows.proofs.record_at.Statement.{statement}
 use Rattle.rows.proofs.record_at.Tie as tie
 

@@ -7,7 +7,7 @@ use Rattle.rows.specs.declared.form.Form.{Form}
 use Rattle.rows.specs.declared.RowEnd.{RowEnd}
 use Rattle.rows.specs.Forms.{recordWidths}
 use Rattle.rows.specs.Rows.{firstOf, recordLine, Shown, toldEnd, shown}
-use Rattle.rows.specs.RowLaws.{FormIs, record-form, row-fault, record-miscounted, record-wide, record-fine}
+use Rattle.rows.specs.laws.RowLaws.{FormIs, record-form, row-fault, record-miscounted, record-wide, record-fine}
 use Rattle.rows.proofs.record_row.Statement.{statement}
 use Rattle.rows.proofs.record_row.Tie as tie
 

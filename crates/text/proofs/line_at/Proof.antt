@@ -8,7 +8,7 @@ use denote.Ref.{now}
 use lib.ListN.{length}
 use Rattle.fields.specs.Number.{valueOf}
 use Rattle.text.specs.Line.{lineAt}
-use Rattle.text.specs.LineLaws.{Goes, goes, at-line, at-end, at-fault}
+use Rattle.text.specs.laws.LineLaws.{Goes, goes, at-line, at-end, at-fault}
 use Rattle.text.proofs.Reading.{Reading, begin, kept, kept-stored, go-on, ends, stops}
 use Rattle.text.proofs.line_at.Statement.{statement}
 use Rattle.text.proofs.line_at.Tie as tie

@@ -5,7 +5,7 @@ use mathlib.Core.Path.{_≡_, refl, sym, ap, _∙_}
 use Prim.Native.Nat.{ℕ, _+_, _-_}
 use denote.Ref.{now}
 use Rattle.text.specs.Line.{startFrom, lineStart}
-use Rattle.text.specs.LineLaws.{start-stays, start-next, start-none}
+use Rattle.text.specs.laws.LineLaws.{start-stays, start-next, start-none}
 use Rattle.text.proofs.line_start.Statement.{statement}
 use Rattle.text.proofs.line_start.Tie as tie
 

@@ -4,7 +4,7 @@ use borrow.Author.Needs.{needs}
 use mathlib.Core.Path.{_≡_, sym, ap, _∙_}
 use Rattle.sheet.specs.Refusals.{toldOutcome, recordRefused, given}
 use Rattle.sheet.specs.Record.{ofPlate, recordFault}
-use Rattle.verdict.specs.JudgedLaws.{header-first, then-record}
+use Rattle.verdict.specs.laws.JudgedLaws.{header-first, then-record}
 use Rattle.verdict.proofs.admitted_plate.Statement.{statement}
 use Rattle.verdict.proofs.admitted_plate.Tie as tie
 

@@ -6,7 +6,7 @@ use native.Mathlib.Omega.{arith}
 use denote.Ref.{now}
 use lib.ListN.{length, getD}
 use Rattle.wording.specs.Words.{isMark}
-use Rattle.wording.specs.PiecesLaws.{Filling, begin, turn, done, at-most-one}
+use Rattle.wording.specs.laws.PiecesLaws.{Filling, begin, turn, done, at-most-one}
 use Rattle.wording.proofs.fill.Statement.{statement}
 use Rattle.wording.proofs.fill.Tie as tie
 

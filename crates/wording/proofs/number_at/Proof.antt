@@ -2,7 +2,7 @@
 -- Assumes nothing.
 use borrow.Author.Needs.{needs}
 use denote.Ref.{now}
-use Rattle.wording.specs.PiecesLaws.{at-hand, none-left}
+use Rattle.wording.specs.laws.PiecesLaws.{at-hand, none-left}
 use Rattle.wording.proofs.number_at.Statement.{statement}
 use Rattle.wording.proofs.number_at.Tie as tie
 

@@ -9,7 +9,7 @@ use denote.Ref.{now}
 use lib.ListN.{length, length-append}
 use borrow.Rule.Slice.PartMut.{putMid}
 use Rattle.decimal.specs.Laid.{Laid}
-use Rattle.decimal.specs.LaidLaws.{put-front, second-fits, laid-both, laid-put}
+use Rattle.decimal.specs.laws.LaidLaws.{put-front, second-fits, laid-both, laid-put}
 use Rattle.barge_edit.specs.Office.{besideTail}
 use Rattle.barge_edit.proofs.file.beside.Statement.{statement}
 use Rattle.barge_edit.proofs.file.beside.Tie as tie

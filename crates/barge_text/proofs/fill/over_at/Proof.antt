@@ -2,7 +2,7 @@
 -- Assumes nothing.
 use borrow.Author.Needs.{needs}
 use mathlib.Core.Path.{_∙_}
-use Rattle.barge_text.specs.FilledLaws.{over-within, over-end}
+use Rattle.barge_text.specs.laws.FilledLaws.{over-within, over-end}
 use Rattle.barge_text.proofs.fill.over_at.Statement.{statement}
 use Rattle.barge_text.proofs.fill.over_at.Tie as tie
 

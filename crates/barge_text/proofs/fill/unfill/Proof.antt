@@ -7,7 +7,7 @@ use native.Mathlib.Omega.{arith}
 use denote.Ref.{now}
 use lib.ListN.{length, drop, length-set}
 use Rattle.barge_text.specs.Filled.{unfilled}
-use Rattle.barge_text.specs.FilledLaws.{filled-none, filled-out, filled-kept}
+use Rattle.barge_text.specs.laws.FilledLaws.{filled-none, filled-out, filled-kept}
 use Rattle.barge_text.proofs.fill.unfill.Statement.{statement}
 use Rattle.barge_text.proofs.fill.unfill.Tie as tie
 

@@ -9,7 +9,7 @@ use lib.ListN.{length, getD, drop}
 use borrow.Author.Tests.{eq-eqb, ne-eqb}
 use Rattle.fields.specs.Marks.{feeds}
 use Rattle.barge_text.specs.Shown.{endsHere}
-use Rattle.barge_text.specs.ShownLaws.{here}
+use Rattle.barge_text.specs.laws.ShownLaws.{here}
 use Rattle.barge_text.proofs.show.ends_at.Statement.{statement}
 use Rattle.barge_text.proofs.show.ends_at.Tie as tie
 

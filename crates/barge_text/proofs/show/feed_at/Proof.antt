@@ -4,7 +4,7 @@ use borrow.Author.Needs.{needs}
 use mathlib.Core.Path.{sym, ap}
 use lib.ListN.{drop-of-length-le}
 use Rattle.fields.specs.Marks.{feeds}
-use Rattle.barge_text.specs.ShownLaws.{here}
+use Rattle.barge_text.specs.laws.ShownLaws.{here}
 use Rattle.barge_text.proofs.show.feed_at.Statement.{statement}
 use Rattle.barge_text.proofs.show.feed_at.Tie as tie
 

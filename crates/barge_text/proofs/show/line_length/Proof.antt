@@ -8,7 +8,7 @@ use native.Mathlib.Omega.{arith}
 use denote.Ref.{now}
 use lib.ListN.{length, take, drop}
 use Rattle.barge_text.specs.Shown.{lineOf}
-use Rattle.barge_text.specs.ShownLaws.{line-ends, line-all, line-goes-on}
+use Rattle.barge_text.specs.laws.ShownLaws.{line-ends, line-all, line-goes-on}
 use Rattle.barge_text.proofs.show.line_length.Statement.{statement}
 use Rattle.barge_text.proofs.show.line_length.Tie as tie
 

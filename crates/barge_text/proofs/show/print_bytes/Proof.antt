@@ -7,7 +7,7 @@ use native.Mathlib.Omega.{arith}
 use denote.Ref.{now}
 use lib.ListN.{length, replicate}
 use lib.Seq.{length-take-le}
-use Rattle.decimal.specs.LaidLaws.{laid-inside}
+use Rattle.decimal.specs.laws.LaidLaws.{laid-inside}
 use Rattle.barge_text.specs.Shown.{shown}
 use Rattle.barge_text.proofs.show.print_bytes.Statement.{statement}
 use Rattle.barge_text.proofs.show.print_bytes.Tie as tie

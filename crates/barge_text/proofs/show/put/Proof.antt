@@ -7,7 +7,7 @@ use denote.Ref.{now}
 use lib.ListN.{length}
 use borrow.Rule.Slice.PartMut.{putMid}
 use Rattle.decimal.specs.Laid.{Laid}
-use Rattle.decimal.specs.LaidLaws.{laid-put}
+use Rattle.decimal.specs.laws.LaidLaws.{laid-put}
 use Rattle.barge_text.proofs.show.put.Statement.{statement}
 use Rattle.barge_text.proofs.show.put.Tie as tie
 

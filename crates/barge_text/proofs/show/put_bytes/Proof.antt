@@ -9,9 +9,9 @@ use denote.Ref.{now}
 use lib.ListN.{length, getD, take}
 use lib.Seq.{take-all, length-take-le}
 use Rattle.decimal.specs.Laid.{Laid}
-use Rattle.decimal.specs.LaidLaws.{laid-none, laid-both}
+use Rattle.decimal.specs.laws.LaidLaws.{laid-none, laid-both}
 use Rattle.barge_text.specs.Shown.{shownByte, shown}
-use Rattle.barge_text.specs.ShownLaws.{shown-most, shown-next}
+use Rattle.barge_text.specs.laws.ShownLaws.{shown-most, shown-next}
 use Rattle.barge_text.proofs.show.put_bytes.Statement.{statement}
 use Rattle.barge_text.proofs.show.put_bytes.Tie as tie
 

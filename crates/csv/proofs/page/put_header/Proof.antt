@@ -11,7 +11,7 @@ use Rattle.decimal.specs.Laid.{Laid}
 use Rattle.rows.specs.Pack.{fieldsOf}
 use Rattle.csv.specs.Write.{line, headerCells}
 use Rattle.csv.specs.Steps.{thirteen as thirteenOf}
-use Rattle.csv.specs.WriteLaws.{header-fields, header-few, header-most}
+use Rattle.csv.specs.laws.WriteLaws.{header-fields, header-few, header-most}
 use Rattle.csv.proofs.page.put_header.Statement.{statement}
 use Rattle.csv.proofs.page.put_header.Tie as tie
 

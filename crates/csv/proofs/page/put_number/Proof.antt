@@ -9,7 +9,7 @@ use lib.ListN.{length}
 use borrow.Rule.Slice.PartMut.{putMid}
 use Rattle.decimal.specs.Decimal.{decimalOf}
 use Rattle.decimal.specs.Laid.{Laid}
-use Rattle.decimal.specs.LaidLaws.{laid-put}
+use Rattle.decimal.specs.laws.LaidLaws.{laid-put}
 use Rattle.csv.proofs.page.put_number.Statement.{statement}
 use Rattle.csv.proofs.page.put_number.Tie as tie
 

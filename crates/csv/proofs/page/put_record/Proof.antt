@@ -8,13 +8,13 @@ use native.Mathlib.Omega.{arith}
 use denote.Ref.{now}
 use lib.ListN.{length}
 use Rattle.decimal.specs.Laid.{Laid}
-use Rattle.decimal.specs.LaidLaws.{laid-none}
+use Rattle.decimal.specs.laws.LaidLaws.{laid-none}
 use Rattle.sheet.specs.declared.RecordRead.{RecordRead}
 use Rattle.sheet.specs.Refusals.{toldRecord}
 use Rattle.rows.specs.Pack.{fieldsOf}
 use Rattle.csv.specs.Write.{line, recordCells}
 use Rattle.csv.specs.Steps.{recordText}
-use Rattle.csv.specs.WriteLaws.{record-fields, count-few, text-given, text-none, text-most}
+use Rattle.csv.specs.laws.WriteLaws.{record-fields, count-few, text-given, text-none, text-most}
 use Rattle.csv.proofs.page.put_record.Statement.{statement}
 use Rattle.csv.proofs.page.put_record.Tie as tie
 

@@ -7,7 +7,7 @@ use native.Mathlib.Omega.{arith}
 use denote.Ref.{now}
 use Rattle.checker.specs.Check.{recordPart}
 use Rattle.csv.specs.Steps.{longestLine, recordText, recordsText}
-use Rattle.csv.specs.WriteLaws.{text-most, texts-most}
+use Rattle.csv.specs.laws.WriteLaws.{text-most, texts-most}
 use Rattle.csv.proofs.Laying.{Laying, begin, turn, done, record-more, record-none, all-records}
 use Rattle.csv.proofs.page.put_records.Statement.{statement}
 use Rattle.csv.proofs.page.put_records.Tie as tie

@@ -4,7 +4,7 @@ use borrow.Author.Needs.{needs}
 use borrow.Author.Tests.{ne-eqb}
 use lib.Dec.{lit≤}
 use Rattle.wording.specs.Words.{most}
-use Rattle.wording.specs.WritesLaws.{within}
+use Rattle.wording.specs.laws.WritesLaws.{within}
 use Rattle.pencil.specs.Head.{memberHeading}
 use Rattle.pencil.proofs.head.member_heading.Statement.{statement}
 use Rattle.pencil.proofs.head.member_heading.Tie as tie

@@ -4,7 +4,7 @@ use borrow.Author.Needs.{needs}
 use borrow.Author.Tests.{le-leb, le-ltb, lt-leb, lt-ltb}
 use lib.Dec.{lit≤}
 use Rattle.wording.specs.Words.{most}
-use Rattle.wording.specs.WritesLaws.{within}
+use Rattle.wording.specs.laws.WritesLaws.{within}
 use Rattle.pencil.specs.Members.{rule4Of}
 use Rattle.pencil.proofs.members.rule4.Statement.{statement}
 use Rattle.pencil.proofs.members.rule4.Tie as tie

@@ -4,7 +4,7 @@ use borrow.Author.Needs.{needs}
 use borrow.Author.Tests.{le-ltb, lt-ltb}
 use lib.Dec.{lit≤}
 use Rattle.wording.specs.Words.{most}
-use Rattle.wording.specs.WritesLaws.{within}
+use Rattle.wording.specs.laws.WritesLaws.{within}
 use Rattle.pencil.specs.Members.{rule5Of}
 use Rattle.pencil.proofs.members.rule5.Statement.{statement}
 use Rattle.pencil.proofs.members.rule5.Tie as tie

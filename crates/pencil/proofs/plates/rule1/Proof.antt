@@ -4,7 +4,7 @@ use borrow.Author.Needs.{needs}
 use borrow.Author.Tests.{ne-eqb}
 use lib.Dec.{lit≤}
 use Rattle.wording.specs.Words.{most}
-use Rattle.wording.specs.WritesLaws.{within}
+use Rattle.wording.specs.laws.WritesLaws.{within}
 use Rattle.pencil.specs.Plates.{rule1Of}
 use Rattle.pencil.proofs.plates.rule1.Statement.{statement}
 use Rattle.pencil.proofs.plates.rule1.Tie as tie

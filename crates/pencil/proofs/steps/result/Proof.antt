@@ -4,7 +4,7 @@ use borrow.Author.Needs.{needs}
 use borrow.Author.Tests.{eq-eqb, le-leb, lt-leb, ne-eqb}
 use lib.Dec.{lit≤}
 use Rattle.wording.specs.Words.{most}
-use Rattle.wording.specs.WritesLaws.{within}
+use Rattle.wording.specs.laws.WritesLaws.{within}
 use Rattle.pencil.specs.Steps.{resultOf}
 use Rattle.pencil.proofs.steps.result.Statement.{statement}
 use Rattle.pencil.proofs.steps.result.Tie as tie

@@ -1,7 +1,7 @@
 -- `quantity::LineLoad::make` meets its contract.
 -- Assumes nothing.
 use Rattle.quantity.specs.Range.{lineLoad}
-use Rattle.quantity.specs.Laws.{below, above, inside}
+use Rattle.quantity.specs.laws.Laws.{below, above, inside}
 use Rattle.quantity.proofs.LineLoad.make.Statement.{statement}
 use Rattle.quantity.proofs.LineLoad.make.Tie as tie
 

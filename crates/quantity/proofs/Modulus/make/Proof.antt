@@ -1,7 +1,7 @@
 -- `quantity::Modulus::make` meets its contract.
 -- Assumes nothing.
 use Rattle.quantity.specs.Range.{modulus}
-use Rattle.quantity.specs.Laws.{below, above, inside}
+use Rattle.quantity.specs.laws.Laws.{below, above, inside}
 use Rattle.quantity.proofs.Modulus.make.Statement.{statement}
 use Rattle.quantity.proofs.Modulus.make.Tie as tie
 

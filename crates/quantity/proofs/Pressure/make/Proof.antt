@@ -1,7 +1,7 @@
 -- `quantity::Pressure::make` meets its contract.
 -- Assumes nothing.
 use Rattle.quantity.specs.Range.{pressure}
-use Rattle.quantity.specs.Laws.{below, above, inside}
+use Rattle.quantity.specs.laws.Laws.{below, above, inside}
 use Rattle.quantity.proofs.Pressure.make.Statement.{statement}
 use Rattle.quantity.proofs.Pressure.make.Tie as tie
 

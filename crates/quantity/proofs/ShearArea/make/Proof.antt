@@ -1,7 +1,7 @@
 -- `quantity::ShearArea::make` meets its contract.
 -- Assumes nothing.
 use Rattle.quantity.specs.Range.{shearArea}
-use Rattle.quantity.specs.Laws.{below, above, inside}
+use Rattle.quantity.specs.laws.Laws.{below, above, inside}
 use Rattle.quantity.proofs.ShearArea.make.Statement.{statement}
 use Rattle.quantity.proofs.ShearArea.make.Tie as tie
 

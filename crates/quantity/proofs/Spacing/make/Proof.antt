@@ -1,7 +1,7 @@
 -- `quantity::Spacing::make` meets its contract.
 -- Assumes nothing.
 use Rattle.quantity.specs.Range.{spacing}
-use Rattle.quantity.specs.Laws.{below, above, inside}
+use Rattle.quantity.specs.laws.Laws.{below, above, inside}
 use Rattle.quantity.proofs.Spacing.make.Statement.{statement}
 use Rattle.quantity.proofs.Spacing.make.Tie as tie
 

@@ -1,7 +1,7 @@
 -- `quantity::Span::make` meets its contract.
 -- Assumes nothing.
 use Rattle.quantity.specs.Range.{span}
-use Rattle.quantity.specs.Laws.{below, above, inside}
+use Rattle.quantity.specs.laws.Laws.{below, above, inside}
 use Rattle.quantity.proofs.Span.make.Statement.{statement}
 use Rattle.quantity.proofs.Span.make.Tie as tie
 

@@ -1,7 +1,7 @@
 -- `quantity::SteelFactor::make` meets its contract.
 -- Assumes nothing.
 use Rattle.quantity.specs.Range.{steelFactor}
-use Rattle.quantity.specs.Laws.{below, above, inside}
+use Rattle.quantity.specs.laws.Laws.{below, above, inside}
 use Rattle.quantity.proofs.SteelFactor.make.Statement.{statement}
 use Rattle.quantity.proofs.SteelFactor.make.Tie as tie
 

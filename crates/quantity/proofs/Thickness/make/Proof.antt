@@ -1,7 +1,7 @@
 -- `quantity::Thickness::make` meets its contract.
 -- Assumes nothing.
 use Rattle.quantity.specs.Range.{thickness}
-use Rattle.quantity.specs.Laws.{below, above, inside}
+use Rattle.quantity.specs.laws.Laws.{below, above, inside}
 use Rattle.quantity.proofs.Thickness.make.Statement.{statement}
 use Rattle.quantity.proofs.Thickness.make.Tie as tie
 

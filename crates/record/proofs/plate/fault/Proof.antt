@@ -2,7 +2,7 @@
 -- Assumes nothing.
 use borrow.Author.Needs.{needs}
 use Rattle.sheet.specs.Record.{plateFault}
-use Rattle.sheet.specs.HeaderLaws.{flag-within}
+use Rattle.sheet.specs.laws.HeaderLaws.{flag-within}
 use Rattle.record.proofs.plate.fault.Statement.{statement}
 use Rattle.record.proofs.plate.fault.Tie as tie
 

@@ -9,17 +9,17 @@ use borrow.Author.Tests.{eq-eqb, ne-eqb}
 use Rattle.sheet.specs.Refusals.{Answer}
 use Rattle.edit.specs.Edit.{After, putNumbersIn, removeIn, Edits}
 use Rattle.streams.specs.Parts.{numberAt, fieldsIn}
-use Rattle.streams.specs.Edits.{editIn}
+use Rattle.streams.specs.Edits.{askedEdit}
 use Rattle.streams.proofs.edits.edited.Statement.{statement}
 use Rattle.streams.proofs.edits.edited.Tie as tie
 
 -- the edit by the form's first number
-puts : (form b : List ℕ) (len : ℕ) → numberAt form 0 ≡ 0 → editIn form b len ≡ putNumbersIn b len (fieldsIn form)
-unfolding editIn
+puts : (form b : List ℕ) (len : ℕ) → numberAt form 0 ≡ 0 → askedEdit form b len ≡ putNumbersIn b len (fieldsIn form)
+unfolding askedEdit
 puts form b len e = rw (eq-eqb _ _ e)
 
-removes : (form b : List ℕ) (len : ℕ) → (numberAt form 0 ≡ 0 → ⊥) → editIn form b len ≡ removeIn b len (numberAt form 1)
-unfolding editIn
+removes : (form b : List ℕ) (len : ℕ) → (numberAt form 0 ≡ 0 → ⊥) → askedEdit form b len ≡ removeIn b len (numberAt form 1)
+unfolding askedEdit
 removes form b len d = rw (ne-eqb _ _ d)
 
 returns : tie.Need-returns
@@ -30,7 +30,7 @@ returns c =
     let n = t .before in
     let a = n .before .before .before .args in
     let b = now (a .buf) in
-    let same : putNumbersIn b (a .len) (f .fields .result) ≡ editIn (now (a .form)) b (a .len) =
+    let same : putNumbersIn b (a .len) (f .fields .result) ≡ askedEdit (now (a .form)) b (a .len) =
     ap (putNumbersIn b (a .len)) (f .fields .ensures) ∙ sym (puts (now (a .form)) b (a .len) (sym (n .number .ensures) ∙ t .if1 .taken)) in
     subst (λ (x : Answer After). Edits x b (p .put-numbers .result) (p .put-numbers .last .0)) same (p .put-numbers .ensures)
 
@@ -43,7 +43,7 @@ returns-2 c =
     let a = n .before .before .before .args in
     let b = now (a .buf) in
     let id : i .number2 .result ≡ numberAt (now (a .form)) 1 = i .number2 .ensures in
-    let same : removeIn b (a .len) (i .number2 .result) ≡ editIn (now (a .form)) b (a .len) =
+    let same : removeIn b (a .len) (i .number2 .result) ≡ askedEdit (now (a .form)) b (a .len) =
     ap (removeIn b (a .len)) id ∙ sym (removes (now (a .form)) b (a .len) (λ (e : numberAt (now (a .form)) 0 ≡ 0). t .if1 .left (n .number .ensures ∙ e))) in
     subst (λ (x : Answer After). Edits x b (r .remove .result) (r .remove .last .0)) same (r .remove .ensures)
 

@@ -11,21 +11,21 @@ use lib.ListN.{length}
 use lib.Dec.{eqb}
 use Rattle.sheet.specs.Refusals.{Answer, given, refused}
 use Rattle.edit.specs.Edit.{After, putNumbersIn, removeIn, sizeBy}
-use Rattle.edit.specs.Within.{numbers-within, remove-within}
-use Rattle.streams.specs.Parts.{numberAt, fieldsIn, Inside}
-use Rattle.streams.specs.Edits.{editIn}
+use Rattle.edit.specs.laws.Within.{numbers-within, remove-within}
+use Rattle.streams.specs.Parts.{numberAt, fieldsIn, ShortLine}
+use Rattle.streams.specs.Edits.{askedEdit}
 use Rattle.streams.proofs.edits.one_edit.Statement.{statement}
 use Rattle.streams.proofs.edits.one_edit.Tie as tie
 
-edit-within : (form b : List ℕ) (len : ℕ) (a : After) → editIn form b len ≡ given a → a .size ≤ length b
-unfolding editIn
+edit-within : (form b : List ℕ) (len : ℕ) (a : After) → askedEdit form b len ≡ given a → a .size ≤ length b
+unfolding askedEdit
 edit-within form b len a e = go (eqb (numberAt form 0) 0) e
   where
     go : (t : Bool) → cond t (putNumbersIn b len (fieldsIn form)) (removeIn b len (numberAt form 1)) ≡ given a → a .size ≤ length b
     go true f = numbers-within b len (fieldsIn form) a f
     go false f = remove-within b len (numberAt form 1) a f
 
-inside : (x : Answer After) (b : List ℕ) → length b ≤ 65536 → ((a : After) → x ≡ given a → a .size ≤ length b) → Inside (sizeBy x)
+inside : (x : Answer After) (b : List ℕ) → length b ≤ 65536 → ((a : After) → x ≡ given a → a .size ≤ length b) → ShortLine (sizeBy x)
 unfolding sizeBy
 inside (given a) b l w = omega (arith, w a refl)
 inside (refused k p) b l w = tt
@@ -36,7 +36,7 @@ print-requires c κs =
     let e = d .before .before .before in
     let s = e .before .before .before .before .before .before .before .before .before .before .before in
     let told = d .done-by .ensures .answer ∙ e .edited .ensures .answer in
-    subst Inside (sym told) (inside _ (now (s .args .buf)) (s .pre) (edit-within _ (now (s .args .buf)) _))
+    subst ShortLine (sym told) (inside _ (now (s .args .buf)) (s .pre) (edit-within _ (now (s .args .buf)) _))
 
 pub one-edit-spec : {M : Type 1} → statement M
 one-edit-spec =

@@ -6,7 +6,7 @@ use mathlib.Core.Path.{sym}
 use native.Mathlib.Omega.{arith}
 use lib.ListN.{length, replicate}
 use lib.Seq.{length-take-le}
-use Rattle.decimal.specs.LaidLaws.{laid-inside}
+use Rattle.decimal.specs.laws.LaidLaws.{laid-inside}
 use Rattle.csv.specs.Read.{toldConverted}
 use Rattle.streams.specs.Parts.{lineFor}
 use Rattle.streams.proofs.parts.print.Statement.{statement}

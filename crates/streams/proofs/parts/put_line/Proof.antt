@@ -9,18 +9,18 @@ use denote.Ref.{now}
 use lib.ListN.{length, drop, length-append}
 use Rattle.sheet.specs.declared.Refusal.{Refusal}
 use Rattle.sheet.specs.Refusals.{given, told}
-use Rattle.sheet.specs.RefusalLaws.{given-same, given-refused}
+use Rattle.sheet.specs.laws.RefusalLaws.{given-same, given-refused}
 use Rattle.decimal.specs.Decimal.{decimalOf}
-use Rattle.decimal.specs.DecimalLaws.{decimal-most}
+use Rattle.decimal.specs.laws.DecimalLaws.{decimal-most}
 use Rattle.decimal.specs.Put.{Puts}
 use Rattle.decimal.specs.Laid.{Laid}
-use Rattle.decimal.specs.LaidLaws.{laid-front, put-front}
+use Rattle.decimal.specs.laws.LaidLaws.{laid-front, put-front}
 use Rattle.report.specs.Page.{toldLength}
-use Rattle.report.specs.PageLaws.{refusal-told}
+use Rattle.report.specs.laws.PageLaws.{refusal-told}
 use Rattle.report.specs.Pieces.{refusalText}
 use Rattle.csv.specs.declared.Converted.{Converted}
 use Rattle.csv.specs.Read.{toldConverted}
-use Rattle.streams.specs.Parts.{lineFor, Inside}
+use Rattle.streams.specs.Parts.{lineFor, ShortLine}
 use Rattle.streams.proofs.parts.put_line.Statement.{statement}
 use Rattle.streams.proofs.parts.put_line.Tie as tie
 
@@ -39,7 +39,7 @@ module _ (c : tie.After-c) where
   start = c .before .before .before
 
   inside : c .c .given .0 .0 ≤ 65536
-  inside = subst (λ (x : Converted). Inside (toldConverted x)) (c .c .given .1) (start .pre .1)
+  inside = subst (λ (x : Converted). ShortLine (toldConverted x)) (c .c .given .1) (start .pre .1)
 
   few : length (decimalOf (c .c .given .0 .0) ++ (10 ∷ [])) ≤ 6
   few = omega (arith, length-append (decimalOf (c .c .given .0 .0)) (10 ∷ []), decimal-most 4 (c .c .given .0 .0) (omega (arith, inside)))

@@ -10,10 +10,10 @@ use denote.Ref.{now}
 use lib.ListN.{length, take, drop, set, length-set}
 use lib.Seq.{take-at, take-suc-set}
 use Rattle.sheet.specs.Refusals.{given}
-use Rattle.sheet.specs.RefusalLaws.{given-same, given-refused}
+use Rattle.sheet.specs.laws.RefusalLaws.{given-same, given-refused}
 use Rattle.report.specs.Text.{textOf}
 use Rattle.report.specs.Page.{toldLength}
-use Rattle.report.specs.Longest.{text-most, answer-told}
+use Rattle.report.specs.laws.Longest.{text-most, answer-told}
 use Rattle.streams.proofs.sheets.put_apart.Statement.{statement}
 use Rattle.streams.proofs.sheets.put_apart.Tie as tie
 

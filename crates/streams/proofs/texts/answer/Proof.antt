@@ -8,15 +8,15 @@ use native.Mathlib.Omega.{arith}
 use denote.Ref.{now}
 use lib.ListN.{length, drop, length-append}
 use Rattle.sheet.specs.Refusals.{Answer, given, refused}
-use Rattle.decimal.specs.LaidLaws.{laid-inside, laid-taken}
+use Rattle.decimal.specs.laws.LaidLaws.{laid-inside, laid-taken}
 use Rattle.csv.specs.Read.{toldConverted, lengthOf, outputBy}
-use Rattle.streams.specs.Parts.{lineFor, Inside}
+use Rattle.streams.specs.Parts.{lineFor, ShortLine}
 use Rattle.streams.specs.Texts.{asked}
 use Rattle.streams.proofs.texts.answer.Statement.{statement}
 use Rattle.streams.proofs.texts.answer.Tie as tie
 
 -- what stands in front of the output has no more bytes than it
-inside : (a : Answer (List ℕ)) (o after : List ℕ) → length o ≤ 65536 → length after ≡ length o → after ≡ outputBy a o → Inside (lengthOf a)
+inside : (a : Answer (List ℕ)) (o after : List ℕ) → length o ≤ 65536 → length after ≡ length o → after ≡ outputBy a o → ShortLine (lengthOf a)
 inside (given b) o after l k e = omega (arith, ap length e, length-append b (drop (length b) o))
 inside (refused m p) o after l k e = tt
 
@@ -25,7 +25,7 @@ put-line-requires c κs =
     let v = c .before .before .before in
     let s = v .before .before .before .before .before in
     let said = inside (asked (s .args .what) (now (s .args .input)) (length (now (s .args .out)))) (now (s .args .out)) (v .converted .last .1 .1 .0) (s .pre .0) (v .converted .kept .1 .1 .0) (v .converted .ensures .bytes) in
-    (s .pre .1, subst Inside (sym (v .converted .ensures .answer)) said)
+    (s .pre .1, subst ShortLine (sym (v .converted .ensures .answer)) said)
 
 returns : tie.Need-returns
 returns c =

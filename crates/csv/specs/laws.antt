@@ -1,0 +1,5 @@
+-- What is proved of the definitions.
+pub mod HeldLaws
+pub mod Only
+pub mod ReadLaws
+pub mod WriteLaws

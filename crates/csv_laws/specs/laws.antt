@@ -1,0 +1,12 @@
+-- What is proved of the definitions.
+mod Cases
+pub mod Exactly
+pub mod LinesBack
+pub mod Places
+pub mod RowForms
+pub mod RowsBack
+pub mod SheetAgain
+pub mod SheetBytes
+pub mod Spelled
+pub mod TextAgain
+pub mod Turned

@@ -1,0 +1,7 @@
+-- What is proved of the definitions.
+pub mod Done
+pub mod HeaderCount
+pub mod Only
+pub mod Parts
+pub mod Taken
+pub mod Within

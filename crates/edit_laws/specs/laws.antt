@@ -1,0 +1,12 @@
+-- What is proved of the definitions.
+pub mod BackAgain
+pub mod Example
+pub mod Numbers
+pub mod Outcomes
+pub mod Rebuilt
+pub mod RowLaws
+pub mod Sequences
+pub mod SheetRefusals
+pub mod Slender
+pub mod Touched
+pub mod Verdicts

@@ -1,0 +1,4 @@
+-- What is proved of the definitions.
+mod Cases
+pub mod First
+pub mod Only

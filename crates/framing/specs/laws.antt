@@ -1,0 +1,5 @@
+-- What is proved of the definitions.
+pub mod BoundLaws
+pub mod Laws
+pub mod ShapeLaws
+pub mod WorkLaws

@@ -1,0 +1,4 @@
+-- What is proved of the definitions.
+pub mod Laws
+pub mod ShapeLaws
+pub mod WorkLaws
