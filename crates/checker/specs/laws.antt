@@ -8,3 +8,5 @@ pub mod Only
 pub mod Sound
 pub mod ThenLaws
 pub mod UnjudgedLaws
+pub mod Parts
+pub mod SheetRefusals

@@ -12,7 +12,7 @@ use borrow.Author.Tests.{le-ltb, lt-ltb}
 use Rattle.checker.specs.Check.{recordPart, partsFrom}
 use Rattle.keyed.specs.Keyed.{positionOf, hasOf}
 use Rattle.edit.specs.Steps.{idIn, placeIn, hasIn}
-use Rattle.edit.specs.laws.Parts.{parts-length}
+use Rattle.checker.specs.laws.Parts.{parts-length}
 
 -- the place among the records from record i on, of n
 unfoldable pub placeFrom : List ℕ → (n id i : ℕ) → ℕ

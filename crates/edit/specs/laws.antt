@@ -2,6 +2,5 @@
 pub mod Done
 pub mod HeaderCount
 pub mod Only
-pub mod Parts
 pub mod Taken
 pub mod Within

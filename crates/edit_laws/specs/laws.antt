@@ -6,7 +6,6 @@ pub mod Outcomes
 pub mod Rebuilt
 pub mod RowLaws
 pub mod Sequences
-pub mod SheetRefusals
 pub mod Slender
 pub mod Touched
 pub mod Verdicts

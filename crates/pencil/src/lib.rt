@@ -145,7 +145,7 @@ fn put_bending(h: Header, kind: u8, p: Plate, w: PlateWork, page: &mut [u8], at:
 {
     let third = w.third;
     let is_inner = by_inner_modulus(kind, h.version);
-    let is_long = plating::is_long(kind);
+    let is_long = sheet::kinds::is_long(kind);
     let never = is_never(third);
     let right = right_side(third);
     let spacing = p.spacing.0 as u64;
@@ -204,7 +204,7 @@ fn put_plate_first(h: Header, kind: u8, p: Plate, w: PlateWork, page: &mut [u8],
     );
     let two = put_steps(first, top, has, b'$', page, one);
     let three = plates::rule2(
-        plating::is_long(kind),
+        sheet::kinds::is_long(kind),
         spacing,
         factor,
         load.pressure.0,

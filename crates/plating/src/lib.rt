@@ -9,6 +9,8 @@ use sheet::Header;
 use sheet::Outcome;
 use sheet::Plate;
 use sheet::Refusal;
+use sheet::kinds::is_bottom;
+use sheet::kinds::is_long;
 use verdict::Judged;
 use verdict::Verdict;
 ghost use mathlib.Core.Path.{_≡_};
@@ -16,7 +18,7 @@ ghost use mathlib.Core.Bool.{false};
 ghost use Prim.Native.Nat.{_*_, _^_, _≤_, _<_};
 ghost use Rattle.quantity.specs.Range.{thickness, pressure, steelFactor};
 ghost use Rattle.loads.specs.Sources.{toldLoad};
-ghost use Rattle.sheet.specs.Kinds.{isLong, isBottom};
+ghost use Rattle.sheet.specs.Kinds.{isLong};
 ghost use Rattle.sheet.specs.Lines.{plateSpacing};
 ghost use Rattle.sheet.specs.Record.{ofPlate};
 ghost use Rattle.sheet.specs.Ranges.{HeaderRanges, PlateRanges};
@@ -57,18 +59,6 @@ fn excess(short: u32, a: u64, n: u64) -> Shape
     ensures { λ d. ⌜ d ≡ excessShape short a n ⌝ }
 {
     gauge::squared(100, short, n, a)
-}
-
-fn is_bottom(kind: u8) -> bool
-    ensures { λ r. ⌜ r ≡ isBottom kind ⌝ }
-{
-    kind <= 2
-}
-
-pub fn is_long(kind: u8) -> bool
-    ensures { λ r. ⌜ r ≡ isLong kind ⌝ }
-{
-    kind == 2 || kind == 4
 }
 
 // c of rule 1.

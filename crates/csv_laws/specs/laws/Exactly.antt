@@ -26,7 +26,7 @@ use Rattle.checker.specs.Check.{_then_, demand, Sheet}
 use Rattle.checker.specs.laws.ThenLaws.{then-given, By, first, later, by, refused-as, stays, demanded}
 use Rattle.checker.specs.laws.Bounds.{Refusable, sheet-told}
 use Rattle.checker.specs.Unjudged.{room, soundSheet}
-use Rattle.edit_laws.specs.laws.SheetRefusals.{never-5}
+use Rattle.checker.specs.laws.SheetRefusals.{never-5}
 use Rattle.csv.specs.Read.{nextLine, recordsMade, sheetMade, sheetFrom}
 use Rattle.csv.specs.Write.{textOf, textFrom}
 use Rattle.csv_laws.specs.laws.Spelled.{number-back, number-spelled}

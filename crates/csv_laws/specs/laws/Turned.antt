@@ -29,7 +29,7 @@ use Rattle.checker.specs.laws.ThenLaws.{By, by, stays, demanded}
 use Rattle.checker.specs.laws.ThenLaws as T
 use Rattle.checker.specs.laws.Bounds.{Refusable, sheet-told}
 use Rattle.checker.specs.Unjudged.{room, soundSheet}
-use Rattle.edit_laws.specs.laws.SheetRefusals.{sheet-not, never-5, under, sheet-9}
+use Rattle.checker.specs.laws.SheetRefusals.{sheet-not, never-5, under, sheet-9}
 use Rattle.csv.specs.Read.{nextLine, recordsMade, sheetMade, sheetFrom}
 use Rattle.csv.specs.Write.{textOf, textFrom}
 use Rattle.csv_laws.specs.laws.RowForms.{header-size}

@@ -31,7 +31,7 @@ use Rattle.keyed.specs.Keyed.{rises, positionOf, hasOf}
 use Rattle.keyed.specs.laws.Places.{SameKeys, none, next, same-place, same-has}
 use Rattle.edit.specs.Edit.{sheetAt, highest, idOf}
 use Rattle.edit.specs.Steps.{idIn, placeIn, hasIn}
-use Rattle.edit.specs.laws.Parts.{parts-length, parts-within}
+use Rattle.checker.specs.laws.Parts.{parts-length, parts-within}
 
 -- ---- records by their bytes
 

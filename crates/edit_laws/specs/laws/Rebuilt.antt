@@ -23,7 +23,7 @@ use Rattle.checker.specs.laws.FrontLaws.{slim-header}
 use Rattle.checker.specs.Unjudged.{room, soundSheet}
 use Rattle.keyed.specs.Keyed.{rises}
 use Rattle.edit.specs.Edit.{sheetAt, start, idOf, replacing, inserting, removing}
-use Rattle.edit.specs.laws.Parts.{begin, join, Wide, join-append, join-length, wide-append, parts-length, parts-wide, parts-split, cut, joined}
+use Rattle.checker.specs.laws.Parts.{begin, join, Wide, join-append, join-length, wide-append, parts-length, parts-wide, parts-split, cut, joined}
 use Rattle.edit.specs.laws.Taken.{Reads, reads-taken, reads-append, reads-take, reads-drop, Taken}
 
 -- ---- a sheet that is put together

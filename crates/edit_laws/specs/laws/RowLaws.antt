@@ -30,7 +30,7 @@ use Rattle.keyed.specs.Keyed.{hasOf}
 use Rattle.keyed.specs.laws.Places.{has-present, present-has}
 use Rattle.edit.specs.Edit.{sheetAt, highest, idOf, After, hasRoom, placing, putIn, removeIn}
 use Rattle.edit.specs.laws.Taken.{taken-at}
-use Rattle.edit_laws.specs.laws.SheetRefusals.{under, headed-not}
+use Rattle.checker.specs.laws.SheetRefusals.{under, headed-not}
 use Rattle.edit_laws.specs.Rows.{SheetRow, over, own, Full, buffer, count, PutRow, sheet, kind, field, no-room, RemoveRow, absent, Short, over-buffer, under-header}
 
 -- ---- the sheet's own

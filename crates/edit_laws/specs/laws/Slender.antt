@@ -24,7 +24,7 @@ use Rattle.checker.specs.Check.{Sheet}
 use Rattle.checker.specs.laws.ThenLaws.{then-given}
 use Rattle.keyed.specs.Keyed.{Edit, put, out}
 use Rattle.edit.specs.Edit.{sheetAt, headerOf, idOf, After, putIn, putNumbersIn, removeIn}
-use Rattle.edit_laws.specs.laws.SheetRefusals.{sheet-9}
+use Rattle.checker.specs.laws.SheetRefusals.{sheet-9}
 use Rattle.edit_laws.specs.Edits.{IsSlender, editIn, afterBy, afterAll}
 use Rattle.edit_laws.specs.laws.Sequences.{one-edit}
 use Rattle.edit_laws.specs.Rows.{SheetRow, over, own, Slender}

@@ -1,12 +1,10 @@
 -- Two answers that meet the promise of `worked`, or of `is_long`, are equal.
 -- Assumes nothing.
 use Prim.Native.Nat.{ℕ}
-use mathlib.Core.Bool.{Bool}
 use mathlib.Core.Path.{_≡_, refl, sym, ap, ap₂, _∙_}
 use Rattle.loads.specs.declared.Load.{Load}
 use Rattle.loads.specs.laws.Only.{load-only}
 use Rattle.loads.specs.Sources.{toldLoad}
-use Rattle.sheet.specs.Kinds.{isLong}
 use Rattle.sheet.specs.Refusals.{Answer}
 use Rattle.sheet.specs.laws.RefusalLaws.{given-refused, refusal-only, refused-number, refused-place, given-same}
 use Rattle.plating.specs.declared.PlateWork.{PlateWork}
@@ -41,6 +39,3 @@ plate-worked-only a (isWork v) (isWork w) p q = ap isWork (work-only v w (given-
 plate-worked-only a (isWork v) (notWorked r) p q = given-refused (p ∙ sym q)
 plate-worked-only a (notWorked r) (isWork w) p q = given-refused (q ∙ sym p)
 plate-worked-only a (notWorked r) (notWorked s) p q = ap notWorked (refusal-only r s (refused-number (p ∙ sym q)) (refused-place (p ∙ sym q)))
-
-pub is-long-only : (kind : ℕ) (a b : Bool) → a ≡ isLong kind → b ≡ isLong kind → a ≡ b
-is-long-only kind a b p q = p ∙ sym q

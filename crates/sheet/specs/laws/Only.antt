@@ -70,3 +70,7 @@ place-only r a b p q = p ∙ sym q
 
 pub record-in-only : (s : List ℕ) (a b : Raw) → a ≡ rawAt (readOf 16 s) → b ≡ rawAt (readOf 16 s) → a ≡ b
 record-in-only s a b p q = p ∙ sym q
+
+-- the tests of a kind
+pub kind-only : (test : ℕ → Bool) (kind : ℕ) (a b : Bool) → a ≡ test kind → b ≡ test kind → a ≡ b
+kind-only test kind a b p q = p ∙ sym q

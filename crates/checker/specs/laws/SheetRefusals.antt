@@ -21,11 +21,11 @@ use Rattle.sheet.specs.laws.HeaderExactly.{header-read-others}
 use Rattle.sheet.specs.Record.{readRecord}
 use Rattle.sheet.specs.Exactly.{Exactly}
 use Rattle.sheet.specs.laws.RecordExactly.{record-read-1, record-read-others}
 use Rattle.checker.specs.Check.{_then_, demand, sheetHeader, sheetSize, headerFor, recordsPart, partsFrom, soundAfter, recordsIn, sheetIn}
 use Rattle.checker.specs.laws.ThenLaws.{refused-as, stays}
 use Rattle.checker.specs.laws.FrontLaws.{header-slim, header-fits, header-refused, header-slender}
 use Rattle.checker.specs.Unjudged.{room, soundSheet}
-use Rattle.edit.specs.laws.Parts.{Wide, parts-wide}
+use Rattle.checker.specs.laws.Parts.{Wide, parts-wide}
 
 -- an answer that is not refusal m
 abbrev pub Not : {A : Type 0} → ℕ → Answer A → Type 0
