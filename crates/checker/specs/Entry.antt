@@ -9,6 +9,7 @@ use Rattle.loads.specs.declared.Source.the-variants.{Cargo}
 use Rattle.loads.specs.Sources.{numberOf}
 use Rattle.layout.specs.Layout.{pack, unpack, bytes}
 use Rattle.layout.specs.Line.{Line, line, widths, faultFrom}
+use Rattle.sheet.specs.Lines.{ids}
 use Rattle.sheet.specs.Refusals.{Answer, given, refused, told, Wrote}
 use Rattle.checker.specs.declared.Entry.{Entry}
 use Rattle.checker.specs.declared.EntryRead.{EntryRead}
@@ -16,7 +17,7 @@ use Rattle.checker.specs.declared.EntryRead.the-variants.{Good as goodEn
 
 -- a verdict: id, rule, required, source; a pass (rule 0) requires nothing, and no gauge goes higher than that of W
 abbrev pub verdictTable : (passed : Bool) → List Line
-verdictTable passed = line 10 (from 1 1000) ∷ line 3 (from 0 6) ∷ line 17 (from 0 (cond passed 0 (modulus .high))) ∷ line 2 (from 0 (numberOf Cargo)) ∷ []
+verdictTable passed = line 10 ids ∷ line 3 (from 0 6) ∷ line 17 (from 0 (cond passed 0 (modulus .high))) ∷ line 2 (from 0 (numberOf Cargo)) ∷ []
 
 -- the lines that verdicts of a rule answer to
 abbrev pub verdictLines : (rule : ℕ) → List Line

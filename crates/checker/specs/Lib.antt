@@ -1,6 +1,5 @@
 pub mod Entry
 pub mod Check
-pub mod Computing
 pub mod Whole
 pub mod Unjudged
 pub mod Passes

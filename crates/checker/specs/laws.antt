@@ -10,3 +10,4 @@ pub mod ThenLaws
 pub mod UnjudgedLaws
 pub mod Parts
 pub mod SheetRefusals
+pub mod Computing

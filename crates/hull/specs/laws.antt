@@ -3,3 +3,4 @@ pub mod Cases
 pub mod PutLaws
 pub mod RaisingLaws
 pub mod SourceLaws
+pub mod Computing

@@ -13,7 +13,7 @@ use Rattle.fields.specs.Marks.{outside, marksAt}
 use Rattle.fields.specs.Lines.{linesOf, linesAt}
 use Rattle.rows.specs.Pack.{below}
 use Rattle.rows.specs.Rows.{headerLine, recordLine}
-use Rattle.checker.specs.Computing.{reading}
+use Rattle.checker.specs.laws.Computing.{reading}
 use Rattle.checker.specs.Unjudged.{soundSheet}
 use Rattle.csv.specs.Read.{recordsMade, sheetMade, sheetFrom}
 use Rattle.csv.specs.Write.{linesText, textOf, textFrom}

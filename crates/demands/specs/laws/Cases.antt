@@ -11,7 +11,7 @@ use Rattle.hull.specs.Raising.{InGauge}
 use Rattle.checker.specs.declared.Checked.the-variants.{Done}
 use Rattle.checker.specs.Entry.{entryBytes, readEntry}
 use Rattle.checker.specs.Check.{fourAt}
-use Rattle.checker.specs.Computing.{checking}
+use Rattle.checker.specs.laws.Computing.{checking}
 use Rattle.demands.specs.Table.{Row, HeaderSound}
 use Rattle.demands.specs.laws.SlenderRead.{later-version}
 use Rattle.demands.specs.Program.{Program, Leaves}

@@ -12,7 +12,7 @@ use Rattle.decimal.specs.Decimal.{digitsIn, decimalOf}
 use Rattle.decimal.specs.Line.{moreOf, lineOf}
 use Rattle.report.specs.Text.{printed, linesText, textBy, textOf}
 use Rattle.checker.specs.Check.{answerOf, outputOf, fourAt}
-use Rattle.checker.specs.Computing.{reading, checking}
+use Rattle.checker.specs.laws.Computing.{reading, checking}
 use Rattle.demands.specs.Raise.{replaced, withScantling, raisedTimes}
 use Rattle.demands.specs.EmptyPrograms.{checker}
 

@@ -27,8 +27,8 @@ use Rattle.checker.specs.laws.Sound.{entry-sound}
 use Rattle.checker.specs.Check.{_then_, recordsPart, recordPart, Sheet, sheetIn, entryOf, verdicts, bytesOf, failures, Totals, toldChecked, answerOf, outputBy, outputOf, fourAt}
 use Rattle.checker.specs.Whole.{Taken, none, next}
 use Rattle.checker.specs.laws.CheckLaws.{sheet-whole, verdicts-count, answer-done}
-use Rattle.hull.specs.Computing.{judging}
-use Rattle.checker.specs.Computing.{checking}
+use Rattle.hull.specs.laws.Computing.{judging}
+use Rattle.checker.specs.laws.Computing.{checking}
 use Rattle.demands.specs.Table.{headSize, Row, sheet-short, version, header-short, header-field, slender, sheet-length, output-short, kind, field, order, Accepted}
 use Rattle.demands.specs.Program.{Program, Meets}
 use Rattle.demands.specs.Demands.{entryOn, failedFrom, Second, Demands}

@@ -12,7 +12,7 @@ use Rattle.sheet.specs.Versions.{versionOf}
 use Rattle.sheet.specs.Refusals.{Answer, given, refused}
 use Rattle.sheet.specs.Header.{versionField, headerBytes}
 use Rattle.checker.specs.Check.{verdicts, failures, Totals, answerOf}
-use Rattle.checker.specs.Computing.{reading}
+use Rattle.checker.specs.laws.Computing.{reading}
 use Rattle.demands.specs.Table.{Row, sheet-short, version, header-short, header-field, slender, sheet-length, output-short, kind, field, order}
 use Rattle.demands.specs.Program.{Program, Refuses}
 use Rattle.demands.specs.Demands.{Demands}

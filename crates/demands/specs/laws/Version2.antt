@@ -9,7 +9,7 @@ use Rattle.sheet.specs.Refusals.{given, refused}
 use Rattle.checker.specs.declared.Entry.{Entry}
 use Rattle.checker.specs.Entry.{entryBytes}
 use Rattle.checker.specs.Check.{answerOf, outputOf}
-use Rattle.checker.specs.Computing.{reading, checking}
+use Rattle.checker.specs.laws.Computing.{reading, checking}
 use Rattle.demands.specs.Table.{Row}
 use Rattle.demands.specs.laws.Example.{vessel}
 use Rattle.demands.specs.laws.Rows.{refused-exactly}

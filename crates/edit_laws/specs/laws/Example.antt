@@ -10,7 +10,7 @@ use Rattle.sheet.specs.declared.Record.{Record}
 use Rattle.sheet.specs.declared.Body.the-variants.{Plate as isPlate}
 use Rattle.sheet.specs.Refusals.{given, refused}
 use Rattle.sheet.specs.Record.{plateFault}
-use Rattle.checker.specs.Computing.{reading}
+use Rattle.checker.specs.laws.Computing.{reading}
 use Rattle.checker.specs.Unjudged.{soundSheet}
 use Rattle.edit.specs.Edit.{sheetAt, replacing, inserting, removing, placing, putIn, removeIn}
 

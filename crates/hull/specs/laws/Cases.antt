@@ -15,7 +15,7 @@ use Rattle.sheet.specs.Versions.{versionOf}
 use Rattle.verdict.specs.Verdict.{Rule}
 use Rattle.plating.specs.Rules.{K2, asked3, plateRules}
 use Rattle.framing.specs.Rules.{memberLine, webRule, memberRules}
-use Rattle.hull.specs.Computing.{judging}
+use Rattle.hull.specs.laws.Computing.{judging}
 
 -- vessel V with another length, moment or modulus, in the version that holds this of its own
 abbrev pub vesselOf : Own → ℕ → ℕ → ℕ → Header

@@ -1,7 +1,7 @@
 -- Names for all that checking a sheet computes with: on an `unfolding` line each opens whatever its own line names.
 use Rattle.sheet.specs.Header.{readHeader}
 use Rattle.sheet.specs.Record.{readRecord, recordIn}
-use Rattle.hull.specs.Computing.{judging}
+use Rattle.hull.specs.laws.Computing.{judging}
 use Rattle.checker.specs.Entry.{readEntry, entryIn, entryFault}
 use Rattle.checker.specs.Check.{_then_, demand, sheetHeader, headerFor, partsFrom, soundAfter, recordsIn, sheetIn, entryOf, verdicts, bytesOf, failures, answerOf, outputOf}
 
