@@ -1,4 +1,3 @@
-pub mod Heads
 pub mod Parts
 pub mod Sheets
 pub mod Edits

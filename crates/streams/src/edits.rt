@@ -70,11 +70,11 @@ fn one_edit(buf: &mut [u8], len: usize) -> Next
 }
 
 // So many edits, or false where they do not come whole.
-pub fn print(head: &[u8; 16], buf: &mut [u8]) -> bool
+pub fn print(head: &[u8; 20], buf: &mut [u8]) -> bool
     requires { ⌜ length (now buf) ≤ 65536 ⌝ }
 {
-    let mut at = parts::number(head, 1) as usize;
-    let count = parts::number(head, 2) as usize;
+    let mut at = parts::number(head, 3) as usize;
+    let count = parts::number(head, 4) as usize;
     for _ in 0..count {
         let next = one_edit(buf, at);
         match next {

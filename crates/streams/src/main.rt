@@ -13,7 +13,6 @@ use libc::STDOUT_FILENO;
 ghost use mathlib.Core.Path.{_≡_};
 ghost use Prim.Native.Nat.{_≤_};
 ghost use lib.ListN.{length};
-ghost use Rattle.streams.specs.Heads.{InHead};
 
 // The longest input, and the largest output.
 const LONGEST: usize = 65536;
@@ -24,13 +23,6 @@ enum Stream {
     Texts,
     Vectors,
     None,
-}
-
-// How many bytes of a head come, and which of its numbers are the input's length and the output's size. The fourth never comes, and is 0.
-struct Head {
-    bytes: usize,
-    input: usize,
-    output: usize,
 }
 
 // By its bytes as one number, with zeros behind them.
@@ -46,25 +38,21 @@ fn asked() -> Stream {
     }
 }
 
-fn head_of(stream: Stream) -> Head
-    ensures { λ h. ⌜ InHead h ⌝ }
+fn head_bytes(stream: Stream) -> usize {
+    match stream {
+        Stream::Sheets => 4,
+        _ => 12,
+    }
+}
+
+// Reads a head to where its numbers have their places: the input's length is number 1, the output's size number 2, and what does not come is 0.
+fn read_head(stream: Stream, head: &mut [u8]) -> usize
+    requires { ⌜ length (now head) ≡ 20 ⌝ }
 {
     match stream {
-        Stream::Sheets => Head {
-            bytes: 4,
-            input: 0,
-            output: 3,
-        },
-        Stream::Edits => Head {
-            bytes: 12,
-            input: 3,
-            output: 0,
-        },
-        _ => Head {
-            bytes: 12,
-            input: 1,
-            output: 2,
-        },
+        Stream::Sheets => io::read_full(STDIN_FILENO, &mut head[4..8]),
+        Stream::Edits => io::read_full(STDIN_FILENO, &mut head[8..20]),
+        _ => io::read_full(STDIN_FILENO, &mut head[0..12]),
     }
 }
 
@@ -77,7 +65,7 @@ fn filled(input: &mut [u8], out: &mut [u8]) -> bool {
 }
 
 // The answer to a case, or false where it is none.
-fn answered(stream: Stream, head: &[u8; 16], input: &[u8], out: &mut [u8]) -> bool
+fn answered(stream: Stream, head: &[u8; 20], input: &[u8], out: &mut [u8]) -> bool
     requires { ⌜ length (now out) ≤ 65536 ⌝ }
 {
     match stream {
@@ -90,7 +78,7 @@ fn answered(stream: Stream, head: &[u8; 16], input: &[u8], out: &mut [u8]) -> bo
 }
 
 // The same for one whose input and output come next.
-fn read_case(stream: Stream, head: &[u8; 16], input: &mut [u8], out: &mut [u8]) -> bool
+fn read_case(stream: Stream, head: &[u8; 20], input: &mut [u8], out: &mut [u8]) -> bool
     requires { ⌜ length (now out) ≤ 65536 ⌝ }
 {
     if !filled(input, out) {
@@ -100,15 +88,14 @@ fn read_case(stream: Stream, head: &[u8; 16], input: &mut [u8], out: &mut [u8]) 
 }
 
 // The case behind a head of which so many bytes came, or false where it is none.
-fn case(stream: Stream, got: usize, head: &[u8; 16], input: &mut [u8], out: &mut [u8]) -> bool
+fn case(stream: Stream, got: usize, head: &[u8; 20], input: &mut [u8], out: &mut [u8]) -> bool
     requires { ⌜ (65536 ≤ length (now input)) × (65536 ≤ length (now out)) ⌝ }
 {
-    let form = head_of(stream);
-    if got < form.bytes {
+    if got < head_bytes(stream) {
         return false;
     }
-    let len = parts::number(head, form.input) as usize;
-    let size = parts::number(head, form.output) as usize;
+    let len = parts::number(head, 1) as usize;
+    let size = parts::number(head, 2) as usize;
     if LONGEST < len {
         return false;
     }
@@ -122,10 +109,8 @@ fn case(stream: Stream, got: usize, head: &[u8; 16], input: &mut [u8], out: &mut
 fn turn(stream: Stream, input: &mut [u8], out: &mut [u8]) -> bool
     requires { ⌜ (65536 ≤ length (now input)) × (65536 ≤ length (now out)) ⌝ }
 {
-    let mut head = [0u8; 16];
-    let form = head_of(stream);
-    let bytes = form.bytes;
-    let got = io::read_full(STDIN_FILENO, &mut head[0..bytes]);
+    let mut head = [0u8; 20];
+    let got = read_head(stream, &mut head);
     if got == 0 {
         return false;
     }

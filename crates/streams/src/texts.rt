@@ -26,7 +26,7 @@ fn answer(what: u32, input: &[u8], out: &mut [u8], line: &mut [u8]) -> usize
     parts::put_line(c, line)
 }
 
-pub fn print(head: &[u8; 16], input: &[u8], out: &mut [u8]) -> bool
+pub fn print(head: &[u8; 20], input: &[u8], out: &mut [u8]) -> bool
     requires { ⌜ length (now out) ≤ 65536 ⌝ }
 {
     let what = parts::number(head, 0);

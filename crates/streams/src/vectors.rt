@@ -57,7 +57,7 @@ fn write(what: u32, f: [u32; 13], out: &mut [u8]) {
     }
 }
 
-pub fn print(head: &[u8; 16], input: &[u8], out: &mut [u8]) -> bool {
+pub fn print(head: &[u8; 20], input: &[u8], out: &mut [u8]) -> bool {
     let what = parts::number(head, 0);
     if 3 < what {
         return false;
