@@ -56,14 +56,6 @@ fn read_head(stream: Stream, head: &mut [u8]) -> usize
     }
 }
 
-// Whether the input and the output come whole.
-fn filled(input: &mut [u8], out: &mut [u8]) -> bool {
-    if io::read_full(STDIN_FILENO, input) < input.len() {
-        return false;
-    }
-    io::read_full(STDIN_FILENO, out) == out.len()
-}
-
 // The answer to a case, or false where it is none.
 fn answered(stream: Stream, head: &[u8; 20], input: &[u8], out: &mut [u8]) -> bool
     requires { ⌜ length (now out) ≤ 65536 ⌝ }
@@ -81,7 +73,10 @@ fn answered(stream: Stream, head: &[u8; 20], input: &[u8], out: &mut [u8]) -> bo
 fn read_case(stream: Stream, head: &[u8; 20], input: &mut [u8], out: &mut [u8]) -> bool
     requires { ⌜ length (now out) ≤ 65536 ⌝ }
 {
-    if !filled(input, out) {
+    if io::read_full(STDIN_FILENO, input) < input.len() {
+        return false;
+    }
+    if io::read_full(STDIN_FILENO, out) < out.len() {
         return false;
     }
     answered(stream, head, input, out)
