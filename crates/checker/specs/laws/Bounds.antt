@@ -27,19 +27,9 @@ use Rattle.sheet.specs.Exactly.{Cases, byFault, headerCases, recordCases}
 use Rattle.sheet.specs.laws.RecordExactly.{record-by-fields}
 use Rattle.checker.specs.declared.Entry.{Entry}
 use Rattle.checker.specs.Check.{_then_, demand, sheetHeader, sheetSize, headerFor, recordsPart, recordPart, partsFrom, soundAfter, recordsIn, Sheet, sheetIn, entryOf, verdicts, failures}
+use Rattle.checker.specs.Rows.{Row, RefusedBy, Refusable, Counts}
 use Rattle.checker.specs.laws.FrontLaws.{header-fits}
 use Rattle.checker.specs.laws.CheckLaws.{sheet-whole}
-
--- a number of the table, and a place within a sheet of the most records
-pub record Row (number place : ℕ) : Type 0 where
-  pub some : 1 ≤ number
-  pub last : number ≤ 9
-  pub inside : place < 32 * mostRecords
-
--- every refusal is one
-abbrev pub Refusable : {A : Type 0} → Answer A → Type 0
-Refusable (given a) = Unit
-Refusable (refused number place) = Row number place
 
 -- no field has a number past the last
 pub most : (ls : List Line) (vs : List ℕ) → length vs ≡ length ls → faultFrom 1 ls vs ≤ length ls
@@ -65,15 +55,22 @@ pub by-test : {A : Type 0} (t : Bool) (k p : ℕ) (x : Answer A) → Row k p →
 by-test true k p x r t = r
 by-test false k p x r t = t
 
-pub then-told : {A B : Type 0} (x : Answer A) (rest : A → Answer B) → Refusable x → ((a : A) → x ≡ given a → Refusable (rest a)) → Refusable (x then rest)
-unfolding _then_
-then-told (given a) rest t h = h a refl
-then-told (refused k p) rest t h = t
+-- of any rows
+module _ (P : ℕ → ℕ → Type 0) where
+  pub then-told : {A B : Type 0} (x : Answer A) (rest : A → Answer B) → RefusedBy P x → ((a : A) → x ≡ given a → RefusedBy P (rest a)) → RefusedBy P (x then rest)
+  unfolding _then_
+  then-told (given a) rest t h = h a refl
+  then-told (refused k p) rest t h = t
 
-pub demand-told : (t : Bool) (k : ℕ) → Row k 0 → Refusable (demand t k)
-unfolding demand
-demand-told true k r = tt
-demand-told false k r = r
+  pub demand-told : (t : Bool) (k : ℕ) → P k 0 → RefusedBy P (demand t k)
+  unfolding demand
+  demand-told true k r = tt
+  demand-told false k r = r
+
+  -- what is one of these is one of those
+  pub told-also : (Q : ℕ → ℕ → Type 0) {A : Type 0} (x : Answer A) → ((k p : ℕ) → P k p → Q k p) → RefusedBy P x → RefusedBy Q x
+  told-also Q (given a) f t = tt
+  told-also Q (refused k p) f t = f k p t
 
 pub read-header-told : (s : List ℕ) → Refusable (readHeader s)
 unfolding readHeader
@@ -110,7 +107,7 @@ record-told i s l =
 sound-told : (i before : ℕ) (b : List ℕ) → i < mostRecords → Refusable (soundAfter i before b)
 unfolding soundAfter
 sound-told i before b l =
-    then-told (readRecord i b) (λ r. cond (ltb before (r .id)) (given r) (refused 8 i)) (record-told i b l) (λ r e. go r (ltb before (r .id)))
+    then-told Row (readRecord i b) (λ r. cond (ltb before (r .id)) (given r) (refused 8 i)) (record-told i b l) (λ r e. go r (ltb before (r .id)))
   where
     go : (r : Record) (t : Bool) → Refusable (cond t (given r) (refused 8 i))
     go r true = tt
@@ -120,22 +117,22 @@ records-told : (s : List ℕ) (count i before : ℕ) → i + count ≤ mostRecor
 unfolding recordsIn partsFrom
 records-told s zero i before l = tt
 records-told s (suc count) i before l =
-    then-told (soundAfter i before (recordPart s i)) (λ r. recordsIn (i + 1) (r .id) (partsFrom s (i + 1) count) then λ rs. given (r ∷ rs))
+    then-told Row (soundAfter i before (recordPart s i)) (λ r. recordsIn (i + 1) (r .id) (partsFrom s (i + 1) count) then λ rs. given (r ∷ rs))
     (sound-told i before (recordPart s i) (omega arith))
-    (λ r e. then-told (recordsIn (i + 1) (r .id) (partsFrom s (i + 1) count)) (λ rs. given (r ∷ rs)) (records-told s count (i + 1) (r .id) (omega arith)) (λ rs q. tt))
+    (λ r e. then-told Row (recordsIn (i + 1) (r .id) (partsFrom s (i + 1) count)) (λ rs. given (r ∷ rs)) (records-told s count (i + 1) (r .id) (omega arith)) (λ rs q. tt))
 
 sheet-header-told : (s : List ℕ) → Refusable (sheetHeader s)
 unfolding sheetHeader
 sheet-header-told s =
-    then-told (readHeader s) (λ h. demand (not (tooSlender h)) 9 then λ u. given h) (read-header-told s)
-    (λ h e. then-told (demand (not (tooSlender h)) 9) (λ u. given h) (demand-told (not (tooSlender h)) 9 (row 9 0 (omega arith) (omega arith) (omega arith))) (λ u q. tt))
+    then-told Row (readHeader s) (λ h. demand (not (tooSlender h)) 9 then λ u. given h) (read-header-told s)
+    (λ h e. then-told Row (demand (not (tooSlender h)) 9) (λ u. given h) (demand-told Row (not (tooSlender h)) 9 (row 9 0 (omega arith) (omega arith) (omega arith))) (λ u q. tt))
 
 header-told : (s : List ℕ) (space : ℕ) → Refusable (headerFor s space)
 unfolding headerFor
 header-told s space =
-    then-told (sheetHeader s) (λ h. demand (eqb (length s) (sheetSize h)) 4 then λ u. demand (leb (4 * h .count) space) 5 then λ v. given h) (sheet-header-told s)
-    (λ h e. then-told (demand (eqb (length s) (sheetSize h)) 4) (λ u. demand (leb (4 * h .count) space) 5 then λ v. given h) (demand-told (eqb (length s) (sheetSize h)) 4 (row 4 0 (omega arith) (omega arith) (omega arith)))
-    (λ u q. then-told (demand (leb (4 * h .count) space) 5) (λ v. given h) (demand-told (leb (4 * h .count) space) 5 (row 5 0 (omega arith) (omega arith) (omega arith))) (λ v w. tt)))
+    then-told Row (sheetHeader s) (λ h. demand (eqb (length s) (sheetSize h)) 4 then λ u. demand (leb (4 * h .count) space) 5 then λ v. given h) (sheet-header-told s)
+    (λ h e. then-told Row (demand (eqb (length s) (sheetSize h)) 4) (λ u. demand (leb (4 * h .count) space) 5 then λ v. given h) (demand-told Row (eqb (length s) (sheetSize h)) 4 (row 4 0 (omega arith) (omega arith) (omega arith)))
+    (λ u q. then-told Row (demand (leb (4 * h .count) space) 5) (λ v. given h) (demand-told Row (leb (4 * h .count) space) 5 (row 5 0 (omega arith) (omega arith) (omega arith))) (λ v w. tt)))
 
 pub count-most : (s : List ℕ) (h : Header) → readHeader s ≡ given h → h .count ≤ mostRecords
 count-most s h e = header-ranges h (header-read-fine s h e) .count-few
@@ -144,8 +141,8 @@ count-most s h e = header-ranges h (header-read-fine s h e) .count-few
 pub sheet-told : (s : List ℕ) (space : ℕ) → Refusable (sheetIn s space)
 unfolding sheetIn
 sheet-told s space =
-    then-told (headerFor s space) (λ h. recordsIn 0 0 (partsFrom (recordsPart h s) 0 (h .count)) then λ rs. given (record { header = h; records = rs })) (header-told s space)
-    (λ h e. then-told (recordsIn 0 0 (partsFrom (recordsPart h s) 0 (h .count))) (λ rs. given (record { header = h; records = rs }))
+    then-told Row (headerFor s space) (λ h. recordsIn 0 0 (partsFrom (recordsPart h s) 0 (h .count)) then λ rs. given (record { header = h; records = rs })) (header-told s space)
+    (λ h e. then-told Row (recordsIn 0 0 (partsFrom (recordsPart h s) 0 (h .count))) (λ rs. given (record { header = h; records = rs }))
     (records-told (recordsPart h s) (h .count) 0 0 (omega (arith, count-most s h (header-fits s space h e .read)))) (λ rs q. tt))
 
 pub failures-most : (es : List Entry) → failures es ≤ length es
@@ -156,12 +153,6 @@ failures-most (e ∷ es) = go (eqb (e .rule) 0) (failures-most es)
     go : (t : Bool) → failures es ≤ length es → cond t 0 1 + failures es ≤ length (e ∷ es)
     go true l = omega arith
     go false l = omega arith
-
--- the counts of a sheet that is not turned away, in an output of so many bytes
-pub record Counts (space : ℕ) (t : Sheet) : Type 0 where
-  pub inside : 4 * t .header .count ≤ space
-  pub records : t .header .count ≤ mostRecords
-  pub failed : failures (verdicts t) ≤ mostRecords
 
 pub sheet-counts : (s : List ℕ) (space : ℕ) (t : Sheet) → sheetIn s space ≡ given t → Counts space t
 unfolding verdicts

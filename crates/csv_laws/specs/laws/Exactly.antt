@@ -24,7 +24,8 @@ use Rattle.text.specs.laws.LinesLaws.{valueIn}
 use Rattle.rows.specs.Rows.{lineBy, headerLine, recordLine}
 use Rattle.checker.specs.Check.{_then_, demand, Sheet}
 use Rattle.checker.specs.laws.ThenLaws.{then-given, By, first, later, by, refused-as, stays, demanded}
-use Rattle.checker.specs.laws.Bounds.{Refusable, sheet-told}
+use Rattle.checker.specs.Rows.{Refusable}
+use Rattle.checker.specs.laws.Bounds.{sheet-told}
 use Rattle.checker.specs.Unjudged.{room, soundSheet}
 use Rattle.checker.specs.laws.SheetRefusals.{never-5}
 use Rattle.csv.specs.Read.{nextLine, recordsMade, sheetMade, sheetFrom}

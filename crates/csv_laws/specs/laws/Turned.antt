@@ -27,7 +27,8 @@ use Rattle.checker.specs.Check.{_then_, demand, sheetSize, headerFor, Sheet, sh
 use Rattle.checker.specs.laws.FrontLaws.{header-length, header-good}
 use Rattle.checker.specs.laws.ThenLaws.{By, by, stays, demanded}
 use Rattle.checker.specs.laws.ThenLaws as T
-use Rattle.checker.specs.laws.Bounds.{Refusable, sheet-told}
+use Rattle.checker.specs.Rows.{Refusable}
+use Rattle.checker.specs.laws.Bounds.{sheet-told}
 use Rattle.checker.specs.Unjudged.{room, soundSheet}
 use Rattle.checker.specs.laws.SheetRefusals.{sheet-not, never-5, under, sheet-9}
 use Rattle.csv.specs.Read.{nextLine, recordsMade, sheetMade, sheetFrom}

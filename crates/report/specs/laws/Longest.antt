@@ -18,7 +18,8 @@ use Rattle.checker.specs.laws.CheckLaws.{sheet-whole}
 use Rattle.checker.specs.laws.Sound.{entry-sound}
 use Rattle.checker.specs.laws.Longer.{sheet-cut}
 use Rattle.sheet.specs.Versions.{enough}
-use Rattle.checker.specs.laws.Bounds.{Refusable, sheet-told, sheet-counts}
+use Rattle.checker.specs.Rows.{Refusable}
+use Rattle.checker.specs.laws.Bounds.{sheet-told, sheet-counts}
 use Rattle.report.specs.Text.{linesOf, printed, line, linesText, refusedWord, textBy, textOf}
 use Rattle.report.specs.laws.TextLaws.{pair-most, entry-most, lines-last}
 use Rattle.report.specs.declared.Told.{Told}

@@ -19,7 +19,8 @@ use Rattle.checker.specs.declared.Entry.{Entry}
 use Rattle.checker.specs.Entry.{verdictLines, verdictWidths, entryValues, entryAt, entryFault, entryIn, readEntry}
 use Rattle.checker.specs.Check.{sheetIn, failures, verdicts, Totals, answerOf}
 use Rattle.checker.specs.laws.CheckLaws.{answer-sheet}
-use Rattle.checker.specs.laws.Bounds.{Refusable, row, most, fault-told as fault-row, by-test, then-told, read-header-told as read-header-row, record-told as record-row, sheet-told, sheet-counts}
+use Rattle.checker.specs.Rows.{Row, Refusable}
+use Rattle.checker.specs.laws.Bounds.{told-also, row, most, fault-told as fault-row, by-test, then-told, read-header-told as read-header-row, record-told as record-row, sheet-told, sheet-counts}
 use Rattle.numbers.specs.From.{numbersFrom, namedSize, headerOfNumbers, headerFieldsOf, headerLinesOf, headerNumbersFault, plateNumbered, recordOfNumbers, plateFields, recordNumbersFault}
 use Rattle.numbers.specs.laws.Exactly.{same-header}
 use Rattle.yard.specs.laws.PackedLaws.{Told, Answered}
@@ -27,8 +28,7 @@ use Rattle.yard.specs.Writing.{writeHeaderNumbers, writeRecordNumbers}
 
 -- a row of the table has a number, and its place is far below the unit of numbers
 row-told : {A : Type 0} (x : Answer A) → Refusable x → Told x
-row-told (given a) r = tt
-row-told (refused k p) r = (omega (arith, r .some), omega (arith, r .inside))
+row-told x t = told-also Row _ x (λ k p r. (omega (arith, r .some), omega (arith, r .inside))) t
 
 -- ---- readers
 
@@ -89,7 +89,7 @@ unfolding answerOf
 check-answered s room = go (answerOf s room) refl
   where
     told : Refusable (answerOf s room)
-    told = then-told (sheetIn s room) (λ t. given (record { n = t .header .count; failed = failures (verdicts t) })) (sheet-told s room) (λ t e. tt)
+    told = then-told Row (sheetIn s room) (λ t. given (record { n = t .header .count; failed = failures (verdicts t) })) (sheet-told s room) (λ t e. tt)
 
     go : (a : Answer Totals) → answerOf s room ≡ a → Answered a
     go (given w) e =

@@ -15,10 +15,11 @@ use Rattle.sheet.specs.laws.VersionLaws.{regular}
 use Rattle.sheet.specs.Refusals.{Answer, given, refused}
 use Rattle.sheet.specs.laws.RefusalLaws.{given-same}
 use Rattle.sheet.specs.laws.HeaderLaws.{header-ranges}
-use Rattle.checker.specs.Check.{_then_, demand, Sheet, sheetIn, recordsPart}
+use Rattle.checker.specs.Check.{demand, Sheet, sheetIn, recordsPart}
 use Rattle.checker.specs.laws.ThenLaws.{then-given}
-use Rattle.checker.specs.laws.Bounds.{Refusable, sheet-told}
-use Rattle.checker.specs.Unjudged.{room, soundSheet, soundHeader}
+use Rattle.checker.specs.Rows.{Row, RefusedBy, Refusable}
+use Rattle.checker.specs.laws.Bounds.{then-told, demand-told, told-also, sheet-told}
+use Rattle.checker.specs.Unjudged.{room, soundSheet}
 use Rattle.fields.specs.Lines.{Lines, none, bad, row, linesIn}
 use Rattle.text.specs.laws.LinesLaws.{valueIn}
 use Rattle.rows.specs.Pack.{below, powers}
@@ -34,23 +35,14 @@ use Rattle.yard.specs.laws.PackedLaws.{TextRow, longestText, Converted}
 
 -- every refusal is a row
 abbrev Rowed : {A : Type 0} → Answer A → Type 0
-Rowed (given a) = Unit {0}
-Rowed (refused k p) = TextRow k p
+Rowed x = RefusedBy TextRow x
 
 -- the table's own are
 of-table : {A : Type 0} (x : Answer A) → Refusable x → Rowed x
-of-table (given a) r = tt
-of-table (refused k p) r = record { some = r .some; last = omega (arith, r .last); inside = omega (arith, r .inside) }
-
-then-rowed : {A B : Type 0} (x : Answer A) (rest : A → Answer B) → Rowed x → ((a : A) → Rowed (rest a)) → Rowed (x then rest)
-unfolding _then_
-then-rowed (given a) rest r h = h a
-then-rowed (refused k p) rest r h = r
+of-table x t = told-also Row TextRow x (λ k p r. record { some = r .some; last = omega (arith, r .last); inside = omega (arith, r .inside) }) t
 
 five-rowed : (t : Bool) → Rowed (demand t 5)
-unfolding demand
-five-rowed true = tt
-five-rowed false = record { some = omega arith; last = omega arith; inside = omega arith }
+five-rowed t = demand-told TextRow t 5 (record { some = omega arith; last = omega arith; inside = omega arith })
 
 sound-rowed : (s : List ℕ) → Rowed (soundSheet s)
 unfolding soundSheet
@@ -93,26 +85,26 @@ unfolding recordsMade
 records-rowed p none l = tt
 records-rowed p bad l = quotes-rowed p l
 records-rowed p (row fs ls) l =
-    then-rowed (recordLine p (length fs) (map valueIn fs)) _ (record-rowed p (length fs) (map valueIn fs) l)
-    (λ b. then-rowed (recordsMade (nextLine p) ls) _ (records-rowed (nextLine p) ls (next-inside p l)) (λ bs. tt))
+    then-told TextRow (recordLine p (length fs) (map valueIn fs)) _ (record-rowed p (length fs) (map valueIn fs) l)
+    (λ b e. then-told TextRow (recordsMade (nextLine p) ls) _ (records-rowed (nextLine p) ls (next-inside p l)) (λ bs e. tt))
 
 made-rowed : (ls : Lines) → Rowed (sheetMade ls)
 unfolding sheetMade
 made-rowed none = quotes-rowed 1 (omega arith)
 made-rowed bad = quotes-rowed 1 (omega arith)
 made-rowed (row fs ls) =
-    then-rowed (headerLine 1 (length fs) (map valueIn fs)) _ (header-rowed 1 (length fs) (map valueIn fs) (omega arith))
-    (λ b. then-rowed (recordsMade 2 ls) _ (records-rowed 2 ls (omega arith)) (λ bs. tt))
+    then-told TextRow (headerLine 1 (length fs) (map valueIn fs)) _ (header-rowed 1 (length fs) (map valueIn fs) (omega arith))
+    (λ b e. then-told TextRow (recordsMade 2 ls) _ (records-rowed 2 ls (omega arith)) (λ bs e. tt))
 
 read-rowed : (s : List ℕ) (room : ℕ) → Rowed (sheetFrom s room)
 unfolding sheetFrom
 read-rowed s room =
-    then-rowed (sheetMade (linesIn s)) _ (made-rowed (linesIn s))
-    (λ b. then-rowed (soundSheet b) _ (sound-rowed b) (λ t. then-rowed (demand (leb (length b) room) 5) _ (five-rowed (leb (length b) room)) (λ u. tt)))
+    then-told TextRow (sheetMade (linesIn s)) _ (made-rowed (linesIn s))
+    (λ b e. then-told TextRow (soundSheet b) _ (sound-rowed b) (λ t e. then-told TextRow (demand (leb (length b) room) 5) _ (five-rowed (leb (length b) room)) (λ u e. tt)))
 
 write-rowed : (s : List ℕ) (room : ℕ) → Rowed (textFrom s room)
 unfolding textFrom
-write-rowed s room = then-rowed (soundSheet s) _ (sound-rowed s) (λ t. then-rowed (demand (leb (length (textOf t)) room) 5) _ (five-rowed (leb (length (textOf t)) room)) (λ u. tt))
+write-rowed s room = then-told TextRow (soundSheet s) _ (sound-rowed s) (λ t e. then-told TextRow (demand (leb (length (textOf t)) room) 5) _ (five-rowed (leb (length (textOf t)) room)) (λ u e. tt))
 
 -- ---- lengths
 

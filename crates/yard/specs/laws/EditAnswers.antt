@@ -18,7 +18,8 @@ use Rattle.numbers.specs.From.{recordOfNumbers, recordNumbersFault, recordFrom}
 use Rattle.numbers.specs.laws.Back.{record-numbers-same}
 use Rattle.checker.specs.Check.{_then_, demand, Sheet, sheetIn}
 use Rattle.checker.specs.laws.ThenLaws.{then-given}
-use Rattle.checker.specs.laws.Bounds.{Refusable, sheet-told}
+use Rattle.checker.specs.Rows.{Row, RefusedBy, Refusable}
+use Rattle.checker.specs.laws.Bounds.{then-told, demand-told, told-also, sheet-told}
 use Rattle.checker.specs.Unjudged.{room, soundSheet}
 use Rattle.keyed.specs.Keyed.{positionOf, hasOf}
 use Rattle.edit.specs.Edit.{sheetAt, headerOf, idOf, counting, replacing, inserting, After, hasRoom, placing, putIn, putNumbersIn, removeIn, sizeBy}
@@ -31,23 +32,14 @@ use Rattle.yard.specs.laws.Answers.{record-numbers-most}
 
 -- every refusal is a row
 abbrev Rowed : {A : Type 0} → Answer A → Type 0
-Rowed (given a) = Unit {0}
-Rowed (refused k p) = EditRow k p
+Rowed x = RefusedBy EditRow x
 
 -- the table's own are
 of-table : {A : Type 0} (x : Answer A) → Refusable x → Rowed x
-of-table (given a) r = tt
-of-table (refused k p) r = record { some = r .some; last = omega (arith, r .last); inside = omega (arith, r .inside) }
-
-then-rowed : {A B : Type 0} (x : Answer A) (rest : A → Answer B) → Rowed x → ((a : A) → x ≡ given a → Rowed (rest a)) → Rowed (x then rest)
-unfolding _then_
-then-rowed (given a) rest r h = h a refl
-then-rowed (refused k p) rest r h = r
+of-table x t = told-also Row EditRow x (λ k p r. record { some = r .some; last = omega (arith, r .last); inside = omega (arith, r .inside) }) t
 
 demand-rowed : (t : Bool) (k : ℕ) → 1 ≤ k → k ≤ 11 → Rowed (demand t k)
-unfolding demand
-demand-rowed true k l m = tt
-demand-rowed false k l m = record { some = l; last = m; inside = omega arith }
+demand-rowed t k l m = demand-told EditRow t k (record { some = l; last = m; inside = omega arith })
 
 -- 6 and 7 on a record that is not in the sheet yet, and so may be one more than the most
 record-rowed : {A : Type 0} (i f : ℕ) (x : Answer A) → i ≤ mostRecords → f ≤ 13 → Rowed x → Rowed (recordRefused i f x)
@@ -62,7 +54,7 @@ module _ (b : List ℕ) (len : ℕ) where
   sheet-rowed : Rowed (sheetAt b len)
   unfolding sheetAt soundSheet
   sheet-rowed =
-      then-rowed (demand (leb len (length b)) 1) (λ u. sheetIn (take len b) room) (demand-rowed (leb len (length b)) 1 (omega arith) (omega arith))
+      then-told EditRow (demand (leb len (length b)) 1) (λ u. sheetIn (take len b) room) (demand-rowed (leb len (length b)) 1 (omega arith) (omega arith))
       (λ u e. of-table (sheetIn (take len b) room) (sheet-told (take len b) room))
 
   few : (t : Sheet) → sheetAt b len ≡ given t → t .header .count ≤ mostRecords
@@ -77,7 +69,7 @@ module _ (b : List ℕ) (len : ℕ) where
 
   header-rowed : Rowed (headerOf b len)
   unfolding headerOf
-  header-rowed = then-rowed (sheetAt b len) (λ t. given (t .header)) sheet-rowed (λ t e. tt)
+  header-rowed = then-told EditRow (sheetAt b len) (λ t. given (t .header)) sheet-rowed (λ t e. tt)
 
   placing-rowed : (t : Sheet) (r : Record) → Rowed (placing t b len r)
   unfolding placing
@@ -92,29 +84,29 @@ module _ (b : List ℕ) (len : ℕ) where
       go : (has : Bool) → Rowed {A = After} (cond has (given (record { size = len; bytes = replacing h i r b }))
           (demand (hasRoom h len (length b)) 11 then λ u. given (record { size = len + 16; bytes = inserting (counting (h .count + 1) h) i len r b })))
       go true = tt
-      go false = then-rowed (demand (hasRoom h len (length b)) 11) _ (demand-rowed (hasRoom h len (length b)) 11 (omega arith) (omega arith)) (λ u e. tt)
+      go false = then-told EditRow (demand (hasRoom h len (length b)) 11) _ (demand-rowed (hasRoom h len (length b)) 11 (omega arith) (omega arith)) (λ u e. tt)
 
   -- a sound record
   put-rowed : (r : Record) → recordFault r 0 ≡ 0 → Rowed (putIn b len r)
   unfolding putIn
   put-rowed r z =
-      then-rowed (sheetAt b len) (λ t. recordRefused (t .header .count) (recordFault r 0) (given (tt {0})) then λ u. placing t b len r) sheet-rowed
-      (λ t e. then-rowed (recordRefused (t .header .count) (recordFault r 0) (given (tt {0}))) (λ u. placing t b len r)
+      then-told EditRow (sheetAt b len) (λ t. recordRefused (t .header .count) (recordFault r 0) (given (tt {0})) then λ u. placing t b len r) sheet-rowed
+      (λ t e. then-told EditRow (recordRefused (t .header .count) (recordFault r 0) (given (tt {0}))) (λ u. placing t b len r)
       (record-rowed (t .header .count) (recordFault r 0) (given (tt {0})) (few t e) (omega arith) tt) (λ u f. placing-rowed t r))
 
   numbers-rowed : (ns : List ℕ) → Rowed (putNumbersIn b len ns)
   unfolding putNumbersIn recordFrom
   numbers-rowed ns =
-      then-rowed (headerOf b len) (λ h. recordFrom (h .count) ns then λ r. putIn b len r) header-rowed
-      (λ h e. then-rowed (recordFrom (h .count) ns) (λ r. putIn b len r)
+      then-told EditRow (headerOf b len) (λ h. recordFrom (h .count) ns then λ r. putIn b len r) header-rowed
+      (λ h e. then-told EditRow (recordFrom (h .count) ns) (λ r. putIn b len r)
       (record-rowed (h .count) (recordNumbersFault ns) (given (recordOfNumbers ns)) (header-few h e) (record-numbers-most ns) tt)
       (λ r f. put-rowed r (record-numbers-same (h .count) ns r f .0)))
 
   remove-rowed : (id : ℕ) → Rowed (removeIn b len id)
   unfolding removeIn
   remove-rowed id =
-      then-rowed (sheetAt b len) _ sheet-rowed
-      (λ t e. then-rowed (demand (hasOf idOf id (t .records)) 10) _ (demand-rowed (hasOf idOf id (t .records)) 10 (omega arith) (omega arith)) (λ u f. tt))
+      then-told EditRow (sheetAt b len) _ sheet-rowed
+      (λ t e. then-told EditRow (demand (hasOf idOf id (t .records)) 10) _ (demand-rowed (hasOf idOf id (t .records)) 10 (omega arith) (omega arith)) (λ u f. tt))
 
 -- ---- lengths
 

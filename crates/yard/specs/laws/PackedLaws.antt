@@ -6,14 +6,14 @@ use native.Mathlib.Omega.{arith}
 use Rattle.sheet.specs.Versions.{mostRecords, longestSheet}
 use Rattle.sheet.specs.Refusals.{Answer, given, refused}
 use Rattle.checker.specs.Check.{Totals}
+use Rattle.checker.specs.Rows.{RefusedBy}
 use Rattle.csv.specs.Steps.{longestLine}
 use Rattle.yard.specs.Packed.{numberUnit, packed, fine}
 use Rattle.yard.specs.Editing.{resized}
 
 -- the ranges that refusals have: the number is at least 1, and the place stays clear of it
 abbrev pub Told : {A : Type 0} → Answer A → Type 0
-Told (given a) = Unit {0}
-Told (refused k p) = (0 < k) × (p < numberUnit)
+Told x = RefusedBy (λ (k p : ℕ). (0 < k) × (p < numberUnit)) x
 
 -- and those of a check's answer: what is given stays clear of the number of a refusal
 abbrev pub Answered : Answer Totals → Type 0
