@@ -4,7 +4,7 @@ use mathlib.Core.Path.{_≡_}
 use mathlib.Core.Bool.{true, false, cond}
 use mathlib.Core.List.{List}
 use lib.ListN.{length, drop}
-use lib.Dec.{eqb}
+use lib.Dec.{ltb, eqb}
 use Rattle.sheet.specs.Exactly.{Exactly}
 use Rattle.hull.specs.Hull.{finding}
 use Rattle.hull.specs.Raising.{putRecord, InGauge}
@@ -12,7 +12,7 @@ use Rattle.checker.specs.declared.Entry.{Entry}
 use Rattle.checker.specs.declared.Checked.the-variants.{Done}
 use Rattle.checker.specs.Entry.{entryBytes}
 use Rattle.checker.specs.Check.{entryWith, fourAt}
-use Rattle.demands.specs.Table.{headSize, countOf, idOf, HeaderSound, TooSlender, Row, Accepted}
+use Rattle.demands.specs.Table.{headSize, countOf, kindOf, idOf, HeaderSound, TooSlender, Row, Accepted}
 use Rattle.demands.specs.Program.{Program, Refuses, Leaves}
 use Rattle.demands.specs.Raise.{theHeader, theRecord, withScantling, Reaches, meetsRule, raisedTimes}
 
@@ -45,6 +45,20 @@ abbrev pub failedFrom : List ℕ → (i count : ℕ) → ℕ
 failedFrom s i zero = 0
 failedFrom s i (suc count) = cond (eqb (entryOn s i .rule) 0) 0 1 + failedFrom s (i + 1) count
 
+-- the first of the three rules that record i answers to: 1 up to kind 4, which are plates, else 4
+abbrev pub firstRule : List ℕ → (i : ℕ) → ℕ
+firstRule s i = cond (ltb (kindOf s i) 5) 1 4
+
+-- rule k is one of the three
+abbrev pub AnswersTo : List ℕ → (i k : ℕ) → Type 0
+AnswersTo s i k = (firstRule s i ≤ k) × (k ≤ firstRule s i + 2)
+
+-- rule k is the first of them that it does not meet
+pub record FirstUnmet (s : List ℕ) (i k : ℕ) : Type 0 where
+  pub own : AnswersTo s i k
+  pub unmet : meetsRule s i k ≡ false
+  pub earlier : (j : ℕ) → AnswersTo s i j → j < k → meetsRule s i j ≡ true
+
 -- 2. Each verdict is the rules' own: for every sheet that is answered with n and a number of failed records
 pub record Second (P : Program) (s out : List ℕ) (n failed : ℕ) : Type 0 where
   -- n is the header's
@@ -52,6 +66,9 @@ pub record Second (P : Program) (s out : List ℕ) (n failed : ℕ) : Type 0 whe
   -- the four bytes at 4i are those of the verdict on record i, for every i below n, and are read as it
   pub verdict-bytes : (i : ℕ) → i < n → fourAt i (P .after s out) ≡ entryBytes (entryOn s i)
   pub verdict-of-record : (i : ℕ) → i < n → Leaves P s out i (entryOn s i)
+  -- the rule that is read at 4i is 0 exactly when the record meets every rule that it answers to, and else k exactly when k is the first that it does not meet
+  pub passes-exactly : (i : ℕ) (e : Entry) → i < n → Leaves P s out i e → Exactly (e .rule ≡ 0) ((k : ℕ) → AnswersTo s i k → meetsRule s i k ≡ true)
+  pub fails-exactly : (i k : ℕ) (e : Entry) → i < n → Leaves P s out i e → 1 ≤ k → Exactly (e .rule ≡ k) (FirstUnmet s i k)
   -- the failure count is the number of verdicts with a rule
   pub counted : failed ≡ failedFrom s 0 n
   -- every other byte is as it was lent

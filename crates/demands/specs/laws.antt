@@ -3,6 +3,7 @@ pub mod Cases
 pub mod Example
 pub mod Exchange
 pub mod FieldsRead
+pub mod FirstUnmet
 pub mod FrontRows
 pub mod Only
 pub mod Proved

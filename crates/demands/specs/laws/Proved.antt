@@ -36,6 +36,7 @@ use Rattle.demands.specs.Program.{Program, Meets, Leaves}
 use Rattle.demands.specs.Raise.{theHeader, theRecord, replaced, withScantling, Reaches, meetsRule, raisedBy, raisedTimes}
 use Rattle.demands.specs.Demands.{Covered, accepted, turned-away, First, entryOn, failedFrom, Second, Later, passed, above, Third, Settled, passes, none-meets, ThreeRaisings, Demands}
 use Rattle.demands.specs.laws.FieldsRead.{recordsOf, records-read, record-sound, record-id-field}
+use Rattle.demands.specs.laws.FirstUnmet.{rule-passes, rule-fails}
 use Rattle.demands.specs.laws.Rows as rows
 use Rattle.demands.specs.laws.Scantling.{rule-above, named-own, number-in-gauge, met-exactly, later-exactly}
 use Rattle.demands.specs.laws.Exchange as exchange
@@ -115,6 +116,16 @@ module _ (P : Program) (meets : Meets P) where
 
   -- ---- demand 2
 
+  -- what is read at 4i
+  module _ (s out : List ℕ) (t : Sheet) (given-t : sheetIn s (length out) ≡ given t) (i : ℕ) (inside : i < t .header .count) where
+    verdict-left : Leaves P s out i (entryOn s i)
+    verdict-left =
+        let r = record-given s out t given-t i inside in
+        ap (λ (o : List ℕ). readEntry (fourAt i o)) (left s out) ∙ verdict-read s out t given-t i inside (r .0) (r .1) ∙ ap given (entry-is s out t given-t i (r .0) (r .1))
+
+    rule-left : (f : Entry) → Leaves P s out i f → f .rule ≡ verdict (theHeader s) (theRecord s i) .rule
+    rule-left f leaves = ap (λ (x : Entry). x .rule) (given-same (sym leaves ∙ verdict-left))
+
   pub second-demand : (s out : List ℕ) (n failed : ℕ) → P .answer s out ≡ Done n failed → Second P s out n failed
   second-demand s out n failed e =
       let q = answer-sheet s (length out) (record { n = n; failed = failed }) (done-given s out n failed e) in
@@ -125,9 +136,9 @@ module _ (P : Program) (meets : Meets P) where
         verdict-bytes = λ i l.
             let r = record-given s out t (q .1) i (omega arith) in
             ap (fourAt i) (left s out) ∙ verdict-at s out t (q .1) i (omega arith) (r .0) (r .1) ∙ ap entryBytes (entry-is s out t (q .1) i (r .0) (r .1));
-        verdict-of-record = λ i l.
-            let r = record-given s out t (q .1) i (omega arith) in
-            ap (λ (o : List ℕ). readEntry (fourAt i o)) (left s out) ∙ verdict-read s out t (q .1) i (omega arith) (r .0) (r .1) ∙ ap given (entry-is s out t (q .1) i (r .0) (r .1));
+        verdict-of-record = λ i l. verdict-left s out t (q .1) i (omega arith);
+        passes-exactly = λ i f l leaves. exactly-of (rule-left s out t (q .1) i (omega arith) f leaves) (rule-passes s i);
+        fails-exactly = λ i k f l leaves from. exactly-of (rule-left s out t (q .1) i (omega arith) f leaves) (rule-fails s i k from);
         counted = ap (λ (w : Totals). w .failed) (q .2) ∙ all-failures s out t (q .1) ∙ ap (failedFrom s 0) (sym count);
         others-as-lent = ap (drop (4 * n)) (left s out) ∙ subst (λ (m : ℕ). drop (4 * m) (outputOf s out) ≡ drop (4 * m) out) (sym count) (rest-as-lent s out t (q .1));
         same-length = ap length (left s out) ∙ output-length s out t (q .1);
