@@ -1,5 +1,5 @@
 -- The demands say all: two programs that meet them answer every sheet alike and leave every output alike, and a program that meets them meets the promise of
--- `check`.
+-- `check`; so does a single call exactly where it does what such a program does.
 -- Assumes nothing.
 use Prim.Native.Nat.{ℕ, zero, suc, _+_, _*_, _<_}
 use mathlib.Core.Path.{_≡_, sym, ap, ap₂, _∙_}
@@ -7,11 +7,13 @@ use mathlib.Core.List.{List, _++_}
 use native.Mathlib.Omega.{arith}
 use lib.ListN.{length, drop, take-append-drop}
 use lib.Seq.{drop-drop}
+use Rattle.sheet.specs.Exactly.{Exactly}
 use Rattle.sheet.specs.Refusals.{refused}
 use Rattle.sheet.specs.laws.RefusalLaws.{refusal-only, given-refused, refused-number, refused-place}
 use Rattle.checker.specs.declared.Checked.{Checked}
 use Rattle.checker.specs.declared.Checked.the-variants.{Done, Refused as notDone}
-use Rattle.checker.specs.Check.{toldChecked, fourAt}
+use Rattle.checker.specs.Check.{toldChecked, fourAt, Checks}
+use Rattle.checker.specs.laws.Only.{check-only}
 use Rattle.demands.specs.Program.{Program, Meets}
 use Rattle.demands.specs.Demands.{Covered, accepted, turned-away, failedFrom, Demands}
 use Rattle.demands.specs.EmptyPrograms.{checker}
@@ -57,3 +59,12 @@ pub demands-say-all : (P : Program) → Demands P → Meets P
 demands-say-all P d s out =
     let o = demands-only P checker d checker-demands s out in
     record { answer = ap (λ (c : Checked). toldChecked c) (o .0) ∙ checker-meets s out .answer; bytes = o .1 ∙ checker-meets s out .bytes }
+
+-- one call of `check`, on one sheet and one output: its answer and the bytes that it leaves meet the promise exactly when they are those of a program that meets
+-- the demands, whichever that is. So the demands on that program, of which there is one, are on every call
+pub each-call : (P : Program) → Demands P → (s out : List ℕ) (c : Checked) (after : List ℕ) → Exactly (Checks s out c after) ((c ≡ P .answer s out) × (after ≡ P .after s out))
+each-call P d s out c after =
+    let own = demands-say-all P d s out in (
+      λ m. check-only s out c (P .answer s out) after (P .after s out) m own,
+      λ e. record { answer = ap (λ (x : Checked). toldChecked x) (e .0) ∙ own .answer; bytes = e .1 ∙ own .bytes },
+    )
