@@ -4,6 +4,7 @@ pub mod Program
 pub mod Raise
 pub mod Demands
 pub mod Sources
+pub mod Printed
 pub mod BeforeVersion2
 pub mod Empty
 pub mod EmptyPrograms

@@ -6,6 +6,7 @@ pub mod FieldsRead
 pub mod FirstUnmet
 pub mod FrontRows
 pub mod Only
+pub mod PrintedProved
 pub mod Proved
 pub mod Replace
 pub mod Rows

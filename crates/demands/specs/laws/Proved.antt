@@ -48,7 +48,7 @@ pub given-fits : (s : List ℕ) (room : ℕ) (w : Totals) → answerOf s room �
 given-fits s room w e = let q = answer-sheet s room w e in rows.given-accepted s room (q .0) (q .1) .0
 
 module _ (s out : List ℕ) (t : Sheet) (given-t : sheetIn s (length out) ≡ given t) where
-  header-is : theHeader s ≡ t .header
+  pub header-is : theHeader s ≡ t .header
   header-is = rows.given-accepted s (length out) t given-t .1
 
   -- the bytes of its records
@@ -59,7 +59,7 @@ module _ (s out : List ℕ) (t : Sheet) (given-t : sheetIn s (length out) ≡ gi
   all-records = records-read s (t .header) (sheet-whole s (length out) t given-t .header .read)
 
   -- the verdict that the promise writes for a record is the one on its fields
-  entry-is : (i : ℕ) (r : Record) → recordOf kept i ≡ given r → entryOf (t .header) r ≡ entryOn s i
+  pub entry-is : (i : ℕ) (r : Record) → recordOf kept i ≡ given r → entryOf (t .header) r ≡ entryOn s i
   unfolding entryOf
   entry-is i r e =
       ap₂ entryOf (sym header-is) (sym (record-sound s kept all-records i r e .1))
@@ -71,7 +71,7 @@ module _ (s out : List ℕ) (t : Sheet) (given-t : sheetIn s (length out) ≡ gi
   failures-from i before (r ∷ rs) (next e l u) =
       ap₂ (λ (x : Entry) (n : ℕ). cond (eqb (x .rule) 0) 0 1 + n) (entry-is i r e) (failures-from (i + 1) (r .id) rs u)
 
-  all-failures : failures (verdicts t) ≡ failedFrom s 0 (t .header .count)
+  pub all-failures : failures (verdicts t) ≡ failedFrom s 0 (t .header .count)
   unfolding verdicts
   all-failures = let w = sheet-whole s (length out) t given-t in failures-from 0 0 (t .records) (w .records) ∙ ap (failedFrom s 0) (w .number)
 
