@@ -1,3 +1,4 @@
 pub mod Form
 pub mod Faults
+pub mod Variants
 pub mod laws

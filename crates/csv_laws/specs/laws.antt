@@ -1,4 +1,5 @@
 -- What is proved of the definitions.
+pub mod Accepted
 mod Cases
 pub mod Exactly
 pub mod LinesBack

@@ -1,7 +1,8 @@
 -- What some texts are read as, and what they are turned away with: of each statement a case in which its premise holds.
 -- Assumes nothing.
 use mathlib.Core.Path.{_≡_, refl}
-use mathlib.Core.List.{List, [], _∷_}
+use mathlib.Core.Bool.{true, false}
+use mathlib.Core.List.{List, [], _∷_, map}
 use Prim.Native.Nat.{ℕ}
 use Rattle.sheet.specs.Refusals.{given, refused}
 use Rattle.sheet.specs.Header.{rawFault}
@@ -13,11 +14,13 @@ use Rattle.fields.specs.Marks.{outside, marksAt}
 use Rattle.fields.specs.Lines.{linesOf, linesAt}
 use Rattle.rows.specs.Pack.{below}
 use Rattle.rows.specs.Rows.{headerLine, recordLine}
+use Rattle.checker.specs.Check.{Sheet}
 use Rattle.checker.specs.laws.Computing.{reading}
 use Rattle.checker.specs.Unjudged.{soundSheet}
 use Rattle.csv.specs.Read.{recordsMade, sheetMade, sheetFrom}
 use Rattle.csv.specs.Write.{linesText, textOf, textFrom}
 use Rattle.csv_laws.specs.Form.{fieldsText, formOf, writtenForm}
+use Rattle.csv_laws.specs.Variants.{Line, doubled as twice, cellsText, spelling, Variant}
 
 -- all that reading a text computes with, under one name for an `unfolding` line
 converting : Type 0
@@ -46,6 +49,28 @@ sheet-written = refl
 other-read : (sheetFrom other 44 ≡ given sheet) × (writtenForm other ≡ text)
 unfolding converting fieldsText formOf
 other-read = (refl, refl)
+
+-- the same with every field in quotes, LF alone, and nothing behind the last line
+abbrev inQuotes : List ℕ → Line
+inQuotes ns = record { cells = map (λ (n : ℕ). record { bytes = decimalOf n; quoted = true }) ns; both = false }
+
+abbrev quotedLines : List Line
+quotedLines = map inQuotes ((1 ∷ 8000 ∷ 250 ∷ 60 ∷ 0 ∷ 20000 ∷ 200000 ∷ 2 ∷ []) ∷ (2 ∷ 7 ∷ 1000 ∷ 0 ∷ 500 ∷ 600 ∷ 0 ∷ 0 ∷ 0 ∷ 0 ∷ 0 ∷ []) ∷ (5 ∷ 12 ∷ 0 ∷ 500 ∷ 300 ∷ 420 ∷ 100 ∷ 100 ∷ 90 ∷ 50 ∷ 560 ∷ 168 ∷ 1000 ∷ []) ∷ [])
+
+abbrev pub quoted : List ℕ
+quoted = 34 ∷ 49 ∷ 34 ∷ 44 ∷ 34 ∷ 56 ∷ 48 ∷ 48 ∷ 48 ∷ 34 ∷ 44 ∷ 34 ∷ 50 ∷ 53 ∷ 48 ∷ 34 ∷ 44 ∷ 34 ∷ 54 ∷ 48 ∷ 34 ∷ 44 ∷ 34 ∷ 48 ∷ 34 ∷ 44 ∷ 34 ∷ 50 ∷ 48 ∷ 48 ∷ 48 ∷ 48 ∷ 34 ∷ 44 ∷ 34 ∷ 50 ∷ 48 ∷ 48 ∷ 48 ∷ 48 ∷ 48 ∷ 34 ∷ 44 ∷ 34 ∷ 50 ∷ 34 ∷ 10 ∷ 34 ∷ 50 ∷ 34 ∷ 44 ∷ 34 ∷ 55 ∷ 34 ∷ 44 ∷ 34 ∷ 49 ∷ 48 ∷ 48 ∷ 48 ∷ 34 ∷ 44 ∷ 34 ∷ 48 ∷ 34 ∷ 44 ∷ 34 ∷ 53 ∷ 48 ∷ 48 ∷ 34 ∷ 44 ∷ 34 ∷ 54 ∷ 48 ∷ 48 ∷ 34 ∷ 44 ∷ 34 ∷ 48 ∷ 34 ∷ 44 ∷ 34 ∷ 48 ∷ 34 ∷ 44 ∷ 34 ∷ 48 ∷ 34 ∷ 44 ∷ 34 ∷ 48 ∷ 34 ∷ 44 ∷ 34 ∷ 48 ∷ 34 ∷ 10 ∷ 34 ∷ 53 ∷ 34 ∷ 44 ∷ 34 ∷ 49 ∷ 50 ∷ 34 ∷ 44 ∷ 34 ∷ 48 ∷ 34 ∷ 44 ∷ 34 ∷ 53 ∷ 48 ∷ 48 ∷ 34 ∷ 44 ∷ 34 ∷ 51 ∷ 48 ∷ 48 ∷ 34 ∷ 44 ∷ 34 ∷ 52 ∷ 50 ∷ 48 ∷ 34 ∷ 44 ∷ 34 ∷ 49 ∷ 48 ∷ 48 ∷ 34 ∷ 44 ∷ 34 ∷ 49 ∷ 48 ∷ 48 ∷ 34 ∷ 44 ∷ 34 ∷ 57 ∷ 48 ∷ 34 ∷ 44 ∷ 34 ∷ 53 ∷ 48 ∷ 34 ∷ 44 ∷ 34 ∷ 53 ∷ 54 ∷ 48 ∷ 34 ∷ 44 ∷ 34 ∷ 49 ∷ 54 ∷ 56 ∷ 34 ∷ 44 ∷ 34 ∷ 49 ∷ 48 ∷ 48 ∷ 48 ∷ 34 ∷ []
+
+quoted-spelled : spelling false quotedLines ≡ quoted
+unfolding digitsIn decimalOf twice cellsText spelling
+quoted-spelled = refl
+
+quoted-variant : (t : Sheet) × (soundSheet sheet ≡ given t) × Variant t quotedLines
+unfolding converting
+quoted-variant = (_, refl, refl)
+
+quoted-read : sheetFrom quoted 44 ≡ given sheet
+unfolding converting
+quoted-read = refl
 
 -- a byte less
 no-room : (sheetFrom text 43 ≡ refused 5 0) × (textFrom sheet 108 ≡ refused 5 0)

@@ -1,94 +1,135 @@
--- Lines of numbers that were written are read as those lines: a field for each number, with its digits.
+-- A text written field by field is read as its lines: quotes are taken away and doubled ones halved, LF and CR LF end a line, and the last end may be missing.
 -- Assumes nothing.
 use Prim.Native.Nat.{ℕ, _+_, _≤_}
 use mathlib.Core.Path.{_≡_, refl, sym, ap, subst, _∙_}
+use mathlib.Core.Bool.{Bool, true, false, cond}
 use mathlib.Core.List.{List, [], _∷_, _++_, map, append-assoc}
 use native.Mathlib.Omega.{arith}
 use lib.ListN.{length}
-use borrow.Author.Tests.{ne-eqb}
-use Rattle.decimal.specs.Decimal.{decimalOf}
-use Rattle.decimal.specs.laws.DecimalLaws.{Digits, none, next, decimal-digits, decimal-some}
-use Rattle.decimal.specs.Line.{lineOf, moreOf}
-use Rattle.fields.specs.Marks.{Marks, seen, outside, marksAt}
+use lib.Dec.{eqb}
+use borrow.Author.Tests.{ne-eqb, eqb-true}
+use Rattle.fields.specs.Marks.{Marks, seen, outside, inside, marksAt}
 use Rattle.fields.specs.Lines.{Lines, row, onto, ontoLine, fieldMore, linesOf, linesAt, linesIn}
 use Rattle.fields.specs.Lines as L
 use Rattle.fields.specs.declared.Seen.the-variants.{Data}
-use Rattle.fields.specs.declared.Place.the-variants.{Start, Inside}
-use Rattle.csv.specs.Write.{line, linesText}
+use Rattle.fields.specs.declared.Place.{Place}
+use Rattle.fields.specs.declared.Place.the-variants.{Start, Inside, Closed}
+use Rattle.csv_laws.specs.Variants.{Cell, Line, doubled, cellText, cellsText, endText, spelling, Bare, Fair, FairLines, fieldsIn}
 
--- a digit is a byte of its field
-digit-seen : (b : ℕ) (s : List ℕ) → 48 ≤ b → b ≤ 57 → seen b s ≡ Data b
-digit-seen b s l h = rw (ne-eqb b 44 (λ e. omega arith), ne-eqb b 34 (λ e. omega arith), ne-eqb b 10 (λ e. omega arith), ne-eqb b 13 (λ e. omega arith))
+-- ---- a field
 
--- what becomes of a field's digits, by what is read behind them
-module _ (t : List ℕ) (fs : List (List ℕ)) (ls : Lines) where
-  run : {ds : List ℕ} → Digits ds → (at : ℕ) → ((k : ℕ) → linesOf (outside t k Inside) ≡ row ([] ∷ fs) ls) → linesOf (outside (ds ++ t) at Inside) ≡ row (ds ∷ fs) ls
+-- a byte that may stand without quotes is one of its field
+bare-seen : (b : ℕ) (s : List ℕ) → (b ≡ 44 → ⊥) → (b ≡ 34 → ⊥) → (b ≡ 10 → ⊥) → (b ≡ 13 → ⊥) → seen b s ≡ Data b
+bare-seen b s c q l r = rw (ne-eqb b 44 c, ne-eqb b 34 q, ne-eqb b 10 l, ne-eqb b 13 r)
+
+-- what is behind a field: wherever the field was read up to, the text goes on with an empty field's end, and then fs and ls
+abbrev After : List ℕ → List (List ℕ) → Lines → Type 0
+After t fs ls = (p : Place) (k : ℕ) → linesOf (outside t k p) ≡ row ([] ∷ fs) ls
+
+module _ (t : List ℕ) (fs : List (List ℕ)) (ls : Lines) (after : After t fs ls) where
+  -- a field without quotes, from its second byte on and from its first
+  run : {bs : List ℕ} → Bare bs → (at : ℕ) → linesOf (outside (bs ++ t) at Inside) ≡ row (bs ∷ fs) ls
   unfolding outside linesOf
-  run none at e = e at
-  run (next {b = b} {bs = s} l h d) at e = rw (digit-seen b (s ++ t) l h) (ap (ontoLine b) (run d (at + 1) e))
+  run Bare.none at = after Inside at
+  run (Bare.next {b = b} {bs = s} c q l r d) at = rw (bare-seen b (s ++ t) c q l r) (ap (ontoLine b) (run d (at + 1)))
 
-  start : {ds : List ℕ} → Digits ds → 1 ≤ length ds → (at : ℕ) → ((k : ℕ) → linesOf (outside t k Inside) ≡ row ([] ∷ fs) ls) → linesOf (outside (ds ++ t) at Start) ≡ row (ds ∷ fs) ls
+  start : {bs : List ℕ} → Bare bs → (at : ℕ) → linesOf (outside (bs ++ t) at Start) ≡ row (bs ∷ fs) ls
   unfolding outside linesOf
-  start none z at e = absurd (omega arith)
-  start (next {b = b} {bs = s} l h d) z at e = rw (digit-seen b (s ++ t) l h) (ap (ontoLine b) (run d (at + 1) e))
+  start Bare.none at = after Start at
+  start (Bare.next {b = b} {bs = s} c q l r d) at = rw (bare-seen b (s ++ t) c q l r) (ap (ontoLine b) (run d (at + 1)))
 
--- a number before a comma, before a line end with more behind it, and before the last line end
-number-comma : (n : ℕ) (t : List ℕ) (fs : List (List ℕ)) (ls : Lines) → ((k : ℕ) → linesOf (outside t k Start) ≡ row fs ls) → (at : ℕ) → linesOf (outside (decimalOf n ++ 44 ∷ t) at Start) ≡ row (decimalOf n ∷ fs) ls
-unfolding outside linesOf
-number-comma n t fs ls e at = start (44 ∷ t) fs ls (decimal-digits n) (decimal-some n) at (λ k. ap fieldMore (e (k + 1)))
+  -- a field in quotes, behind the first of them
+  quoted : (bs : List ℕ) (at : ℕ) → linesOf (inside (doubled bs ++ 34 ∷ t) at) ≡ row (bs ∷ fs) ls
+  unfolding outside linesOf doubled
+  quoted [] at = after Closed (at + 1)
+  quoted (b ∷ bs) at = go (eqb b 34) refl (λ k. quoted bs k)
+    where
+      go : (q : Bool) → eqb b 34 ≡ q → ((k : ℕ) → linesOf (inside (doubled bs ++ 34 ∷ t) k) ≡ row (bs ∷ fs) ls)
+          → linesOf (inside (cond q (34 ∷ 34 ∷ doubled bs) (b ∷ doubled bs) ++ 34 ∷ t) at) ≡ row ((b ∷ bs) ∷ fs) ls
+      go true e on = ap (ontoLine 34) (on (at + 1 + 1)) ∙ ap (λ (c : ℕ). row ((c ∷ bs) ∷ fs) ls) (sym (eqb-true b 34 e))
+      go false e on = rw e (ap (ontoLine b) (on (at + 1)))
 
-number-line : (n b : ℕ) (t : List ℕ) (ls : Lines) → ((k : ℕ) → linesOf (outside (b ∷ t) k Start) ≡ ls) → (at : ℕ) → linesOf (outside (decimalOf n ++ 13 ∷ 10 ∷ b ∷ t) at Start) ≡ row (decimalOf n ∷ []) ls
-unfolding outside linesOf
-number-line n b t ls e at = start (13 ∷ 10 ∷ b ∷ t) [] ls (decimal-digits n) (decimal-some n) at (λ k. ap (row ([] ∷ [])) (e (k + 1 + 1)))
+  -- either
+  cell-back : (c : Cell) → (c .quoted ≡ false → Bare (c .bytes)) → (at : ℕ) → linesOf (outside (cellText c ++ t) at Start) ≡ row (c .bytes ∷ fs) ls
+  unfolding outside linesOf
+  cell-back c bare at = go (c .quoted) refl
+    where
+      go : (q : Bool) → c .quoted ≡ q → linesOf (outside (cond q (34 ∷ (doubled (c .bytes) ++ 34 ∷ [])) (c .bytes) ++ t) at Start) ≡ row (c .bytes ∷ fs) ls
+      go true e = ap (λ (x : List ℕ). linesOf (inside x (at + 1))) (append-assoc (doubled (c .bytes)) (34 ∷ []) t) ∙ quoted (c .bytes) (at + 1)
+      go false e = start (bare e) at
 
-number-end : (n at : ℕ) → linesOf (outside (decimalOf n ++ 13 ∷ 10 ∷ []) at Start) ≡ row (decimalOf n ∷ []) L.none
+-- ---- a line
+
+after-comma : (t : List ℕ) (fs : List (List ℕ)) (ls : Lines) → ((k : ℕ) → linesOf (outside t k Start) ≡ row fs ls) → After (44 ∷ t) fs ls
 unfolding outside linesOf
-number-end n at = start (13 ∷ 10 ∷ []) [] L.none (decimal-digits n) (decimal-some n) at (λ k. refl)
+after-comma t fs ls e p k = ap fieldMore (e (k + 1))
+
+-- its fields, by what is behind the last
+cells-back : (c : Cell) (cs : List Cell) → Fair (c ∷ cs) → (t : List ℕ) (ls : Lines) → After t [] ls → (at : ℕ)
+    → linesOf (outside (cellsText (c ∷ cs) ++ t) at Start) ≡ row (map (λ (d : Cell). d .bytes) (c ∷ cs)) ls
+unfolding cellsText
+cells-back c [] (Fair.next b s) t ls after at = cell-back t [] ls after c b at
+cells-back c (d ∷ cs) (Fair.next b s) t ls after at =
+    let fs = map (λ (x : Cell). x .bytes) (d ∷ cs) in
+    let u = cellsText (d ∷ cs) ++ t in
+    ap (λ (x : List ℕ). linesOf (outside x at Start)) (append-assoc (cellText c) (44 ∷ cellsText (d ∷ cs)) t)
+    ∙ cell-back (44 ∷ u) fs ls (after-comma u fs ls (λ k. cells-back d cs s t ls after k)) c b at
+
+-- the same of a line that has some
+line-back : (l : Line) → Fair (l .cells) → 1 ≤ length (cellsText (l .cells)) → (t : List ℕ) (ls : Lines) → After t [] ls → (at : ℕ)
+    → linesOf (outside (cellsText (l .cells) ++ t) at Start) ≡ row (fieldsIn l) ls
+unfolding cellsText
+line-back l s some t ls after at = go (l .cells) s some
+  where
+    go : (cs : List Cell) → Fair cs → 1 ≤ length (cellsText cs) → linesOf (outside (cellsText cs ++ t) at Start) ≡ row (map (λ (d : Cell). d .bytes) cs) ls
+    go [] u o = absurd (omega arith)
+    go (c ∷ cs) u o = cells-back c cs u t ls after at
 
 -- ---- lines
 
--- the lines that the fields of written numbers are
-unfoldable pub linesFor : List (List ℕ) → Lines
-linesFor [] = L.none
-linesFor (ns ∷ rest) = row (map decimalOf ns) (linesFor rest)
-
--- every line has a number
-pub data Full : List (List ℕ) → Type 0 where
-  no-lines : Full []
-  full : {n : ℕ} {ns : List ℕ} {rest : List (List ℕ)} → Full rest → Full ((n ∷ ns) ∷ rest)
-
--- what stands behind a line: nothing, or a text that is read as some lines
-data Behind : List ℕ → Lines → Type 0 where
-  nothing : Behind [] L.none
-  more : {b : ℕ} {t : List ℕ} {ls : Lines} → ((k : ℕ) → linesOf (outside (b ∷ t) k Start) ≡ ls) → Behind (b ∷ t) ls
-
-line-back : (n : ℕ) (ns t : List ℕ) (ls : Lines) → Behind t ls → (at : ℕ) → linesOf (outside (line (n ∷ ns) ++ t) at Start) ≡ row (map decimalOf (n ∷ ns)) ls
-unfolding lineOf moreOf
-line-back n [] [] ls nothing at = ap (λ (l : List ℕ). linesOf (outside l at Start)) (append-assoc (decimalOf n) (13 ∷ 10 ∷ []) []) ∙ number-end n at
-line-back n [] (b ∷ t) ls (more e) at = ap (λ (l : List ℕ). linesOf (outside l at Start)) (append-assoc (decimalOf n) (13 ∷ 10 ∷ []) (b ∷ t)) ∙ number-line n b t ls e at
-line-back n (m ∷ ns) t ls h at =
-    ap (λ (l : List ℕ). linesOf (outside l at Start)) (append-assoc (decimalOf n) (44 ∷ line (m ∷ ns)) t)
-    ∙ number-comma n (line (m ∷ ns) ++ t) (map decimalOf (m ∷ ns)) ls (λ k. line-back m ns t ls h k) at
-
--- a line begins with a byte
-begins : (n : ℕ) (ns t : List ℕ) → (b : ℕ) × (u : List ℕ) × (line (n ∷ ns) ++ t ≡ b ∷ u)
-unfolding lineOf
-begins n ns t = go (decimalOf n) (decimal-some n)
+-- the last line, with its end and without; and an end with more behind it
+after-last : (l : Line) (ended : Bool) → After (cond ended (endText l) []) [] L.none
+unfolding outside linesOf
+after-last l ended p k = go ended (l .both)
   where
-    go : (ds : List ℕ) → 1 ≤ length ds → (b : ℕ) × (u : List ℕ) × ((ds ++ moreOf 44 (13 ∷ 10 ∷ []) ns) ++ t ≡ b ∷ u)
-    go [] l = absurd (omega arith)
-    go (d ∷ ds) l = (d, (ds ++ moreOf 44 (13 ∷ 10 ∷ []) ns) ++ t, refl)
+    go : (e b : Bool) → linesOf (outside (cond e (cond b (13 ∷ 10 ∷ []) (10 ∷ [])) []) k p) ≡ row ([] ∷ []) L.none
+    go true true = refl
+    go true false = refl
+    go false b = refl
 
-text-behind : {rest : List (List ℕ)} → Full rest → Behind (linesText rest) (linesFor rest)
-unfolding linesText linesFor
-text-behind no-lines = nothing
-text-behind (full {n = n} {ns = ns} {rest = rest} f) =
-    let b = begins n ns (linesText rest) in
-    let back = text-behind f in
-    subst (λ (t : List ℕ). Behind t (row (map decimalOf (n ∷ ns)) (linesFor rest))) (sym (b .2))
-    (more (λ k. ap (λ (t : List ℕ). linesOf (outside t k Start)) (sym (b .2)) ∙ line-back n ns (linesText rest) (linesFor rest) back k))
+after-line : (l : Line) (t : List ℕ) (ls : Lines) → 1 ≤ length t → ((k : ℕ) → linesOf (outside t k Start) ≡ ls) → After (endText l ++ t) [] ls
+unfolding outside linesOf
+after-line l t ls some e p k = go (l .both) t some e
+  where
+    go : (b : Bool) (u : List ℕ) → 1 ≤ length u → ((j : ℕ) → linesOf (outside u j Start) ≡ ls) → linesOf (outside (cond b (13 ∷ 10 ∷ []) (10 ∷ []) ++ u) k p) ≡ row ([] ∷ []) ls
+    go b [] o f = absurd (omega arith)
+    go true (x ∷ u) o f = ap (row ([] ∷ [])) (f (k + 1 + 1))
+    go false (x ∷ u) o f = ap (row ([] ∷ [])) (f (k + 1))
 
--- a text that was written, of one line at least, is read as its lines
-pub lines-back : (n : ℕ) (ns : List ℕ) (rest : List (List ℕ)) → Full rest → linesIn (linesText ((n ∷ ns) ∷ rest)) ≡ linesFor ((n ∷ ns) ∷ rest)
-unfolding linesAt marksAt linesText linesFor
-lines-back n ns rest f = line-back n ns (linesText rest) (linesFor rest) (text-behind f) 0
+-- the lines with these fields
+unfoldable pub linesFor : List (List (List ℕ)) → Lines
+linesFor [] = L.none
+linesFor (fs ∷ rest) = row fs (linesFor rest)
+
+-- a text has a byte where its first line has one
+longer : (a b : List ℕ) → 1 ≤ length a → 1 ≤ length (a ++ b)
+longer [] b l = absurd (omega arith)
+longer (x ∷ a) b l = omega arith
+
+spelling-some : (ended : Bool) (l : Line) (ls : List Line) → 1 ≤ length (cellsText (l .cells)) → 1 ≤ length (spelling ended (l ∷ ls))
+unfolding spelling
+spelling-some ended l [] o = longer (cellsText (l .cells)) (cond ended (endText l) []) o
+spelling-some ended l (m ∷ ls) o = longer (cellsText (l .cells)) (endText l ++ spelling ended (m ∷ ls)) o
+
+spelling-back : (ended : Bool) (l : Line) (ls : List Line) → FairLines (l ∷ ls) → (at : ℕ) → linesOf (outside (spelling ended (l ∷ ls)) at Start) ≡ linesFor (map fieldsIn (l ∷ ls))
+unfolding spelling linesFor
+spelling-back ended l [] (FairLines.next s o n) at = line-back l s o (cond ended (endText l) []) L.none (after-last l ended) at
+spelling-back ended l (m ∷ ls) (FairLines.next s o (FairLines.next u i n)) at =
+    let t = spelling ended (m ∷ ls) in
+    let rest = linesFor (map fieldsIn (m ∷ ls)) in
+    line-back l s o (endText l ++ t) rest (after-line l t rest (spelling-some ended m ls i) (λ k. spelling-back ended m ls (FairLines.next u i n) k)) at
+
+-- a text of one line at least is read as its lines
+pub lines-back : (ended : Bool) (l : Line) (ls : List Line) → FairLines (l ∷ ls) → linesIn (spelling ended (l ∷ ls)) ≡ linesFor (map fieldsIn (l ∷ ls))
+unfolding linesAt marksAt
+lines-back ended l ls s = spelling-back ended l ls s 0

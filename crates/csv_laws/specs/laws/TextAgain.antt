@@ -36,7 +36,8 @@ use Rattle.csv.specs.Write.{headerCells, recordCells, line, linesText, textOf, 
 use Rattle.csv_laws.specs.Form.{fieldsText, formOf, writtenForm}
 use Rattle.csv_laws.specs.laws.RowForms.{line-given, record-form, header-form, header-size}
 use Rattle.csv_laws.specs.laws.SheetBytes.{Bytes}
-use Rattle.csv_laws.specs.laws.SheetAgain.{text-made, sheet-taken}
+use Rattle.csv_laws.specs.laws.Accepted.{sheet-taken}
+use Rattle.csv_laws.specs.laws.SheetAgain.{text-made}
 
 -- ---- the bytes that lines make are bytes
 
