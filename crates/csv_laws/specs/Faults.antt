@@ -1,55 +1,59 @@
 -- When a text is turned away by a line, said over its fields: the first faulty line decides, by its quotes, then by the count of its fields, then by a
 -- field that is no number so written or is too wide.
-use Prim.Native.Nat.{ℕ, suc, _+_, _^_, _≤_, _<_}
+use Prim.Native.Nat.{ℕ, suc, _+_, _^_, _<_}
 use mathlib.Core.Path.{_≡_}
-use mathlib.Core.Bool.{Bool, true, false, cond, not, _&&_}
-use mathlib.Core.List.{List, _∷_, map}
-use lib.ListN.{length, getD}
-use lib.Dec.{eqb}
+use mathlib.Core.Bool.{Bool, true, false, cond}
+use mathlib.Core.List.{List, [], _∷_, _++_}
+use lib.ListN.{length, getD, take}
 use Rattle.quantity.specs.Range.{within}
 use Rattle.decimal.specs.Decimal.{decimalOf}
 use Rattle.sheet.specs.Versions.{versionNumbers, numbered}
-use Rattle.sheet.specs.Lines.{firstWidths, ownWidths}
+use Rattle.sheet.specs.Lines.{firstWidths, ownWidths, plateWidths}
 use Rattle.fields.specs.Lines.{Lines, none, bad, row}
-use Rattle.text.specs.laws.LinesLaws.{valueIn}
-use Rattle.rows.specs.Pack.{below, powers}
 use Rattle.rows.specs.Forms.{firstCount, ownCount, recordWidths, recordCount}
-use Rattle.rows.specs.Rows.{kinds, firstOf, taken, firstsOf, ownsOf, recordsOf}
+use Rattle.rows.specs.Rows.{kinds}
 use Rattle.csv.specs.Read.{nextLine}
+
+-- ---- a line
 
 -- a field that is a number so written, of so many bits at most
 abbrev pub Spells : (bits : ℕ) → List ℕ → Type 0
 Spells bits f = (v : ℕ) × (f ≡ decimalOf v) × (v < 2 ^ bits)
 
--- the first number of a line's fields; what is no number counts as one that is too wide
-abbrev pub firstIn : List (List ℕ) → ℕ
-firstIn fs = firstOf (map valueIn fs)
+-- one of the fields is not, the first of them having the first of these widths
+pub data Misspelt : (widths : List ℕ) → List (List ℕ) → Type 0 where
+  here : {w : ℕ} {ws f : List ℕ} {fs : List (List ℕ)} → (Spells w f → ⊥) → Misspelt (w ∷ ws) (f ∷ fs)
+  behind : {w : ℕ} {ws f : List ℕ} {fs : List (List ℕ)} → Misspelt ws fs → Misspelt (w ∷ ws) (f ∷ fs)
 
--- the version of the first line, or the kind of another, is known
-abbrev pub known : (head : Bool) → List (List ℕ) → Bool
-known head fs = cond head (within versionNumbers (firstIn fs)) (within kinds (firstIn fs))
+-- the first field of the first line is the number of a version, or that of another is a kind
+abbrev pub Names : (head : Bool) → List (List ℕ) → (k : ℕ) → Type 0
+Names head fs k = (rest : List (List ℕ)) × (fs ≡ decimalOf k ∷ rest) × (within (cond head versionNumbers kinds) k ≡ true)
 
--- how many fields it then has
-abbrev pub countOf : (head : Bool) → List (List ℕ) → ℕ
-countOf head fs = cond head (firstCount + ownCount (numbered (firstIn fs))) (recordCount (firstIn fs))
+-- how many fields a line then has, and how wide they are, without the zero bits
+abbrev pub countFor : (head : Bool) → (k : ℕ) → ℕ
+countFor head k = cond head (firstCount + ownCount (numbered k)) (recordCount k)
 
--- no number that the line is judged by is too wide for its field
-abbrev pub fitting : (head : Bool) → List (List ℕ) → Bool
-fitting true fs =
-    let ns = taken (known true fs) (map valueIn fs) in
-    let v = numbered (firstIn fs) in
-    below (powers firstWidths) (firstsOf ns) && below (powers (ownWidths v)) (ownsOf v ns)
-fitting false fs = below (powers (recordWidths (firstIn fs))) (recordsOf (firstIn fs) (taken (known false fs) (map valueIn fs)))
+abbrev pub widthsFor : (head : Bool) → (k : ℕ) → List ℕ
+widthsFor head k = cond head (take firstCount firstWidths ++ take (ownCount (numbered k)) (ownWidths (numbered k))) (take (recordCount k) (recordWidths k))
 
--- the refusal of a line whose quotes are fine, 0 where there is none
-abbrev pub judgement : (head : Bool) → List (List ℕ) → ℕ
-judgement head fs = cond (known head fs && not (eqb (length fs) (countOf head fs))) 15 (cond (fitting head fs) 0 14)
+-- how wide a version is, and a kind
+abbrev pub firstWidth : (head : Bool) → ℕ
+firstWidth head = getD (cond head firstWidths plateWidths) 0 0
+
+-- a line whose quotes are fine is at fault: its fields are not as many, or one of them is no number so written; of a line whose version or kind is not known
+-- only the first is looked at
+pub data Amiss (head : Bool) (fs : List (List ℕ)) : (number : ℕ) → Type 0 where
+  count : (k : ℕ) → Names head fs k → (length fs ≡ countFor head k → ⊥) → Amiss head fs 15
+  field : (k : ℕ) → Names head fs k → length fs ≡ countFor head k → Misspelt (widthsFor head k) fs → Amiss head fs 14
+  first : ((k : ℕ) → Names head fs k → ⊥) → Misspelt (firstWidth head ∷ []) fs → Amiss head fs 14
+
+-- ---- lines
 
 -- the first faulty line, the first of all having the place p: which refusal it gives, and its place
 pub data FirstFaulty : (head : Bool) (p : ℕ) → Lines → (number place : ℕ) → Type 0 where
   quotes : {head : Bool} {p : ℕ} → FirstFaulty head p bad 14 p
-  line : {head : Bool} {p : ℕ} {fs : List (List ℕ)} {ls : Lines} {n : ℕ} → judgement head fs ≡ suc n → FirstFaulty head p (row fs ls) (suc n) p
-  later : {head : Bool} {p : ℕ} {fs : List (List ℕ)} {ls : Lines} {n q : ℕ} → judgement head fs ≡ 0 → FirstFaulty false (nextLine p) ls n q → FirstFaulty head p (row fs ls) n q
+  line : {head : Bool} {p : ℕ} {fs : List (List ℕ)} {ls : Lines} {n : ℕ} → Amiss head fs n → FirstFaulty head p (row fs ls) n p
+  later : {head : Bool} {p : ℕ} {fs : List (List ℕ)} {ls : Lines} {n q : ℕ} → ((m : ℕ) → Amiss head fs m → ⊥) → FirstFaulty false (nextLine p) ls n q → FirstFaulty head p (row fs ls) n q
 
 -- how many lines there are, and how many of them are lines of records
 unfoldable pub linesCount : Lines → ℕ

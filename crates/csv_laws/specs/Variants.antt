@@ -26,9 +26,13 @@ unfoldable pub doubled : List ℕ → List ℕ
 doubled [] = []
 doubled (b ∷ bs) = cond (eqb b 34) (34 ∷ 34 ∷ doubled bs) (b ∷ doubled bs)
 
+-- the same between quotes
+abbrev pub inQuotes : List ℕ → List ℕ
+inQuotes bs = 34 ∷ (doubled bs ++ 34 ∷ [])
+
 -- a field as it stands in the text
 abbrev pub cellText : Cell → List ℕ
-cellText c = cond (c .quoted) (34 ∷ (doubled (c .bytes) ++ 34 ∷ [])) (c .bytes)
+cellText c = cond (c .quoted) (inQuotes (c .bytes)) (c .bytes)
 
 -- the fields of a line, a comma between two of them
 unfoldable pub cellsText : List Cell → List ℕ

@@ -2,6 +2,7 @@
 pub mod Accepted
 mod Cases
 pub mod Exactly
+pub mod Judged
 pub mod LinesBack
 pub mod Places
 pub mod RowForms

@@ -24,7 +24,7 @@ use Rattle.checker.specs.Unjudged.{soundSheet}
 use Rattle.csv.specs.Read.{nextLine, recordsMade, sheetMade, sheetFrom}
 use Rattle.csv.specs.Write.{headerCells, recordCells, line, linesText, cellsOf, textOf}
 use Rattle.csv.specs.laws.WriteLaws.{header-small, record-small, header-few, count-few}
-use Rattle.csv_laws.specs.Variants.{Cell, Line, doubled, cellText, cellsText, spelling, Bare, Fair, FairLines, fieldsIn, Variant, plainCell, plainLine}
+use Rattle.csv_laws.specs.Variants.{Cell, Line, inQuotes, cellText, cellsText, spelling, Bare, Fair, FairLines, fieldsIn, Variant, plainCell, plainLine}
 use Rattle.csv_laws.specs.laws.LinesBack.{linesFor, lines-back}
 use Rattle.csv_laws.specs.laws.RowsBack.{values-back, header-line, record-line}
 use Rattle.csv_laws.specs.laws.SheetBytes.{Bytes, joinedBytes, Sound, nothing, further, sheet-bytes}
@@ -87,7 +87,7 @@ number-fair (c ∷ cs) (n ∷ ns) e = Fair.next (λ q. subst Bare (sym (first-sa
 number-some : (c : Cell) (n : ℕ) → c .bytes ≡ decimalOf n → 1 ≤ length (cellText c)
 number-some c n e = go (c .quoted)
   where
-    go : (q : Bool) → 1 ≤ length (cond q (34 ∷ (doubled (c .bytes) ++ 34 ∷ [])) (c .bytes))
+    go : (q : Bool) → 1 ≤ length (cond q (inQuotes (c .bytes)) (c .bytes))
     go true = omega arith
     go false = omega (arith, ap length e, decimal-some n)
 

@@ -51,11 +51,11 @@ unfolding converting fieldsText formOf
 other-read = (refl, refl)
 
 -- the same with every field in quotes, LF alone, and nothing behind the last line
-abbrev inQuotes : List ℕ → Line
-inQuotes ns = record { cells = map (λ (n : ℕ). record { bytes = decimalOf n; quoted = true }) ns; both = false }
+abbrev quotedLine : List ℕ → Line
+quotedLine ns = record { cells = map (λ (n : ℕ). record { bytes = decimalOf n; quoted = true }) ns; both = false }
 
 abbrev quotedLines : List Line
-quotedLines = map inQuotes ((1 ∷ 8000 ∷ 250 ∷ 60 ∷ 0 ∷ 20000 ∷ 200000 ∷ 2 ∷ []) ∷ (2 ∷ 7 ∷ 1000 ∷ 0 ∷ 500 ∷ 600 ∷ 0 ∷ 0 ∷ 0 ∷ 0 ∷ 0 ∷ []) ∷ (5 ∷ 12 ∷ 0 ∷ 500 ∷ 300 ∷ 420 ∷ 100 ∷ 100 ∷ 90 ∷ 50 ∷ 560 ∷ 168 ∷ 1000 ∷ []) ∷ [])
+quotedLines = map quotedLine ((1 ∷ 8000 ∷ 250 ∷ 60 ∷ 0 ∷ 20000 ∷ 200000 ∷ 2 ∷ []) ∷ (2 ∷ 7 ∷ 1000 ∷ 0 ∷ 500 ∷ 600 ∷ 0 ∷ 0 ∷ 0 ∷ 0 ∷ 0 ∷ []) ∷ (5 ∷ 12 ∷ 0 ∷ 500 ∷ 300 ∷ 420 ∷ 100 ∷ 100 ∷ 90 ∷ 50 ∷ 560 ∷ 168 ∷ 1000 ∷ []) ∷ [])
 
 abbrev pub quoted : List ℕ
 quoted = 34 ∷ 49 ∷ 34 ∷ 44 ∷ 34 ∷ 56 ∷ 48 ∷ 48 ∷ 48 ∷ 34 ∷ 44 ∷ 34 ∷ 50 ∷ 53 ∷ 48 ∷ 34 ∷ 44 ∷ 34 ∷ 54 ∷ 48 ∷ 34 ∷ 44 ∷ 34 ∷ 48 ∷ 34 ∷ 44 ∷ 34 ∷ 50 ∷ 48 ∷ 48 ∷ 48 ∷ 48 ∷ 34 ∷ 44 ∷ 34 ∷ 50 ∷ 48 ∷ 48 ∷ 48 ∷ 48 ∷ 48 ∷ 34 ∷ 44 ∷ 34 ∷ 50 ∷ 34 ∷ 10 ∷ 34 ∷ 50 ∷ 34 ∷ 44 ∷ 34 ∷ 55 ∷ 34 ∷ 44 ∷ 34 ∷ 49 ∷ 48 ∷ 48 ∷ 48 ∷ 34 ∷ 44 ∷ 34 ∷ 48 ∷ 34 ∷ 44 ∷ 34 ∷ 53 ∷ 48 ∷ 48 ∷ 34 ∷ 44 ∷ 34 ∷ 54 ∷ 48 ∷ 48 ∷ 34 ∷ 44 ∷ 34 ∷ 48 ∷ 34 ∷ 44 ∷ 34 ∷ 48 ∷ 34 ∷ 44 ∷ 34 ∷ 48 ∷ 34 ∷ 44 ∷ 34 ∷ 48 ∷ 34 ∷ 44 ∷ 34 ∷ 48 ∷ 34 ∷ 10 ∷ 34 ∷ 53 ∷ 34 ∷ 44 ∷ 34 ∷ 49 ∷ 50 ∷ 34 ∷ 44 ∷ 34 ∷ 48 ∷ 34 ∷ 44 ∷ 34 ∷ 53 ∷ 48 ∷ 48 ∷ 34 ∷ 44 ∷ 34 ∷ 51 ∷ 48 ∷ 48 ∷ 34 ∷ 44 ∷ 34 ∷ 52 ∷ 50 ∷ 48 ∷ 34 ∷ 44 ∷ 34 ∷ 49 ∷ 48 ∷ 48 ∷ 34 ∷ 44 ∷ 34 ∷ 49 ∷ 48 ∷ 48 ∷ 34 ∷ 44 ∷ 34 ∷ 57 ∷ 48 ∷ 34 ∷ 44 ∷ 34 ∷ 53 ∷ 48 ∷ 34 ∷ 44 ∷ 34 ∷ 53 ∷ 54 ∷ 48 ∷ 34 ∷ 44 ∷ 34 ∷ 49 ∷ 54 ∷ 56 ∷ 34 ∷ 44 ∷ 34 ∷ 49 ∷ 48 ∷ 48 ∷ 48 ∷ 34 ∷ []

@@ -1,20 +1,20 @@
 -- A text written field by field is read as its lines: quotes are taken away and doubled ones halved, LF and CR LF end a line, and the last end may be missing.
 -- Assumes nothing.
 use Prim.Native.Nat.{ℕ, _+_, _≤_}
-use mathlib.Core.Path.{_≡_, refl, sym, ap, subst, _∙_}
+use mathlib.Core.Path.{_≡_, refl, sym, ap, _∙_}
 use mathlib.Core.Bool.{Bool, true, false, cond}
 use mathlib.Core.List.{List, [], _∷_, _++_, map, append-assoc}
 use native.Mathlib.Omega.{arith}
 use lib.ListN.{length}
 use lib.Dec.{eqb}
 use borrow.Author.Tests.{ne-eqb, eqb-true}
-use Rattle.fields.specs.Marks.{Marks, seen, outside, inside, marksAt}
-use Rattle.fields.specs.Lines.{Lines, row, onto, ontoLine, fieldMore, linesOf, linesAt, linesIn}
+use Rattle.fields.specs.Marks.{seen, outside, inside, marksAt}
+use Rattle.fields.specs.Lines.{Lines, row, ontoLine, fieldMore, linesOf, linesAt, linesIn}
 use Rattle.fields.specs.Lines as L
 use Rattle.fields.specs.declared.Seen.the-variants.{Data}
 use Rattle.fields.specs.declared.Place.{Place}
 use Rattle.fields.specs.declared.Place.the-variants.{Start, Inside, Closed}
-use Rattle.csv_laws.specs.Variants.{Cell, Line, doubled, cellText, cellsText, endText, spelling, Bare, Fair, FairLines, fieldsIn}
+use Rattle.csv_laws.specs.Variants.{Cell, Line, doubled, inQuotes, cellText, cellsText, endText, spelling, Bare, Fair, FairLines, fieldsIn}
 
 -- ---- a field
 
@@ -54,7 +54,7 @@ module _ (t : List ℕ) (fs : List (List ℕ)) (ls : Lines) (after : After t fs 
   unfolding outside linesOf
   cell-back c bare at = go (c .quoted) refl
     where
-      go : (q : Bool) → c .quoted ≡ q → linesOf (outside (cond q (34 ∷ (doubled (c .bytes) ++ 34 ∷ [])) (c .bytes) ++ t) at Start) ≡ row (c .bytes ∷ fs) ls
+      go : (q : Bool) → c .quoted ≡ q → linesOf (outside (cond q (inQuotes (c .bytes)) (c .bytes) ++ t) at Start) ≡ row (c .bytes ∷ fs) ls
       go true e = ap (λ (x : List ℕ). linesOf (inside x (at + 1))) (append-assoc (doubled (c .bytes)) (34 ∷ []) t) ∙ quoted (c .bytes) (at + 1)
       go false e = start (bare e) at
 

@@ -92,7 +92,7 @@ line-given p false true b c e = (refl, refl, given-same e)
 line-given p false false b c e = given-refused (sym e)
 
 -- the count of a known line is its own
-counted : (known : Bool) (n m : ℕ) → known ≡ true → (known && not (eqb n m)) ≡ false → n ≡ m
+pub counted : (known : Bool) (n m : ℕ) → known ≡ true → (known && not (eqb n m)) ≡ false → n ≡ m
 counted known n m k e = go (eqb n m) refl (sym (ap (λ (t : Bool). t && not (eqb n m)) k) ∙ e)
   where
     go : (t : Bool) → eqb n m ≡ t → not t ≡ false → n ≡ m

@@ -1,22 +1,21 @@
 -- Text to sheet to text gives the written form; and a text reads as its written form does.
 -- Assumes nothing.
-use Prim.Native.Nat.{ℕ, zero, suc, _+_, _*_, _≤_, _<_}
+use Prim.Native.Nat.{ℕ, _+_, _*_, _≤_}
 use mathlib.Core.Path.{_≡_, refl, sym, ap, ap₂, subst, _∙_}
-use mathlib.Core.Bool.{Bool, true, false, not, _&&_}
+use mathlib.Core.Bool.{not, _&&_}
 use mathlib.Core.List.{List, [], _∷_, _++_, map}
 use native.Mathlib.Omega.{arith}
-use lib.ListN.{length, take, drop, length-append, length-drop}
+use lib.ListN.{length, take, drop, length-append}
 use lib.Seq.{take-at, drop-at, drop-drop}
 use lib.Dec.{leb, eqb}
 use borrow.Author.Tests.{le-leb, leb-true}
 use Rattle.quantity.specs.Range.{within}
 use Rattle.layout.specs.Layout.{pack, unpack, bytes, Fit}
 use Rattle.layout.specs.laws.Laws.{unpack-fit}
-use Rattle.sheet.specs.declared.Header.{Header}
 use Rattle.sheet.specs.declared.Record.{Record}
 use Rattle.sheet.specs.Versions.{firstBytes, versionNumbers, numbered}
 use Rattle.sheet.specs.Lines.{firstWidths, ownWidths}
-use Rattle.sheet.specs.Refusals.{Answer, given, refused}
+use Rattle.sheet.specs.Refusals.{given}
 use Rattle.sheet.specs.laws.RefusalLaws.{given-same, given-refused}
 use Rattle.sheet.specs.Header.{headerSize, ownBytes, readHeader}
 use Rattle.sheet.specs.Record.{readRecord}
@@ -32,8 +31,8 @@ use Rattle.checker.specs.laws.CheckLaws.{part-taken, sheet-whole}
 use Rattle.checker.specs.laws.ThenLaws.{then-given, demand-given}
 use Rattle.checker.specs.Unjudged.{room, soundSheet}
 use Rattle.csv.specs.Read.{nextLine, recordsMade, sheetMade, sheetFrom}
-use Rattle.csv.specs.Write.{headerCells, recordCells, line, linesText, textOf, textFrom}
-use Rattle.csv_laws.specs.Form.{fieldsText, formOf, writtenForm}
+use Rattle.csv.specs.Write.{recordCells, linesText, textOf, textFrom}
+use Rattle.csv_laws.specs.Form.{formOf, writtenForm}
 use Rattle.csv_laws.specs.laws.RowForms.{line-given, record-form, header-form, header-size}
 use Rattle.csv_laws.specs.laws.SheetBytes.{Bytes}
 use Rattle.csv_laws.specs.laws.Accepted.{sheet-taken}
