@@ -1,5 +1,6 @@
 -- What is proved of the definitions.
 pub mod BackAgain
+pub mod CallLaws
 pub mod Example
 pub mod Numbers
 pub mod Outcomes
