@@ -15,6 +15,7 @@ use Rattle.edit.specs.declared.Edited.{Edited}
 use Rattle.edit.specs.Edit.{sheetAt, idOf, counting, After, putNumbersIn, removeIn, toldEdited, Edits}
 use Rattle.yard.specs.Packed.{numberUnit}
 use Rattle.yard.specs.Editing.{resized, EditsPacked}
+use Rattle.edit_laws.specs.Edits.{edited}
 
 -- ---- the functions
 
@@ -80,6 +81,11 @@ editOf (removeId id) = out id
 unfoldable pub doneCalls : Editor → List Call → After → List (Edit idOf)
 doneCalls E [] a = []
 doneCalls E (c ∷ cs) a = let rest = doneCalls E cs (called E c a) in cond (isDone (answered E c a)) (editOf c ∷ rest) rest
+
+-- none of them is about the id
+abbrev pub Untouched : (id : ℕ) → List (Edit idOf) → Type 0
+Untouched id [] = Unit {0}
+Untouched id (e ∷ es) = (id ≡ edited e → ⊥) × Untouched id es
 
 -- what a plain map from ids to records holds after the calls that are done, where it held the records of a sheet before
 abbrev pub mapOf : Editor → List Call → After → Sheet → ℕ → Option Record

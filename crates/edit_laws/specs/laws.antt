@@ -1,7 +1,9 @@
 -- What is proved of the definitions.
 pub mod BackAgain
 pub mod CallLaws
+pub mod CallVerdicts
 pub mod Example
+pub mod NextPut
 pub mod Numbers
 pub mod Outcomes
 pub mod Rebuilt

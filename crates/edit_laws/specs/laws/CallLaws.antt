@@ -1,27 +1,25 @@
 -- Any functions that meet the promises of `yard_put` and `yard_remove`, called any number of times: after any calls the sheet holds what a plain map from ids to
 -- records would hold.
 -- Assumes nothing.
-use Prim.Native.Nat.{ℕ, _+_, _*_, _≤_}
+use Prim.Native.Nat.{ℕ, _+_, _*_}
 use mathlib.Core.Path.{_≡_, refl, sym, ap, ap₂, subst, _∙_}
 use mathlib.Core.Bool.{Bool, true, false, cond}
 use mathlib.Core.List.{List, [], _∷_}
 use native.Mathlib.Omega.{arith}
-use lib.Dec.{ltb}
 use borrow.Author.Tests.{lt-ltb, le-ltb}
-use Rattle.sheet.specs.declared.Record.{Record}
 use Rattle.sheet.specs.Refusals.{Answer, given, refused}
-use Rattle.numbers.specs.From.{recordOfNumbers, recordFrom}
+use Rattle.numbers.specs.From.{recordFrom}
 use Rattle.numbers.specs.laws.Exactly.{record-from-given}
 use Rattle.checker.specs.Check.{Sheet}
 use Rattle.checker.specs.laws.ThenLaws.{then-given}
-use Rattle.keyed.specs.Keyed.{lookup, Edit, mapAll}
+use Rattle.keyed.specs.Keyed.{lookup, Edit, mapAll, listAll}
 use Rattle.edit.specs.Edit.{sheetAt, headerOf, idOf, After, putIn, putNumbersIn, removeIn, sizeBy, bytesBy}
 use Rattle.yard.specs.Packed.{numberUnit}
 use Rattle.yard.specs.Editing.{resized, EditsPacked}
 use Rattle.yard.specs.laws.PackedLaws.{Resized}
 use Rattle.yard.specs.laws.EditAnswers.{put-resized, remove-resized}
-use Rattle.edit_laws.specs.Edits.{editIn, afterBy, afterAll, doneBy, doneAll, AnyEdits}
-use Rattle.edit_laws.specs.laws.Sequences.{any-edits}
+use Rattle.edit_laws.specs.Edits.{holding, editIn, afterBy, afterAll, doneBy, doneAll, AnyEdits}
+use Rattle.edit_laws.specs.laws.Sequences.{held-after, any-edits}
 use Rattle.edit_laws.specs.Calls.{Call, putFields, removeId, Editor, MeetsEditor, Office, MeetsOffice, packing, isDone, answered, called, calledAll, editOf, doneCalls, AnyCalls}
 
 -- what a call comes to
@@ -107,6 +105,15 @@ module _ (E : Editor) (meets : MeetsEditor E) where
           let picked : cond (isDone (answered E c a)) (editOf c ∷ es) es ≡ es = ap (λ (t : Bool). cond t (editOf c ∷ es) es) d in
           subst (λ (l : List (Edit idOf)). (calledAll E cs y ≡ afterAll l a) × (doneAll l a ≡ l)) (sym picked)
           (subst (λ (z : After). (calledAll E cs y ≡ afterAll es z) × (doneAll es z ≡ es)) h rest)
+
+  -- the records in the sheet afterwards, in a list
+  pub held-calls : (cs : List Call) (a : After) (t : Sheet) → sheetAt (a .bytes) (a .size) ≡ given t
+      → sheetAt (calledAll E cs a .bytes) (calledAll E cs a .size) ≡ given (holding (t .header) (listAll idOf (doneCalls E cs a) (t .records)))
+  held-calls cs a t f =
+      let s = as-edits cs a in
+      ap (λ (x : After). sheetAt (x .bytes) (x .size)) (s .0)
+      ∙ held-after (doneCalls E cs a) a t f
+      ∙ ap (λ (l : List (Edit idOf)). given (holding (t .header) (listAll idOf l (t .records)))) (s .1)
 
   pub any-calls : (cs : List Call) (a : After) (t : Sheet) → sheetAt (a .bytes) (a .size) ≡ given t → AnyCalls E cs a t
   any-calls cs a t f =

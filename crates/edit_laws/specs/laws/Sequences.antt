@@ -26,7 +26,7 @@ one-edit a t f (put r) x g = put-sheet (a .bytes) (a .size) t f r x g
 one-edit a t f (out id) x g = remove-sheet (a .bytes) (a .size) t f id x g
 
 -- the sheet after edits holds the records of the list after those that are done
-held-after : (es : List (Edit idOf)) (a : After) (t : Sheet) → sheetAt (a .bytes) (a .size) ≡ given t
+pub held-after : (es : List (Edit idOf)) (a : After) (t : Sheet) → sheetAt (a .bytes) (a .size) ≡ given t
     → sheetAt (afterAll es a .bytes) (afterAll es a .size) ≡ given (holding (t .header) (listAll idOf (doneAll es a) (t .records)))
 unfolding afterAll doneAll listAll
 held-after [] a t f = f ∙ ap given (holds-its-own (a .bytes) (a .size) t f)

@@ -5,7 +5,7 @@ use mathlib.Core.Path.{_≡_, refl, sym, ap, subst, _∙_}
 use mathlib.Core.List.{List, [], _∷_}
 use native.Mathlib.Omega.{arith}
 use native.Mathlib.Nat.{zero-add}
-use lib.ListN.{length, take, drop}
+use lib.ListN.{length}
 use lib.Dec.{leb}
 use borrow.Author.Tests.{le-leb}
 use Rattle.sheet.specs.declared.Header.{Header}
@@ -72,7 +72,7 @@ at-read s k (suc m) (r ∷ rs) (reads f a) (suc i) q b =
 
 -- ---- the theorem
 
-keeps : (e : Edit idOf) (rs : List Record) (i : ℕ) (q : Record) → (q .id ≡ edited e → ⊥) → At idOf rs i q → (j : ℕ) × At idOf (listAfter idOf e rs) j q
+pub keeps : (e : Edit idOf) (rs : List Record) (i : ℕ) (q : Record) → (q .id ≡ edited e → ⊥) → At idOf rs i q → (j : ℕ) × At idOf (listAfter idOf e rs) j q
 unfolding listAfter
 keeps (put r) rs i q n a = put-keeps idOf r rs i q n a
 keeps (out id) rs i q n a = out-keeps idOf id rs i q n a
@@ -92,6 +92,32 @@ module _ (a : After) (t : Sheet) (found : sheetAt (a .bytes) (a .size) ≡ given
       let k = taken-at (a .bytes) (a .size) t found in
       subst (λ (ps : List (List ℕ)). Reads ps (t .records)) (sym (own-parts (a .bytes) (a .size) (t .header) (k .whole))) (k .bytes)
 
+-- a record that is still there in another sheet with that header keeps its verdict's bytes, wherever it stands then
+module _ (a : After) (t : Sheet) (found : sheetAt (a .bytes) (a .size) ≡ given t) (x : After) (us : List Record) (after : sheetAt (x .bytes) (x .size) ≡ given (holding (t .header) us)) (o o' : List ℕ)
+    (fits : 4 * t .header .count ≤ length o) (fits' : 4 * length us ≤ length o') where
+  abbrev w : Sheet
+  w = holding (t .header) us
+
+  pub verdict-kept : (i : ℕ) → i < t .header .count → (q : Record) → recordOf (recordsPart (t .header) (sheetOf a)) i ≡ given q → (At idOf (t .records) i q → (j : ℕ) × At idOf us j q)
+      → (j : ℕ) × (j < w .header .count) × (recordOf (recordsPart (t .header) (sheetOf x)) j ≡ given q) × (fourAt j (outputOf (sheetOf x) o') ≡ fourAt i (outputOf (sheetOf a) o))
+  verdict-kept i l q f still =
+      let r = read-of (recordsPart (t .header) (sheetOf a)) 0 (t .header .count) (t .records) (by-bytes a t found) i l in
+      let zero-i : 0 + i ≡ i = zero-add i in
+      let read : readRecord 0 (recordPart (recordsPart (t .header) (sheetOf a)) i) ≡ given (r .0) = ap (λ (j : ℕ). readRecord 0 (recordPart (recordsPart (t .header) (sheetOf a)) j)) (sym zero-i) ∙ r .2 in
+      let same : r .0 ≡ q = given-same (sym (record-read-any 0 (recordPart (recordsPart (t .header) (sheetOf a)) i) (r .0) read i) ∙ f) in
+      let kept = still (subst (λ (y : Record). At idOf (t .records) i y) same (r .1)) in
+      let j = kept .0 in
+      let s = at-read (recordsPart (t .header) (sheetOf x)) 0 (w .header .count) (w .records) (by-bytes x w after) j q (kept .1) in
+      let zero-j : 0 + j ≡ j = zero-add j in
+      let there' : recordOf (recordsPart (t .header) (sheetOf x)) j ≡ given q = record-read-any 0 (recordPart (recordsPart (t .header) (sheetOf x)) j) q (ap (λ (m : ℕ). readRecord 0 (recordPart (recordsPart (t .header) (sheetOf x)) m)) (sym zero-j) ∙ s .1) j in (
+        j,
+        s .0,
+        there',
+        verdict-at (sheetOf x) o' w (in-output x w after o' fits') j (s .0) q there'
+            ∙ ap entryBytes (count-apart (length (w .records)) (t .header) q)
+            ∙ sym (verdict-at (sheetOf a) o t (in-output a t found o fits) i l q f),
+      )
+
 -- A record of the sheet whose id the edit is not about is a record of the sheet after it, and its verdict there has the bytes that it had: whatever the two
 -- outputs are that have room for the verdicts.
 module _ (a : After) (t : Sheet) (found : sheetAt (a .bytes) (a .size) ≡ given t) (e : Edit idOf) (x : After) (done : editIn e a ≡ given x) (o o' : List ℕ)
@@ -104,20 +130,4 @@ module _ (a : After) (t : Sheet) (found : sheetAt (a .bytes) (a .size) ≡ given
 
   pub other-verdicts : (i : ℕ) → i < t .header .count → (q : Record) → recordOf (recordsPart (t .header) (sheetOf a)) i ≡ given q → (q .id ≡ edited e → ⊥)
       → (j : ℕ) × (j < u .header .count) × (recordOf (recordsPart (t .header) (sheetOf x)) j ≡ given q) × (fourAt j (outputOf (sheetOf x) o') ≡ fourAt i (outputOf (sheetOf a) o))
-  other-verdicts i l q f n =
-      let r = read-of (recordsPart (t .header) (sheetOf a)) 0 (t .header .count) (t .records) (by-bytes a t found) i l in
-      let zero-i : 0 + i ≡ i = zero-add i in
-      let read : readRecord 0 (recordPart (recordsPart (t .header) (sheetOf a)) i) ≡ given (r .0) = ap (λ (j : ℕ). readRecord 0 (recordPart (recordsPart (t .header) (sheetOf a)) j)) (sym zero-i) ∙ r .2 in
-      let same : r .0 ≡ q = given-same (sym (record-read-any 0 (recordPart (recordsPart (t .header) (sheetOf a)) i) (r .0) read i) ∙ f) in
-      let kept = keeps e (t .records) i q n (subst (λ (y : Record). At idOf (t .records) i y) same (r .1)) in
-      let j = kept .0 in
-      let s = at-read (recordsPart (t .header) (sheetOf x)) 0 (u .header .count) (u .records) (by-bytes x u after) j q (kept .1) in
-      let zero-j : 0 + j ≡ j = zero-add j in
-      let there' : recordOf (recordsPart (t .header) (sheetOf x)) j ≡ given q = record-read-any 0 (recordPart (recordsPart (t .header) (sheetOf x)) j) q (ap (λ (m : ℕ). readRecord 0 (recordPart (recordsPart (t .header) (sheetOf x)) m)) (sym zero-j) ∙ s .1) j in (
-        j,
-        s .0,
-        there',
-        verdict-at (sheetOf x) o' u (in-output x u after o' fits') j (s .0) q there'
-            ∙ ap entryBytes (count-apart (length (u .records)) (t .header) q)
-            ∙ sym (verdict-at (sheetOf a) o t (in-output a t found o fits) i l q f),
-      )
+  other-verdicts i l q f n = verdict-kept a t found x (listAfter idOf e (t .records)) after o o' fits fits' i l q f (keeps e (t .records) i q n)
