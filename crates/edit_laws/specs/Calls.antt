@@ -1,15 +1,15 @@
 -- Calls of the functions that edit a sheet, as people make them: one after another, on one buffer.
-use Prim.Native.Nat.{ℕ}
+use Prim.Native.Nat.{ℕ, _/_, _%_}
 use mathlib.Core.Path.{_≡_}
 use mathlib.Core.Bool.{Bool, true, cond}
 use mathlib.Core.List.{List, [], _∷_}
 use mathlib.Core.Option.{Option}
-use lib.ListN.{length}
+use lib.ListN.{length, getD, take}
 use lib.Dec.{ltb}
 use Rattle.numbers.specs.From.{recordOfNumbers}
 use Rattle.sheet.specs.declared.Record.{Record}
 use Rattle.sheet.specs.Refusals.{given}
-use Rattle.checker.specs.Check.{Sheet}
+use Rattle.checker.specs.Check.{part, Sheet}
 use Rattle.keyed.specs.Keyed.{rises, lookup, Edit, put, out, mapAll}
 use Rattle.edit.specs.declared.Edited.{Edited}
 use Rattle.edit.specs.Edit.{sheetAt, idOf, counting, After, putNumbersIn, removeIn, toldEdited, Edits}
@@ -99,3 +99,11 @@ pub record AnyCalls (E : Editor) (cs : List Call) (a : After) (t : Sheet) : Type
   pub header : sheet .header ≡ counting (length (sheet .records)) (t .header)
   pub order : rises idOf 0 (sheet .records) ≡ true
   pub map : (id : ℕ) → lookup idOf id (sheet .records) ≡ mapOf E cs a t id
+
+-- The header of so many bytes has all bits but the nine of its count as before. The count is the last four bits of byte 10 and the first five of byte 11, from 0:
+-- what stands before it is in the first ten bytes and the upper half of byte 10, and what stands after it in the last three bits of byte 11 and the bytes from 12 on.
+pub record HeaderKept (size : ℕ) (before after : List ℕ) : Type 0 where
+  pub front : take 10 after ≡ take 10 before
+  pub upper : getD after 10 0 / 16 ≡ getD before 10 0 / 16
+  pub lower : getD after 11 0 % 8 ≡ getD before 11 0 % 8
+  pub own : part after 12 size ≡ part before 12 size

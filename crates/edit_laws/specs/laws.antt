@@ -3,6 +3,7 @@ pub mod BackAgain
 pub mod CallLaws
 pub mod CallVerdicts
 pub mod Example
+pub mod HeaderBits
 pub mod NextPut
 pub mod Numbers
 pub mod Outcomes
