@@ -1,5 +1,5 @@
 -- Calls of the functions that edit a sheet, as people make them: one after another, on one buffer.
-use Prim.Native.Nat.{ℕ, _/_, _%_}
+use Prim.Native.Nat.{ℕ, _+_, _/_, _%_, max, _≤_, _<_}
 use mathlib.Core.Path.{_≡_}
 use mathlib.Core.Bool.{Bool, true, cond}
 use mathlib.Core.List.{List, [], _∷_}
@@ -9,10 +9,11 @@ use lib.Dec.{ltb}
 use Rattle.numbers.specs.From.{recordOfNumbers}
 use Rattle.sheet.specs.declared.Record.{Record}
 use Rattle.sheet.specs.Refusals.{given}
+use Rattle.sheet.specs.Header.{headerSize}
 use Rattle.checker.specs.Check.{part, Sheet}
-use Rattle.keyed.specs.Keyed.{rises, lookup, Edit, put, out, mapAll}
+use Rattle.keyed.specs.Keyed.{rises, positionOf, lookup, Edit, put, out, mapAll}
 use Rattle.edit.specs.declared.Edited.{Edited}
-use Rattle.edit.specs.Edit.{sheetAt, idOf, counting, After, putNumbersIn, removeIn, toldEdited, Edits}
+use Rattle.edit.specs.Edit.{sheetAt, start, idOf, counting, After, putNumbersIn, removeIn, toldEdited, Edits}
 use Rattle.yard.specs.Packed.{numberUnit}
 use Rattle.yard.specs.Editing.{resized, EditsPacked}
 use Rattle.edit_laws.specs.Edits.{edited}
@@ -107,3 +108,41 @@ pub record HeaderKept (size : ℕ) (before after : List ℕ) : Type 0 where
   pub upper : getD after 10 0 / 16 ≡ getD before 10 0 / 16
   pub lower : getD after 11 0 % 8 ≡ getD before 11 0 % 8
   pub own : part after 12 size ≡ part before 12 size
+
+-- ---- the bytes of the buffer
+
+-- byte i
+abbrev pub byte : List ℕ → ℕ → ℕ
+byte b i = getD b i 0
+
+-- where the record stands that a call is about, or where it would go in
+abbrev pub placeOf : Call → Sheet → ℕ
+placeOf c t = start (t .header) (positionOf idOf (edited (editOf c)) (t .records))
+
+-- byte i is none of the sixteen at a place
+pub data Apart (i place : ℕ) : Type 0 where
+  before-it : i < place → Apart i place
+  behind-it : place + 16 ≤ i → Apart i place
+
+-- What one call leaves in the buffer, of a sheet t that is not turned away.
+pub record Leaves (c : Call) (t : Sheet) (before after : After) : Type 0 where
+  -- the records before the call's place are as they were
+  pub in-front : (i : ℕ) → headerSize (t .header) ≤ i → i < placeOf c t → byte (after .bytes) i ≡ byte (before .bytes) i
+  -- where the sheet's length is what it was, as after a replacement, so is every byte but the sixteen at the place
+  pub others : after .size ≡ before .size → (i : ℕ) → Apart i (placeOf c t) → byte (after .bytes) i ≡ byte (before .bytes) i
+  -- what was of the sheet and is not any more is zero
+  pub freed : (i : ℕ) → after .size ≤ i → i < before .size → byte (after .bytes) i ≡ 0
+  -- past both sheets every byte is as it was, and the buffer is as long
+  pub past : (i : ℕ) → before .size ≤ i → after .size ≤ i → byte (after .bytes) i ≡ byte (before .bytes) i
+  pub long : length (after .bytes) ≡ length (before .bytes)
+
+-- the length of the longest sheet on the way, the first and the last among them
+unfoldable pub longest : Editor → List Call → After → ℕ
+longest E [] a = a .size
+longest E (c ∷ cs) a = let rest = longest E cs (called E c a) in max (a .size) rest
+
+-- What calls in turn leave past the sheet: zeros up to the end of the longest sheet on the way, and behind it every byte as it was lent; the buffer is as long.
+pub record LeavesPast (E : Editor) (cs : List Call) (a : After) : Type 0 where
+  pub zeros : (i : ℕ) → calledAll E cs a .size ≤ i → i < longest E cs a → byte (calledAll E cs a .bytes) i ≡ 0
+  pub lent : (i : ℕ) → longest E cs a ≤ i → byte (calledAll E cs a .bytes) i ≡ byte (a .bytes) i
+  pub long : length (calledAll E cs a .bytes) ≡ length (a .bytes)

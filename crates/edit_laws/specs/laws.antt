@@ -1,5 +1,6 @@
 -- What is proved of the definitions.
 pub mod BackAgain
+pub mod CallBytes
 pub mod CallLaws
 pub mod CallVerdicts
 pub mod Example
