@@ -2,6 +2,7 @@
 pub mod BackAgain
 pub mod CallBytes
 pub mod CallLaws
+pub mod CallRowLaws
 pub mod CallVerdicts
 pub mod Example
 pub mod HeaderBits

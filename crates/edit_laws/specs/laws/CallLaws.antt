@@ -36,7 +36,7 @@ as-edit (putFields ns) a x e =
     ap (putIn (a .bytes) (a .size)) (record-from-given ns (h .0 .count) (r .0) .0 (r .1) .1) ∙ r .2
 as-edit (removeId id) a x e = e
 
-in-range : (c : Call) (a : After) → Resized (sizeBy (comesTo c a))
+pub in-range : (c : Call) (a : After) → Resized (sizeBy (comesTo c a))
 in-range (putFields ns) a = put-resized (a .bytes) (a .size) ns
 in-range (removeId id) a = remove-resized (a .bytes) (a .size) id
 

@@ -52,7 +52,7 @@ with-room s x y t e l =
 
 -- ---- records by their places
 
-read-of : (s : List ℕ) (k m : ℕ) (rs : List Record) → Reads (partsFrom s k m) rs → (i : ℕ) → i < m → (q : Record) × At idOf rs i q × (readRecord 0 (recordPart s (k + i)) ≡ given q)
+pub read-of : (s : List ℕ) (k m : ℕ) (rs : List Record) → Reads (partsFrom s k m) rs → (i : ℕ) → i < m → (q : Record) × At idOf rs i q × (readRecord 0 (recordPart s (k + i)) ≡ given q)
 unfolding partsFrom
 read-of s k zero rs a i l = absurd (omega arith)
 read-of s k (suc m) (r ∷ rs) (reads f a) zero l = let e : k ≡ k + 0 = omega arith in (r, refl, ap (λ (j : ℕ). readRecord 0 (recordPart s j)) (sym e) ∙ f)
@@ -61,7 +61,7 @@ read-of s k (suc m) (r ∷ rs) (reads f a) (suc i) l =
     let e : k + 1 + i ≡ k + suc i = omega arith in
     (b .0, b .1, ap (λ (j : ℕ). readRecord 0 (recordPart s j)) (sym e) ∙ b .2)
 
-at-read : (s : List ℕ) (k m : ℕ) (rs : List Record) → Reads (partsFrom s k m) rs → (i : ℕ) (q : Record) → At idOf rs i q → (i < m) × (readRecord 0 (recordPart s (k + i)) ≡ given q)
+pub at-read : (s : List ℕ) (k m : ℕ) (rs : List Record) → Reads (partsFrom s k m) rs → (i : ℕ) (q : Record) → At idOf rs i q → (i < m) × (readRecord 0 (recordPart s (k + i)) ≡ given q)
 unfolding partsFrom
 at-read s k zero [] nothing i q b = absurd b
 at-read s k (suc m) (r ∷ rs) (reads f a) zero q b = let e : k ≡ k + 0 = omega arith in (omega arith, ap (λ (j : ℕ). readRecord 0 (recordPart s j)) (sym e) ∙ f ∙ ap given b)
@@ -87,7 +87,7 @@ module _ (a : After) (t : Sheet) (found : sheetAt (a .bytes) (a .size) ≡ given
   unfolding soundSheet
   in-output o l = with-room (sheetOf a) room (length o) t checked l
 
-  by-bytes : Reads (partsFrom (recordsPart (t .header) (sheetOf a)) 0 (t .header .count)) (t .records)
+  pub by-bytes : Reads (partsFrom (recordsPart (t .header) (sheetOf a)) 0 (t .header .count)) (t .records)
   by-bytes =
       let k = taken-at (a .bytes) (a .size) t found in
       subst (λ (ps : List (List ℕ)). Reads ps (t .records)) (sym (own-parts (a .bytes) (a .size) (t .header) (k .whole))) (k .bytes)
