@@ -73,7 +73,7 @@ calledAll E (c ∷ cs) a = calledAll E cs (called E c a)
 
 -- ---- what the calls are to a map
 
--- the edit that a call asks for
+-- the edit that a call asks for; where its fields are no record it is not done
 abbrev pub editOf : Call → Edit idOf
 editOf (putFields ns) = put (recordOfNumbers ns)
 editOf (removeId id) = out id

@@ -10,6 +10,7 @@ use native.Mathlib.Nat.{zero-add}
 use lib.ListN.{length, getD, take, drop}
 use lib.Dec.{leb}
 use borrow.Author.Tests.{le-leb, ltb-true, ltb-false}
+use Rattle.truth.specs.laws.Tests.{clash}
 use Rattle.quantity.specs.Range.{within, from}
 use Rattle.layout.specs.Line.{line, FirstFault}
 use Rattle.sheet.specs.declared.Header.{Header}
@@ -43,7 +44,7 @@ use Rattle.edit_laws.specs.Rows.{SheetRow, over, own, Full, buffer, coun
 use Rattle.edit_laws.specs.laws.RowLaws.{sheet-row, put-refused-exactly, remove-refused-exactly}
 use Rattle.edit_laws.specs.laws.Numbers.{NumbersRow, sheet as by-sheet, numbers as by-numbers, putting as by-putting, numbers-refused-exactly}
 use Rattle.edit_laws.specs.laws.Verdicts.{read-of, at-read, by-bytes}
-use Rattle.edit_laws.specs.Calls.{Call, putFields, removeId, Editor, MeetsEditor, answered, calledAll}
+use Rattle.edit_laws.specs.Calls.{Call, putFields, removeId, Editor, MeetsEditor, isDone, answered, calledAll}
 use Rattle.edit_laws.specs.CallRows.{Accepts, Has, NoRoom, short, most, SheetRefused, exceeds, row, PutRefused, sheet-first, no-kind, no-field, full, RemoveRefused, sheet-before, not-there, CallRefused}
 use Rattle.edit_laws.specs.laws.CallLaws.{comesTo, in-range, Outcome, done, turned-away, outcome, any-calls}
 
@@ -69,7 +70,7 @@ kind-fault ns = go (plateNumbered ns) refl
         (exactly-of (high-kinds (getD ns 0 0) (ltb-false (getD ns 0 0) 5 e)) (λ a. a, λ a. a))
 
 -- the id is the second number
-id-number : (ns : List ℕ) → recordOfNumbers ns .id ≡ getD ns 1 0
+pub id-number : (ns : List ℕ) → recordOfNumbers ns .id ≡ getD ns 1 0
 id-number ns = go (plateNumbered ns)
   where
     go : (t : Bool) → cond t (plateRecord ns) (memberRecord ns) .id ≡ getD ns 1 0
@@ -137,7 +138,7 @@ module _ (b : List ℕ) (len : ℕ) where
         let read : recordOf kept i ≡ given q = record-read-any 0 (recordPart kept i) q (ap (λ (j : ℕ). readRecord 0 (recordPart kept j)) (sym z) ∙ e) i in
         sym (record-id-field s i) ∙ ap (λ (r : Record). r .id) (record-sound s kept (records-read s (t .header) (taken-at b len t found .read)) i q read .1)
 
-    there : (id : ℕ) → Exactly (Present idOf id (t .records)) (Has b len id)
+    pub there : (id : ℕ) → Exactly (Present idOf id (t .records)) (Has b len id)
     there id = (forth, back)
       where
         forth : Present idOf id (t .records) → Has b len id
@@ -273,7 +274,19 @@ call-refused-exactly E meets c a k p l m = (λ e. forth e (outcome E meets c a),
         go (done x f g q d) h = given-refused (sym f ∙ h)
         go (turned-away j i f n q d) h = let e = sym f ∙ h in n ∙ ap₂ (λ (x y : ℕ). x * numberUnit + y) (refused-number e) (refused-place e)
 
--- and a sheet for which no row holds is one for which none does after any calls
+-- and a call is done exactly when no row holds
+pub call-done-exactly : (E : Editor) → MeetsEditor E → (c : Call) (a : After) → Exactly (isDone (answered E c a) ≡ true) ((k p : ℕ) → CallRefused c (a .bytes) (a .size) k p → ⊥)
+call-done-exactly E meets c a = (λ e k p r. forth e k p r (outcome E meets c a), λ n. back n (outcome E meets c a))
+  where
+    forth : isDone (answered E c a) ≡ true → (k p : ℕ) → CallRefused c (a .bytes) (a .size) k p → Outcome E meets c a → ⊥
+    forth e k p r (done x f g q d) = given-refused (sym f ∙ comes-exactly c a k p .1 r)
+    forth e k p r (turned-away j i f n q d) = clash e d
+
+    back : ((k p : ℕ) → CallRefused c (a .bytes) (a .size) k p → ⊥) → Outcome E meets c a → isDone (answered E c a) ≡ true
+    back n (done x f g q d) = d
+    back n (turned-away j i f m q d) = absurd (n j i (comes-exactly c a j i .0 f))
+
+-- a sheet for which no row holds is one for which none does after any calls
 pub still-accepted : (E : Editor) → MeetsEditor E → (cs : List Call) (a : After) → Accepts (a .bytes) (a .size) → Accepts (calledAll E cs a .bytes) (calledAll E cs a .size)
 still-accepted E meets cs a x =
     let t = accepted (a .bytes) (a .size) x in

@@ -1,23 +1,25 @@
 -- The sixteen bytes that a removal frees are there for the next insertion: a sound record that is put in right after a removal that is done is never refused.
 -- Assumes nothing.
 use Prim.Native.Nat.{ℕ, _+_, _-_, _≤_, _<_}
-use mathlib.Core.Path.{_≡_, sym, ap, _∙_}
+use mathlib.Core.Path.{_≡_, refl, sym, ap, subst, _∙_}
 use mathlib.Core.Bool.{Bool, true, false, cond}
 use mathlib.Core.List.{List}
 use native.Mathlib.Omega.{arith}
-use lib.ListN.{length}
+use lib.ListN.{length, getD}
 use borrow.Author.Tests.{le-leb, lt-ltb}
 use Rattle.truth.specs.laws.Tests.{clash}
+use Rattle.layout.specs.Line.{Allowed}
 use Rattle.sheet.specs.declared.Record.{Record}
 use Rattle.sheet.specs.Refusals.{given, refused}
 use Rattle.sheet.specs.laws.RefusalLaws.{given-refused}
 use Rattle.sheet.specs.Record.{recordFault}
-use Rattle.numbers.specs.From.{recordOfNumbers, recordNumbersFault, recordFrom}
+use Rattle.numbers.specs.From.{recordOfNumbers, recordFrom}
+use Rattle.numbers.specs.laws.Exactly.{recordFields, recordLines, record-from-given}
 use Rattle.numbers.specs.laws.Back.{record-numbers-same}
 use Rattle.checker.specs.Check.{_then_, demand, Sheet}
 use Rattle.checker.specs.laws.ThenLaws.{then-given, goes-on}
 use Rattle.keyed.specs.Keyed.{positionOf, hasOf, outOf}
-use Rattle.keyed.specs.laws.Places.{Present, has-present, has-lt}
+use Rattle.keyed.specs.laws.Places.{has-present, has-lt}
 use Rattle.edit.specs.Edit.{sheetAt, highest, idOf, counting, After, hasRoom, placing, putIn, removeIn}
 use Rattle.edit.specs.laws.Taken.{taken-at}
 use Rattle.edit.specs.laws.Done.{Put, replaces, inserts, put-done, remove-done}
@@ -27,6 +29,8 @@ use Rattle.edit_laws.specs.laws.Outcomes.{remove-sheet}
 use Rattle.edit_laws.specs.laws.Touched.{removed-length}
 use Rattle.edit_laws.specs.Calls.{putFields, removeId, Editor, MeetsEditor, isDone, answered, called}
 use Rattle.edit_laws.specs.laws.CallLaws.{Outcome, done, turned-away, outcome}
+use Rattle.edit_laws.specs.CallRows.{Has}
+use Rattle.edit_laws.specs.laws.CallRowLaws.{id-number, there}
 
 -- a sound record is put in where there is room for one more
 roomy : (b : List ℕ) (len : ℕ) (t : Sheet) → sheetAt b len ≡ given t → (r : Record) → recordFault r 0 ≡ 0 → hasRoom (t .header) len (length b) ≡ true → (k p : ℕ) → putIn b len r ≡ refused k p → ⊥
@@ -37,7 +41,7 @@ roomy b len t f r z m k p e = go (hasOf idOf (r .id) (t .records)) _ _ (rw (f, z
     go true x y g = given-refused g
     go false x y g = given-refused g
 
-module _ (E : Editor) (meets : MeetsEditor E) (a : After) (id : ℕ) (removed : isDone (answered E (removeId id) a) ≡ true) (ns : List ℕ) (sound : recordNumbersFault ns ≡ 0) where
+module _ (E : Editor) (meets : MeetsEditor E) (a : After) (id : ℕ) (removed : isDone (answered E (removeId id) a) ≡ true) (ns : List ℕ) (sound : Allowed (recordLines ns) (recordFields ns)) where
   -- buffer and length after the removal
   abbrev x : After
   x = called E (removeId id) a
@@ -86,8 +90,7 @@ module _ (E : Editor) (meets : MeetsEditor E) (a : After) (id : ℕ) (removed : 
   r = recordOfNumbers ns
 
   is-record : (i : ℕ) → recordFrom i ns ≡ given r
-  unfolding recordFrom
-  is-record i = rw sound
+  is-record i = record-from-given ns i r .1 (sound, refl)
 
   -- it is put in: the call is done
   pub next-put : isDone (answered E (putFields ns) x) ≡ true
@@ -104,11 +107,12 @@ module _ (E : Editor) (meets : MeetsEditor E) (a : After) (id : ℕ) (removed : 
           (sym (goes-on (recordFrom n ns) (λ q. putIn (x .bytes) (x .size) q) r (is-record n)) ∙ sym (numbers-put (x .bytes) (x .size) ns (freed .sheet) (freed .found)) ∙ f))
 
   -- and under an id that is not in the sheet, the sheet has the length again that it had before the removal: the record takes the sixteen bytes that came free
-  pub next-length : ((t : Sheet) → sheetAt (x .bytes) (x .size) ≡ given t → Present idOf (r .id) (t .records) → ⊥) → called E (putFields ns) x .size ≡ a .size
+  pub next-length : (Has (x .bytes) (x .size) (getD ns 1 0) → ⊥) → called E (putFields ns) x .size ≡ a .size
   next-length new = go (outcome E meets (putFields ns) x)
     where
       by : (y : After) → called E (putFields ns) x ≡ y → Put (x .bytes) (x .size) (freed .sheet) r y → called E (putFields ns) x .size ≡ a .size
-      by y h (replaces has e) = absurd (new (freed .sheet) (freed .found) (has-present idOf (r .id) (freed .sheet .records) has))
+      by y h (replaces has e) =
+          absurd (new (subst (λ (id : ℕ). Has (x .bytes) (x .size) id) (id-number ns) (there (x .bytes) (x .size) (freed .sheet) (freed .found) (r .id) .0 (has-present idOf (r .id) (freed .sheet .records) has))))
       by y h (inserts absent fits few e) = ap (λ (z : After). z .size) (h ∙ e) ∙ freed .shorter
 
       go : Outcome E meets (putFields ns) x → called E (putFields ns) x .size ≡ a .size
