@@ -26,8 +26,8 @@ pub data Call : Type 0 where
   removeId : (id : ℕ) → Call
 
 -- Two functions of the library, one for each kind of call: the number that they answer, and what they leave in the buffer, for every buffer and every stated
--- length. A compiled function is called with bytes, with 13 numbers of 32 bits and with lengths of 64 bits, and its contract says so much of every such call;
--- what stands here for other lists and numbers plays no part in what it does.
+-- length. A compiled function is called with bytes, with 13 numbers of 32 bits and with lengths of 64 bits, and meets its promise in every such call; for other
+-- lists and numbers, with which it cannot be called, what the promise says may stand for it.
 pub record Editor : Type 0 where
   pub answer : Call → (buffer : List ℕ) (len : ℕ) → ℕ
   pub after : Call → (buffer : List ℕ) (len : ℕ) → List ℕ
@@ -116,8 +116,8 @@ abbrev pub byte : List ℕ → ℕ → ℕ
 byte b i = getD b i 0
 
 -- where the record stands that a call is about, or where it would go in
-abbrev pub placeOf : Call → Sheet → ℕ
-placeOf c t = start (t .header) (positionOf idOf (edited (editOf c)) (t .records))
+abbrev pub callPlace : Call → Sheet → ℕ
+callPlace c t = start (t .header) (positionOf idOf (edited (editOf c)) (t .records))
 
 -- byte i is none of the sixteen at a place
 pub data Apart (i place : ℕ) : Type 0 where
@@ -125,11 +125,11 @@ pub data Apart (i place : ℕ) : Type 0 where
   behind-it : place + 16 ≤ i → Apart i place
 
 -- What one call leaves in the buffer, of a sheet t that is not turned away.
-pub record Leaves (c : Call) (t : Sheet) (before after : After) : Type 0 where
+pub record CallLeaves (c : Call) (t : Sheet) (before after : After) : Type 0 where
   -- the records before the call's place are as they were
-  pub in-front : (i : ℕ) → headerSize (t .header) ≤ i → i < placeOf c t → byte (after .bytes) i ≡ byte (before .bytes) i
+  pub in-front : (i : ℕ) → headerSize (t .header) ≤ i → i < callPlace c t → byte (after .bytes) i ≡ byte (before .bytes) i
   -- where the sheet's length is what it was, as after a replacement, so is every byte but the sixteen at the place
-  pub others : after .size ≡ before .size → (i : ℕ) → Apart i (placeOf c t) → byte (after .bytes) i ≡ byte (before .bytes) i
+  pub others : after .size ≡ before .size → (i : ℕ) → Apart i (callPlace c t) → byte (after .bytes) i ≡ byte (before .bytes) i
   -- what was of the sheet and is not any more is zero
   pub freed : (i : ℕ) → after .size ≤ i → i < before .size → byte (after .bytes) i ≡ 0
   -- past both sheets every byte is as it was, and the buffer is as long

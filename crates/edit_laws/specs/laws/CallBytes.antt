@@ -18,7 +18,7 @@ use Rattle.edit.specs.laws.Taken.{Taken, taken-at}
 use Rattle.edit.specs.laws.Done.{Put, replaces, inserts, put-done, remove-done}
 use Rattle.edit_laws.specs.Edits.{editIn}
 use Rattle.edit_laws.specs.laws.Touched.{replaced-before, replaced-after, replaced-length, inserted-before, inserted-rest, inserted-length, removed-before, removed-freed, removed-rest, removed-length}
-use Rattle.edit_laws.specs.Calls.{Call, putFields, removeId, Editor, MeetsEditor, called, calledAll, editOf, byte, Apart, before-it, behind-it, Leaves, longest, LeavesPast}
+use Rattle.edit_laws.specs.Calls.{Call, putFields, removeId, Editor, MeetsEditor, called, calledAll, editOf, byte, Apart, before-it, behind-it, CallLeaves, longest, LeavesPast}
 use Rattle.edit_laws.specs.laws.CallLaws.{Outcome, done, turned-away, outcome, any-calls}
 
 -- ---- bytes of parts
@@ -45,7 +45,7 @@ module _ (a : After) (t : Sheet) (found : sheetAt (a .bytes) (a .size) ≡ given
   k = taken-at (a .bytes) (a .size) t found
 
   -- a refusal
-  nothing-left : (c : Call) → Leaves c t a a
+  nothing-left : (c : Call) → CallLeaves c t a a
   nothing-left c =
       record {
         in-front = λ i l m. refl;
@@ -55,7 +55,7 @@ module _ (a : After) (t : Sheet) (found : sheetAt (a .bytes) (a .size) ≡ given
         long = refl;
       }
 
-  put-leaves : (ns : List ℕ) (x : After) → Put (a .bytes) (a .size) t (recordOfNumbers ns) x → Leaves (putFields ns) t a x
+  put-leaves : (ns : List ℕ) (x : After) → Put (a .bytes) (a .size) t (recordOfNumbers ns) x → CallLeaves (putFields ns) t a x
   put-leaves ns x (replaces has e) =
       let b = a .bytes in
       let h = t .header in
@@ -66,7 +66,7 @@ module _ (a : After) (t : Sheet) (found : sheetAt (a .bytes) (a .size) ≡ given
       let inside : start h i + 16 ≤ length b = omega (arith, end, k .fits) in
       let first = replaced-before b h i r inside in
       let last = replaced-after b h i r inside in
-      subst (Leaves (putFields ns) t a) (sym e)
+      subst (CallLeaves (putFields ns) t a) (sym e)
       (record {
         in-front = λ j l m. taken-byte y b (start h i) j first m;
         others = λ q j n. apart y b (start h i) first last j n;
@@ -86,7 +86,7 @@ module _ (a : After) (t : Sheet) (found : sheetAt (a .bytes) (a .size) ≡ given
       let g = counting (h .count + 1) h in
       let y = inserting g i (a .size) r b in
       let inside : start g i ≤ a .size = omega (arith, k .whole, k .number, place-le idOf (r .id) (t .records)) in
-      subst (Leaves (putFields ns) t a) (sym e)
+      subst (CallLeaves (putFields ns) t a) (sym e)
       (record {
         in-front = λ j l m. part-byte y b (headerSize h) (start h i) j (inserted-before b g i (a .size) r inside fits) l m;
         others = λ q j n. absurd (omega arith);
@@ -95,7 +95,7 @@ module _ (a : After) (t : Sheet) (found : sheetAt (a .bytes) (a .size) ≡ given
         long = inserted-length b g i (a .size) r inside fits;
       })
 
-  remove-leaves : (id : ℕ) (x : After) → removeIn (a .bytes) (a .size) id ≡ given x → Leaves (removeId id) t a x
+  remove-leaves : (id : ℕ) (x : After) → removeIn (a .bytes) (a .size) id ≡ given x → CallLeaves (removeId id) t a x
   remove-leaves id x f =
       let b = a .bytes in
       let h = t .header in
@@ -104,7 +104,7 @@ module _ (a : After) (t : Sheet) (found : sheetAt (a .bytes) (a .size) ≡ given
       let g = counting (h .count - 1) h in
       let y = removing g i (a .size) b in
       let inside : start g i + 16 ≤ a .size = omega (arith, k .whole, k .number, has-lt idOf id (t .records) (d .there)) in
-      subst (Leaves (removeId id) t a) (sym (d .after))
+      subst (CallLeaves (removeId id) t a) (sym (d .after))
       (record {
         in-front = λ j l m. part-byte y b (headerSize h) (start h i) j (removed-before b g i (a .size) inside (k .fits)) l m;
         others = λ q j n. absurd (omega (arith, inside));
@@ -116,16 +116,16 @@ module _ (a : After) (t : Sheet) (found : sheetAt (a .bytes) (a .size) ≡ given
         long = removed-length b g i (a .size) inside (k .fits);
       })
 
-  done-leaves : (c : Call) (x : After) → editIn (editOf c) a ≡ given x → Leaves c t a x
+  done-leaves : (c : Call) (x : After) → editIn (editOf c) a ≡ given x → CallLeaves c t a x
   done-leaves (putFields ns) x f = put-leaves ns x (put-done (a .bytes) (a .size) t found (recordOfNumbers ns) x f .1)
   done-leaves (removeId id) x f = remove-leaves id x f
 
-  pub one-leaves : (E : Editor) → MeetsEditor E → (c : Call) → Leaves c t a (called E c a)
+  pub one-leaves : (E : Editor) → MeetsEditor E → (c : Call) → CallLeaves c t a (called E c a)
   one-leaves E meets c = go (outcome E meets c a)
     where
-      go : Outcome E meets c a → Leaves c t a (called E c a)
-      go (done x f g q d) = subst (Leaves c t a) (sym q) (done-leaves c x g)
-      go (turned-away l p f n q d) = subst (Leaves c t a) (sym q) (nothing-left c)
+      go : Outcome E meets c a → CallLeaves c t a (called E c a)
+      go (done x f g q d) = subst (CallLeaves c t a) (sym q) (done-leaves c x g)
+      go (turned-away l p f n q d) = subst (CallLeaves c t a) (sym q) (nothing-left c)
 
 -- ---- calls in turn
 
@@ -154,7 +154,7 @@ module _ (E : Editor) (meets : MeetsEditor E) where
         first = omega arith;
       }
     where
-      step : (x : After) → Leaves c t a x → (i : ℕ) → x .size ≤ i → i < max reached (x .size) → Dec (i < a .size) → byte (x .bytes) i ≡ 0
+      step : (x : After) → CallLeaves c t a x → (i : ℕ) → x .size ≤ i → i < max reached (x .size) → Dec (i < a .size) → byte (x .bytes) i ≡ 0
       step x v i m n (yes q) = v .freed i m q
       step x v i m n (no q) = v .past i (omega arith) m ∙ z i (omega arith) (omega arith)
 
