@@ -12,7 +12,7 @@ use Rattle.sheet.specs.declared.Header.{Header}
 use Rattle.sheet.specs.declared.Record.{Record}
 use Rattle.sheet.specs.declared.Refusal.{Refusal}
 use Rattle.sheet.specs.declared.Refusal.the-variants.{NoSuchId, NoRoom}
-use Rattle.sheet.specs.Refusals.{Answer, given, refused, numberOf, placeOf, told, headerRefused, recordRefused}
+use Rattle.sheet.specs.Refusals.{Answer, given, refused, numberOf, placeOf, told, headerRefused}
 use Rattle.sheet.specs.laws.RefusalLaws.{at-none, by-none, given-refused, given-same, refused-number, refused-place}
 use Rattle.sheet.specs.Header.{headerFault}
 use Rattle.sheet.specs.Record.{recordFault}
@@ -90,10 +90,6 @@ unfolding sizeBy bytesBy
 given-edits a b after size e = record { answer = rw e; bytes = rw e }
 
 module _ (b : List ℕ) (len : ℕ) where
-  pub put-refused : (r : Record) (x : Refusal) → told x ≡ headerOf b len → Edits (putIn b len r) b (notEdited x) b
-  unfolding putIn _then_
-  put-refused r x e = refused-edits (putIn b len r) b x (rw (sheet-refused b len (numberOf x) (placeOf x) e))
-
   pub numbers-turned : (ns : List ℕ) (x : Refusal) → told x ≡ headerOf b len → Edits (putNumbersIn b len ns) b (notEdited x) b
   unfolding putNumbersIn _then_
   numbers-turned ns x e = refused-edits (putNumbersIn b len ns) b x (rw (sym e))
@@ -178,13 +174,6 @@ module _ (b : List ℕ) (len : ℕ) where
     -- ---- a new record
 
     module _ (r : Record) where
-      -- 6 and 7 on it, with n as its record
-      pub record-refused : (x : Refusal) → told x ≡ recordRefused n (recordFault r 0) (given (tt {0})) → Edits (putIn b len r) b (notEdited x) b
-      unfolding putIn _then_
-      record-refused x e =
-          refused-edits (putIn b len r) b x
-          (rw (k .found) (ap (λ (y : Answer (Unit {0})). y then λ u. placing t b len r) (ap (λ (m : ℕ). recordRefused m (recordFault r 0) (given (tt {0}))) same-count ∙ sym e)))
-
       module _ (z : recordFault r 0 ≡ 0) where
         put-is : putIn b len r ≡ placing t b len r
         unfolding putIn _then_

@@ -26,7 +26,7 @@ pub enum Edited {
 }
 
 // The header of the sheet, or why it is turned away.
-pub fn sheet_at(buf: &[u8], len: usize) -> HeaderRead
+fn sheet_at(buf: &[u8], len: usize) -> HeaderRead
     ensures { λ r. ⌜ toldHeader r ≡ headerOf (now (buf .entry)) len ⌝ }
 {
     if buf.len() < len {
@@ -128,24 +128,8 @@ fn put_sound(buf: &mut [u8], len: usize, h: Header, r: Record) -> Edited
     put_new(buf, len, h, i, r)
 }
 
-// A record into the sheet: it replaces the one with its id, or goes in at its place in the id order. A refusal changes no byte.
-pub fn put(buf: &mut [u8], len: usize, r: Record) -> Edited
-    ensures { λ e. ⌜ Edits (putIn (now (buf .entry)) len r) (now (buf .entry)) e (now (buf .exit)) ⌝ }
-{
-    let read = sheet_at(buf, len);
-    match read {
-        HeaderRead::Refused(x) => Edited::Refused(x),
-        HeaderRead::Good(h) => {
-            let found = record::record_fault(r, h.count);
-            match found {
-                Outcome::Refused(x) => Edited::Refused(x),
-                Outcome::Fine => put_sound(buf, len, h, r),
-            }
-        }
-    }
-}
-
-// The same of the record that thirteen numbers are; one that its field does not allow is refused at that field, however great it is.
+// The record that thirteen numbers are into the sheet: it replaces the one with its id, or goes in at its place in the id order. A number that its field does not
+// allow is refused at that field, however great it is. A refusal changes no byte.
 pub fn put_numbers(buf: &mut [u8], len: usize, f: [u32; 13]) -> Edited
     ensures { λ e. ⌜ Edits (putNumbersIn (now (buf .entry)) len f) (now (buf .entry)) e (now (buf .exit)) ⌝ }
 {
@@ -156,7 +140,7 @@ pub fn put_numbers(buf: &mut [u8], len: usize, f: [u32; 13]) -> Edited
             let taken = numbers::record_from(f, h.count);
             match taken {
                 RecordRead::Refused(x) => Edited::Refused(x),
-                RecordRead::Good(r) => put(buf, len, r),
+                RecordRead::Good(r) => put_sound(buf, len, h, r),
             }
         }
     }

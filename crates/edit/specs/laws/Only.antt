@@ -3,13 +3,11 @@
 use Prim.Native.Nat.{ℕ}
 use mathlib.Core.Path.{_≡_, sym, ap, _∙_}
 use mathlib.Core.List.{List}
-use Rattle.sheet.specs.declared.Record.{Record}
-use Rattle.sheet.specs.declared.HeaderRead.{HeaderRead}
-use Rattle.sheet.specs.Refusals.{Answer, toldHeader}
-use Rattle.sheet.specs.laws.RefusalLaws.{refusal-only, header-only, given-refused, given-same, refused-number, refused-place}
+use Rattle.sheet.specs.Refusals.{Answer}
+use Rattle.sheet.specs.laws.RefusalLaws.{refusal-only, given-refused, given-same, refused-number, refused-place}
 use Rattle.edit.specs.declared.Edited.{Edited}
 use Rattle.edit.specs.declared.Edited.the-variants.{Length, Refused as notEdited}
-use Rattle.edit.specs.Edit.{headerOf, After, putIn, putNumbersIn, removeIn, toldEdited, Edits}
+use Rattle.edit.specs.Edit.{After, putNumbersIn, removeIn, toldEdited, Edits}
 
 edited-only : (a : Answer ℕ) (q r : Edited) → toldEdited q ≡ a → toldEdited r ≡ a → q ≡ r
 edited-only a (Length m) (Length n) f g = ap Length (given-same (f ∙ sym g))
@@ -19,12 +17,6 @@ edited-only a (notEdited x) (notEdited y) f g = ap notEdited (refusal-only x y (
 
 edits-only : (a : Answer After) (b : List ℕ) (q r : Edited) (x y : List ℕ) → Edits a b q x → Edits a b r y → (q ≡ r) × (x ≡ y)
 edits-only a b q r x y f g = (edited-only _ q r (f .answer) (g .answer), f .bytes ∙ sym (g .bytes))
-
-pub sheet-at-only : (b : List ℕ) (len : ℕ) (q r : HeaderRead) → toldHeader q ≡ headerOf b len → toldHeader r ≡ headerOf b len → q ≡ r
-sheet-at-only b len q r f g = header-only (headerOf b len) q r f g
-
-pub put-only : (b : List ℕ) (len : ℕ) (new : Record) (q r : Edited) (x y : List ℕ) → Edits (putIn b len new) b q x → Edits (putIn b len new) b r y → (q ≡ r) × (x ≡ y)
-put-only b len new q r x y f g = edits-only (putIn b len new) b q r x y f g
 
 pub put-numbers-only : (b : List ℕ) (len : ℕ) (ns : List ℕ) (q r : Edited) (x y : List ℕ) → Edits (putNumbersIn b len ns) b q x → Edits (putNumbersIn b len ns) b r y → (q ≡ r) × (x ≡ y)
 put-numbers-only b len ns q r x y f g = edits-only (putNumbersIn b len ns) b q r x y f g
