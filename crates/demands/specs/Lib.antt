@@ -5,7 +5,9 @@ pub mod Raise
 pub mod Demands
 pub mod Sources
 pub mod Printed
-pub mod BeforeVersion2
+pub mod Document01Sheet
+pub mod Document01Rules
+pub mod Document01
 pub mod Empty
 pub mod EmptyPrograms
 -- how it is proved

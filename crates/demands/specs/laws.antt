@@ -15,5 +15,7 @@ pub mod ShutOut
 pub mod Slender
 pub mod SlenderRead
 pub mod SourcesProved
+pub mod RulesUnmoved
+pub mod SheetUnmoved
 pub mod Unmoved
 pub mod Version2
