@@ -1,10 +1,11 @@
 -- What a verdict says of the load that decided, on a program that checks sheets.
-use Prim.Native.Nat.{ℕ, _*_, _/_, _<_}
+use Prim.Native.Nat.{ℕ, zero, suc, _*_, _/_, _<_}
 use mathlib.Core.Path.{_≡_}
 use mathlib.Core.List.{List, [], _∷_, _++_}
-use lib.ListN.{getD, take}
+use lib.ListN.{getD, take, drop}
 use Rattle.layout.specs.Layout.{pack, unpack, bytes}
 use Rattle.loads.specs.Sources.{Decides}
+use Rattle.sheet.specs.Refusals.{Answer, given, refused}
 use Rattle.verdict.specs.declared.Verdict.{Verdict}
 use Rattle.hull.specs.Hull.{verdict}
 use Rattle.hull.specs.Raising.{InGauge, OwnRule}
@@ -13,13 +14,23 @@ use Rattle.checker.specs.declared.Entry.{Entry}
 use Rattle.checker.specs.declared.Checked.the-variants.{Done}
 use Rattle.checker.specs.Entry.{verdictWidths}
 use Rattle.demands.specs.Table.{idOf}
-use Rattle.checker.specs.Check.{fourAt}
+use Rattle.checker.specs.Check.{fourAt, Totals}
 use Rattle.demands.specs.Program.{Program, Leaves}
 use Rattle.demands.specs.Raise.{theHeader, theRecord, withScantling, raisedTimes}
 
 -- four bytes with 0 in the last two bits
 abbrev pub cleared : List ℕ → List ℕ
 cleared b = take 3 b ++ (getD b 3 0 / 4 * 4 ∷ [])
+
+-- an output whose first n verdicts have 0 there
+unfoldable pub clearedFirst : (n : ℕ) → List ℕ → List ℕ
+clearedFirst zero out = out
+clearedFirst (suc n) out = cleared (take 4 out) ++ clearedFirst n (drop 4 out)
+
+-- how many verdicts a check leaves
+abbrev pub verdictsLeft : Answer Totals → ℕ
+verdictsLeft (given w) = w .n
+verdictsLeft (refused k p) = 0
 
 -- the four bytes of a verdict that names no source: its two bits are 0
 abbrev pub sourceless : ℕ → Verdict → List ℕ

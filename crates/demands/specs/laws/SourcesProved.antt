@@ -27,7 +27,7 @@ use Rattle.demands.specs.laws.Proved.{second-demand, holds-leaves, holds
 -- ---- the bytes
 
 -- a number of 32 bits whose last two are taken off
-cleared-bytes : (m d : ℕ) → d ≤ 3 → cleared (unpack (bytes 4) (4 * m + d)) ≡ unpack (bytes 4) (4 * m)
+pub cleared-bytes : (m d : ℕ) → d ≤ 3 → cleared (unpack (bytes 4) (4 * m + d)) ≡ unpack (bytes 4) (4 * m)
 cleared-bytes m d l =
     let a : (4 * m + d) / 2 ^ 24 % 2 ^ 8 ≡ 4 * m / 2 ^ 24 % 2 ^ 8 = omega arith in
     let b : (4 * m + d) / 2 ^ 16 % 2 ^ 8 ≡ 4 * m / 2 ^ 16 % 2 ^ 8 = omega arith in

@@ -1,24 +1,28 @@
 -- A sheet that does not name version 2 is answered as in document 01, and its output left so, but for the last two bits of a verdict, which name its source now.
 -- Assumes nothing.
-use Prim.Native.Nat.{ℕ, _+_, _*_, _<_}
+use Prim.Native.Nat.{ℕ, _+_, _*_, _^_, _≤_}
 use mathlib.Core.Path.{_≡_, refl, sym, ap, ap₂, _∙_}
 use mathlib.Core.Bool.{cond}
 use mathlib.Core.List.{List, [], _∷_, _++_, map}
 use native.Mathlib.Omega.{arith}
 use lib.ListN.{length, drop}
 use lib.Dec.{eqb}
+use Rattle.layout.specs.Layout.{pack, unpack, bytes}
 use Rattle.sheet.specs.declared.Header.{Header}
 use Rattle.sheet.specs.declared.Own.the-variants.{One}
 use Rattle.sheet.specs.declared.Record.{Record}
 use Rattle.sheet.specs.Refusals.{Answer, given, refused}
 use Rattle.verdict.specs.declared.Verdict.{Verdict}
 use Rattle.hull.specs.Hull.{sourceOf}
-use Rattle.checker.specs.Entry.{verdictWidths}
+use Rattle.hull.specs.laws.SourceLaws.{source-most}
 use Rattle.checker.specs.Check.{_then_, Sheet, sheetIn, entryOf, verdicts, bytesOf, failures, answerOf, outputBy, outputOf}
 use Rattle.checker.specs.laws.CheckLaws.{sheet-whole}
 use Rattle.demands.specs.Document01Sheet.{versionNamed}
-use Rattle.demands.specs.Document01.{fourBytes, verdictBytes, failed, answer01, written, output01}
+use Rattle.demands.specs.Sources.{cleared, clearedFirst, verdictsLeft}
+use Rattle.demands.specs.Document01Rules.{verdict}
+use Rattle.demands.specs.Document01.{fourBytes, zero2, verdictBytes, failed, answer01, written, output01}
 use Rattle.demands.specs.laws.Example.{example, lent}
+use Rattle.demands.specs.laws.SourcesProved.{cleared-bytes}
 use Rattle.demands.specs.laws.RulesUnmoved.{verdict-same}
 use Rattle.demands.specs.laws.SheetUnmoved.{own-none, sheet-unmoved}
 
@@ -37,6 +41,21 @@ module _ (h : Header) (bare : h .own ≡ One) where
   unfolding failures entryOf failed
   failed-same [] = refl
   failed-same (r ∷ rs) = ap₂ _+_ (ap (λ (v : Verdict). cond (eqb (v .rule) 0) 0 1) (verdict-same h bare r)) (failed-same rs)
+
+-- ---- the last two bits of each
+
+four-cleared : (id : ℕ) (v : Verdict) (d : ℕ) → d ≤ 3 → cleared (fourBytes id v d) ≡ fourBytes id v 0
+four-cleared id v d l =
+    let m = id * 2 ^ 20 + v .rule * 2 ^ 17 + v .required in
+    let full : pack (10 ∷ 3 ∷ 17 ∷ 2 ∷ []) (id ∷ v .rule ∷ v .required ∷ d ∷ []) ≡ 4 * m + d = omega arith in
+    let bare : pack (10 ∷ 3 ∷ 17 ∷ 2 ∷ []) (id ∷ v .rule ∷ v .required ∷ 0 ∷ []) ≡ 4 * m = omega arith in
+    ap (λ (n : ℕ). cleared (unpack (bytes 4) n)) full ∙ cleared-bytes m d l ∙ ap (unpack (bytes 4)) (sym bare)
+
+all-cleared : (h : Header) (rs : List Record) (rest : List ℕ) → clearedFirst (length rs) (verdictBytes sourceOf h rs ++ rest) ≡ verdictBytes zero2 h rs ++ rest
+unfolding clearedFirst verdictBytes
+all-cleared h [] rest = refl
+all-cleared h (r ∷ rs) rest =
+    ap₂ (λ (a b : List ℕ). a ++ b) (four-cleared (r .id) (verdict h r) (sourceOf h r) (source-most h r)) (all-cleared h rs rest)
 
 -- ---- a sheet that does not name version 2
 
@@ -71,6 +90,19 @@ module _ (s : List ℕ) (other : versionNamed s ≡ 2 → ⊥) where
       go : (x : Answer Sheet) → sheetIn s (length out) ≡ x → outputBy (sheetIn s (length out)) out ≡ written sourceOf (sheetIn s (length out)) out
       go (refused k p) e = rw e
       go (given t) e = rw e (ap (λ (b : List ℕ). b ++ drop (4 * t .header .count) out) (verdicts-unmoved (length out) t e))
+
+  -- which, with 0 there, is the document's own
+  pub output-cleared : (out : List ℕ) → clearedFirst (verdictsLeft (answerOf s (length out))) (outputOf s out) ≡ output01 zero2 s out
+  unfolding answerOf outputOf output01 _then_ clearedFirst
+  output-cleared out = go (sheetIn s (length out)) refl ∙ ap (λ (x : Answer Sheet). written zero2 x out) (sheet-unmoved s other (length out))
+    where
+      go : (x : Answer Sheet) → sheetIn s (length out) ≡ x → clearedFirst (verdictsLeft (answerOf s (length out))) (outputOf s out) ≡ written zero2 (sheetIn s (length out)) out
+      go (refused k p) e = rw e
+      go (given t) e =
+          let rest = drop (4 * t .header .count) out in
+          rw e
+          (ap₂ clearedFirst (sym (sheet-whole s (length out) t e .number)) (ap (λ (b : List ℕ). b ++ rest) (verdicts-unmoved (length out) t e))
+          ∙ all-cleared (t .header) (t .records) rest)
 
 -- the premise holds for the document's example
 pub example-unmoved : (answerOf example 9 ≡ answer01 example 9) × (outputOf example lent ≡ output01 sourceOf example lent)
