@@ -1,5 +1,6 @@
 -- What is proved of the definitions.
 pub mod Cases
+pub mod Document01Cases
 pub mod Example
 pub mod Exchange
 pub mod FieldsRead
@@ -10,12 +11,12 @@ pub mod PrintedProved
 pub mod Proved
 pub mod Replace
 pub mod Rows
+pub mod RulesUnmoved
 pub mod Scantling
+pub mod SheetUnmoved
 pub mod ShutOut
 pub mod Slender
 pub mod SlenderRead
 pub mod SourcesProved
-pub mod RulesUnmoved
-pub mod SheetUnmoved
 pub mod Unmoved
 pub mod Version2

@@ -7,6 +7,8 @@ use mathlib.Core.List.{List, [], _∷_, _++_, map}
 use native.Mathlib.Omega.{arith}
 use lib.ListN.{length, drop}
 use lib.Dec.{eqb}
+use Rattle.gauge.specs.Ceil.{ceilOf}
+use Rattle.gauge.specs.Least.{firstFrom, leastIn}
 use Rattle.layout.specs.Layout.{pack, unpack, bytes}
 use Rattle.sheet.specs.declared.Header.{Header}
 use Rattle.sheet.specs.declared.Own.the-variants.{One}
@@ -18,6 +20,8 @@ use Rattle.hull.specs.laws.SourceLaws.{source-most}
 use Rattle.checker.specs.Check.{_then_, Sheet, sheetIn, entryOf, verdicts, bytesOf, failures, answerOf, outputBy, outputOf}
 use Rattle.checker.specs.laws.CheckLaws.{sheet-whole}
 use Rattle.demands.specs.Document01Sheet.{versionNamed}
+use Rattle.demands.specs.Document01Sheet as doc
+use Rattle.demands.specs.Document01Rules as rules
 use Rattle.demands.specs.Sources.{cleared, clearedFirst, verdictsLeft}
 use Rattle.demands.specs.Document01Rules.{verdict}
 use Rattle.demands.specs.Document01.{fourBytes, zero2, verdictBytes, failed, answer01, written, output01}
@@ -107,3 +111,9 @@ module _ (s : List ℕ) (other : versionNamed s ≡ 2 → ⊥) where
 -- the premise holds for the document's example
 pub example-unmoved : (answerOf example 9 ≡ answer01 example 9) × (outputOf example lent ≡ output01 sourceOf example lent)
 example-unmoved = let other : versionNamed example ≡ 2 → ⊥ = λ e. omega (arith, e) in (answer-unmoved example other 9, output-unmoved example other lent)
+
+-- of which document 01 computes what it prints, 7 3 617, 12 5 567, 2 2; the ninth byte is as it was lent
+pub example-01 : (answer01 example 9 ≡ given (record { n = 2; failed = 2 }))
+    × (output01 zero2 example lent ≡ (fourBytes 7 (record { rule = 3; required = 617 }) 0 ++ (fourBytes 12 (record { rule = 5; required = 567 }) 0 ++ (170 ∷ []))))
+unfolding firstFrom leastIn ceilOf rules.sea rules.onBottom rules.onInner rules.onDeep rules.q rules.K2 rules.rule4 rules.rule5 rules.rule6 rules.verdict verdictBytes failed answer01 output01 doc.sheetIn doc.headerIn doc.recordsIn doc.recordIn _then_
+example-01 = (refl, refl)
