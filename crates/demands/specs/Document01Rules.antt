@@ -47,7 +47,8 @@ q P S = ceilOf (P * S) 1000000
 -- P on a plate: kinds 1, 2 bottom, 3, 4 inner bottom
 abbrev pub platePressure : Header → ℕ → Plate → ℕ
 platePressure h kind p =
-    cond (bottom kind) (onBottom (h .draught .0) (h .wave .0) (p .z .0) (p .ballast) (p .«tank_top» .0)) (onInner (p .cargo) (p .z .0) (p .ballast) (p .«tank_top» .0))
+    cond (bottom kind) (onBottom (h .draught .0) (h .wave .0) (p .z .0) (p .ballast) (p .«tank_top» .0))
+    (onInner (p .cargo) (p .z .0) (p .ballast) (p .«tank_top» .0))
 
 -- P on a member: kind 5 sea at z, kinds 6 to 8 theirs
 abbrev pub memberPressure : Header → ℕ → Member → ℕ
@@ -82,19 +83,25 @@ rule2 kind K S P T = cond (longitudinal kind) (leb (9 * (S * S * K * P)) (625000
 
 -- 3: transverse: 25T²K2² ≥ 1156S²R; longitudinal: 100,000,000·T² ≥ 1521S²R
 abbrev pub first3 : (kind S K2 R T : ℕ) → Bool
-first3 kind S K2 R T = cond (longitudinal kind) (leb (1521 * (S * S) * R) (100000000 * (T * T))) (leb (1156 * (S * S) * R) (25 * (T * T) * (K2 * K2)))
+first3 kind S K2 R T =
+    cond (longitudinal kind) (leb (1521 * (S * S) * R) (100000000 * (T * T))) (leb (1156 * (S * S) * R) (25 * (T * T) * (K2 * K2)))
 
 -- the second form: kind 1: T²K2²(210,000−R) ≥ 504,100,000·S²K; kind 2: 10T²(210,000−R) ≥ 1681S²K; at R ≥ 210,000 no T meets it
 abbrev pub second3 : (kind K S K2 R T : ℕ) → Bool
 second3 kind K S K2 R T =
-    ltb R 210000 && cond (longitudinal kind) (leb (1681 * (S * S * K)) (10 * (T * T) * (210000 - R))) (leb (504100000 * (S * S * K)) (T * T * (K2 * K2) * (210000 - R)))
+    ltb R 210000
+    && cond (longitudinal kind) (leb (1681 * (S * S * K)) (10 * (T * T) * (210000 - R)))
+    (leb (504100000 * (S * S * K)) (T * T * (K2 * K2) * (210000 - R)))
 
 -- it replaces the first: kind 1 when 1156KR > 121,000,000,000; kind 2 when 6084KR > 625,000,000,000
 abbrev pub rule3 : (kind K S K2 R T : ℕ) → Bool
 rule3 kind K S K2 R T =
-    cond (cond (eqb kind 1) (ltb 121000000000 (1156 * K * R)) (cond (eqb kind 2) (ltb 625000000000 (6084 * K * R)) false)) (second3 kind K S K2 R T) (first3 kind S K2 R T)
+    cond (cond (eqb kind 1) (ltb 121000000000 (1156 * K * R)) (cond (eqb kind 2) (ltb 625000000000 (6084 * K * R)) false))
+    (second3 kind K S K2 R T)
+    (first3 kind S K2 R T)
 
--- 4: kind 5 under L = 12000: X = 100T − 16300 − 45S ≥ 0, 6250X² ≥ L²K; from 12000: X = 10T − S ≥ 0, X² ≥ 15210K. Kinds 6 to 8: X = 100T − 38000 ≥ 0, 3125X² ≥ 8L²K
+-- 4: kind 5 under L = 12000: X = 100T − 16300 − 45S ≥ 0, 6250X² ≥ L²K; from 12000: X = 10T − S ≥ 0, X² ≥ 15210K.
+-- Kinds 6 to 8: X = 100T − 38000 ≥ 0, 3125X² ≥ 8L²K
 unfoldable pub rule4 : (kind L K S T : ℕ) → Bool
 rule4 kind L K S T =
     cond (fromSix kind)

@@ -1,9 +1,8 @@
 -- Each pressure, rule and verdict of document 01 is today's, piece by piece, on a header that has nothing of its own.
 -- Assumes nothing.
 use Prim.Native.Nat.{ℕ}
-use mathlib.Core.Path.{_≡_, refl, sym, ap, ap₂, _∙_}
+use mathlib.Core.Path.{_≡_, refl, ap, ap₂, _∙_}
 use mathlib.Core.Bool.{Bool, true, false, cond}
-use mathlib.Core.List.{List, [], _∷_}
 use Rattle.sheet.specs.declared.Header.{Header}
 use Rattle.sheet.specs.declared.Own.{Own}
 use Rattle.sheet.specs.declared.Own.the-variants.{One}
@@ -109,33 +108,35 @@ module _ (h : Header) (bare : h .own ≡ One) where
       go true = refl
       go false = refl
 
+  -- rules 2 and 3 of a plate
+  test2 : (kind : ℕ) (p : Plate) (K S : ℕ) → rule2 kind K S (platePressure h kind p) ≡ doc.rule2 kind K S (doc.platePressure h kind p)
+  test2 kind p K S = ap (rule2 kind K S) (plate-pressure-same h kind p) ∙ rule2-same kind K S (doc.platePressure h kind p)
+
+  test3 : (kind K S b1 b2 : ℕ)
+      → rule3 kind K S (K2 b1 b2) (R (h .moment) (plateModulus h kind)) ≡ doc.rule3 kind K S (doc.K2 b1 b2) (doc.R (h .moment) (h .«bottom_modulus»))
+  test3 kind K S b1 b2 =
+      ap₂ (rule3 kind K S) (K2-same b1 b2) (ap (R (h .moment)) (one-modulus kind) ∙ R-same (h .moment) (h .«bottom_modulus»))
+      ∙ rule3-same kind K S (doc.K2 b1 b2) (doc.R (h .moment) (h .«bottom_modulus»))
+
   plate-same : (kind : ℕ) (p : Plate) → plateVerdict h kind p ≡ doc.plateVerdict h kind p
   plate-same kind p =
       let K = p .factor .0 in
       let S = p .spacing .0 in
-      let T = p .thickness .0 in
-      let P = doc.platePressure h kind p in
-      let k = doc.K2 (p .b1 .0) (p .b2 .0) in
-      let test2 : rule2 kind K S (platePressure h kind p) ≡ doc.rule2 kind K S P =
-      ap (rule2 kind K S) (plate-pressure-same h kind p) ∙ rule2-same kind K S P in
-      let test3 : rule3 kind K S (K2 (p .b1 .0) (p .b2 .0)) (R (h .moment) (plateModulus h kind)) ≡ doc.rule3 kind K S k (doc.R (h .moment) (h .«bottom_modulus»)) =
-      ap₂ (rule3 kind K S) (K2-same (p .b1 .0) (p .b2 .0)) (ap (R (h .moment)) (one-modulus kind) ∙ R-same (h .moment) (h .«bottom_modulus»))
-      ∙ rule3-same kind K S k (doc.R (h .moment) (h .«bottom_modulus»)) in
-      three (plateBy T) (rule1-same kind (h .length .0) K S) test2 test3
+      three (plateBy (p .thickness .0)) (rule1-same kind (h .length .0) K S) (test2 kind p K S) (test3 kind K S (p .b1 .0) (p .b2 .0))
+
+  -- rules 5 and 6 of a member
+  test5 : (kind : ℕ) (m : Member) (βb η σ1 l : ℕ) → rule5 kind βb η σ1 (memberLine h kind m) l ≡ doc.rule5 kind βb η σ1 (doc.q (doc.memberPressure h kind m) (m .spacing .0)) l
+  test5 kind m βb η σ1 l = ap (λ (q : ℕ). rule5 kind βb η σ1 q l) (line-same h kind m) ∙ rule5-same kind βb η σ1 (doc.q (doc.memberPressure h kind m) (m .spacing .0)) l
+
+  test6 : (kind : ℕ) (m : Member) (βs η l : ℕ) → rule6 kind βs η (memberLine h kind m) l ≡ doc.rule6 kind βs η (doc.q (doc.memberPressure h kind m) (m .spacing .0)) l
+  test6 kind m βs η l = ap (λ (q : ℕ). rule6 kind βs η q l) (line-same h kind m) ∙ rule6-same kind βs η (doc.q (doc.memberPressure h kind m) (m .spacing .0)) l
 
   member-same : (kind : ℕ) (m : Member) → memberVerdict h kind m ≡ doc.memberVerdict h kind m
   member-same kind m =
-      let S = m .spacing .0 in
-      let l = m .span .0 in
-      let load = doc.q (doc.memberPressure h kind m) S in
-      let T = m .thickness .0 in
-      let W = m .modulus .0 in
-      let A = m .area .0 in
-      let test5 : rule5 kind (m .bending) (m .eta) (m .stress) (memberLine h kind m) l ≡ doc.rule5 kind (m .bending) (m .eta) (m .stress) load l =
-      ap (λ (q : ℕ). rule5 kind (m .bending) (m .eta) (m .stress) q l) (line-same h kind m) ∙ rule5-same kind (m .bending) (m .eta) (m .stress) load l in
-      let test6 : rule6 kind (m .shear) (m .eta) (memberLine h kind m) l ≡ doc.rule6 kind (m .shear) (m .eta) load l =
-      ap (λ (q : ℕ). rule6 kind (m .shear) (m .eta) q l) (line-same h kind m) ∙ rule6-same kind (m .shear) (m .eta) load l in
-      three (memberBy T W A) (rule4-same kind (h .length .0) (m .factor .0) S) test5 test6
+      three (memberBy (m .thickness .0) (m .modulus .0) (m .area .0))
+      (rule4-same kind (h .length .0) (m .factor .0) (m .spacing .0))
+      (test5 kind m (m .bending) (m .eta) (m .stress) (m .span .0))
+      (test6 kind m (m .shear) (m .eta) (m .span .0))
 
   body-same : (kind : ℕ) (b : Body) → verdictOf (bodyRules h kind b) ≡ doc.bodyVerdict h kind b
   body-same kind (isPlate p) = plate-same kind p

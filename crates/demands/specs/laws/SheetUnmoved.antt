@@ -3,7 +3,7 @@
 use Prim.Native.Nat.{ℕ, zero, suc, _+_, _*_, _≤_}
 use mathlib.Core.Path.{_≡_, refl, sym, ap, ap₂, _∙_}
 use mathlib.Core.Bool.{Bool, true, false, cond}
-use mathlib.Core.List.{List, [], _∷_, _++_}
+use mathlib.Core.List.{List, _∷_, _++_}
 use native.Mathlib.Omega.{arith}
 use lib.ListN.{length, getD, take, drop, length-drop}
 use lib.Seq.{length-take-le, take-take}
@@ -52,7 +52,8 @@ widths-same = (refl, refl, refl)
 -- ---- the records: 6, 7 and 8
 
 plate-in-same : (i : ℕ) (vs : List ℕ) → recordRefused i (faultFrom 1 (plateLinesOf vs) vs) (given (plateRecord vs)) ≡ doc.plateIn i vs
-plate-in-same i vs = ap (λ (ls : List Line). doc.by6and7 i (faultFrom 1 ls vs) (plateRecord vs)) (plate-lines-same (getD vs 0 0) (eqb (getD vs 8 0) 1) (getD vs 3 0))
+plate-in-same i vs =
+    ap (λ (ls : List Line). doc.by6and7 i (faultFrom 1 ls vs) (plateRecord vs)) (plate-lines-same (getD vs 0 0) (eqb (getD vs 8 0) 1) (getD vs 3 0))
 
 member-in-same : (i : ℕ) (vs : List ℕ) → recordRefused i (faultFrom 1 (memberLinesOf vs) vs) (given (memberRecord vs)) ≡ doc.memberIn i vs
 member-in-same i vs = ap (λ (ls : List Line). doc.by6and7 i (faultFrom 1 ls vs) (memberRecord vs)) (member-lines-same (getD vs 0 0))
@@ -67,9 +68,8 @@ unfolding readRecord
 record-read-same b i l =
     let x = drop (16 * i) b in
     let long : length (take 16 x) ≡ 16 = length-take-le 16 x (omega (arith, length-drop (16 * i) b)) in
-    let read : readRecord i (take 16 x) ≡ recordIn i (pack (bytes 16) (take 16 x)) =
-    rw (le-ltb (length (take 16 x)) 16 (omega (arith, long)), take-take 16 16 x (omega arith)) in
-    ap (readRecord i) (part-taken b i) ∙ read ∙ record-in-same i (pack (bytes 16) (take 16 x))
+    ap (readRecord i) (part-taken b i)
+    ∙ (rw (le-ltb (length (take 16 x)) 16 (omega (arith, long)), take-take 16 16 x (omega arith)) (record-in-same i (pack (bytes 16) (take 16 x))))
 
 records-same : (b : List ℕ) (i before count : ℕ) → 16 * (i + count) ≤ length b → recordsIn i before (partsFrom b i count) ≡ doc.recordsIn i before count b
 unfolding recordsIn partsFrom soundAfter doc.recordsIn _then_
@@ -84,7 +84,8 @@ records-same b i before (suc count) l =
     Later : Type 0
     Later = (id : ℕ) → recordsIn (i + 1) id (partsFrom b (i + 1) count) ≡ doc.recordsIn (i + 1) id count b
 
-    turn : Later → (r : Record) (t : Bool) → (cond t (given r) (refused 8 i) then rest) ≡ cond t (doc.recordsIn (i + 1) (r .id) count b then λ rs. given (r ∷ rs)) (refused 8 i)
+    turn : Later → (r : Record) (t : Bool)
+        → (cond t (given r) (refused 8 i) then rest) ≡ cond t (doc.recordsIn (i + 1) (r .id) count b then λ rs. given (r ∷ rs)) (refused 8 i)
     turn later r true = ap (λ (x : Answer (List Record)). x then λ rs. given (r ∷ rs)) (later (r .id))
     turn later r false = refl
 
@@ -113,7 +114,8 @@ module _ (s : List ℕ) (other : doc.versionNamed s ≡ 2 → ⊥) where
   unfolding doc.headerIn
   own-none h e = sym (ap (λ (g : Header). g .own) (go (ltb (length s) 12) (sym read-unmoved ∙ e)))
     where
-      go : (t : Bool) → cond t (refused 1 0) (doc.by2and3 (faultFrom 1 doc.headerLines (doc.headerFields s)) (doc.headerAt (doc.headerFields s))) ≡ given h → doc.headerAt (doc.headerFields s) ≡ h
+      go : (t : Bool) → cond t (refused 1 0) (doc.by2and3 (faultFrom 1 doc.headerLines (doc.headerFields s)) (doc.headerAt (doc.headerFields s))) ≡ given h
+          → doc.headerAt (doc.headerFields s) ≡ h
       go true f = given-refused (sym f)
       go false f = by-none 2 0 3 (λ k. k) (faultFrom 1 doc.headerLines (doc.headerFields s)) (doc.headerAt (doc.headerFields s)) h f .1
 

@@ -100,7 +100,8 @@ module _ (s : List ℕ) (other : versionNamed s ≡ 2 → ⊥) where
   unfolding answerOf outputOf output01 _then_ clearedFirst
   output-cleared out = go (sheetIn s (length out)) refl ∙ ap (λ (x : Answer Sheet). written zero2 x out) (sheet-unmoved s other (length out))
     where
-      go : (x : Answer Sheet) → sheetIn s (length out) ≡ x → clearedFirst (verdictsLeft (answerOf s (length out))) (outputOf s out) ≡ written zero2 (sheetIn s (length out)) out
+      go : (x : Answer Sheet) → sheetIn s (length out) ≡ x
+          → clearedFirst (verdictsLeft (answerOf s (length out))) (outputOf s out) ≡ written zero2 (sheetIn s (length out)) out
       go (refused k p) e = rw e
       go (given t) e =
           let rest = drop (4 * t .header .count) out in
