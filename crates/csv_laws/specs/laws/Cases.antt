@@ -7,6 +7,7 @@ use Prim.Native.Nat.{ℕ}
 use Rattle.sheet.specs.Refusals.{given, refused}
 use Rattle.sheet.specs.Header.{rawFault}
 use Rattle.sheet.specs.Record.{plateFault, memberFault}
+use Rattle.sheet.specs.Versions.{longestSheet}
 use Rattle.decimal.specs.Decimal.{digitsIn, decimalOf}
 use Rattle.decimal.specs.Line.{moreOf, lineOf}
 use Rattle.fields.specs.Number.{longerOf, digitOf, digitsOf}
@@ -78,106 +79,106 @@ unfolding converting digitsIn decimalOf moreOf lineOf linesText textOf textFrom
 no-room = (refl, refl)
 
 -- the empty text
-empty : sheetFrom ([]) 6420 ≡ refused 14 1
+empty : sheetFrom ([]) longestSheet ≡ refused 14 1
 unfolding converting
 empty = refl
 
 -- an empty line
-blank : sheetFrom (10 ∷ []) 6420 ≡ refused 14 1
+blank : sheetFrom (10 ∷ []) longestSheet ≡ refused 14 1
 unfolding converting
 blank = refl
 
 -- an empty line at the end
-blank-behind : sheetFrom (49 ∷ 44 ∷ 56 ∷ 48 ∷ 48 ∷ 48 ∷ 44 ∷ 50 ∷ 53 ∷ 48 ∷ 44 ∷ 54 ∷ 48 ∷ 44 ∷ 48 ∷ 44 ∷ 50 ∷ 48 ∷ 48 ∷ 48 ∷ 48 ∷ 44 ∷ 50 ∷ 48 ∷ 48 ∷ 48 ∷ 48 ∷ 48 ∷ 44 ∷ 48 ∷ 13 ∷ 10 ∷ 13 ∷ 10 ∷ []) 6420 ≡ refused 14 2
+blank-behind : sheetFrom (49 ∷ 44 ∷ 56 ∷ 48 ∷ 48 ∷ 48 ∷ 44 ∷ 50 ∷ 53 ∷ 48 ∷ 44 ∷ 54 ∷ 48 ∷ 44 ∷ 48 ∷ 44 ∷ 50 ∷ 48 ∷ 48 ∷ 48 ∷ 48 ∷ 44 ∷ 50 ∷ 48 ∷ 48 ∷ 48 ∷ 48 ∷ 48 ∷ 44 ∷ 48 ∷ 13 ∷ 10 ∷ 13 ∷ 10 ∷ []) longestSheet ≡ refused 14 2
 unfolding converting
 blank-behind = refl
 
 -- a quote that is not closed
-unclosed : sheetFrom (34 ∷ 49 ∷ 44 ∷ 56 ∷ 48 ∷ 48 ∷ 48 ∷ 10 ∷ []) 6420 ≡ refused 14 1
+unclosed : sheetFrom (34 ∷ 49 ∷ 44 ∷ 56 ∷ 48 ∷ 48 ∷ 48 ∷ 10 ∷ []) longestSheet ≡ refused 14 1
 unfolding converting
 unclosed = refl
 
 -- a quote inside a plain field
-misplaced : sheetFrom (49 ∷ 44 ∷ 56 ∷ 48 ∷ 48 ∷ 48 ∷ 44 ∷ 50 ∷ 53 ∷ 48 ∷ 44 ∷ 54 ∷ 48 ∷ 44 ∷ 48 ∷ 44 ∷ 50 ∷ 48 ∷ 48 ∷ 48 ∷ 48 ∷ 44 ∷ 50 ∷ 48 ∷ 48 ∷ 48 ∷ 48 ∷ 48 ∷ 44 ∷ 48 ∷ 10 ∷ 50 ∷ 44 ∷ 55 ∷ 34 ∷ 10 ∷ []) 6420 ≡ refused 14 2
+misplaced : sheetFrom (49 ∷ 44 ∷ 56 ∷ 48 ∷ 48 ∷ 48 ∷ 44 ∷ 50 ∷ 53 ∷ 48 ∷ 44 ∷ 54 ∷ 48 ∷ 44 ∷ 48 ∷ 44 ∷ 50 ∷ 48 ∷ 48 ∷ 48 ∷ 48 ∷ 44 ∷ 50 ∷ 48 ∷ 48 ∷ 48 ∷ 48 ∷ 48 ∷ 44 ∷ 48 ∷ 10 ∷ 50 ∷ 44 ∷ 55 ∷ 34 ∷ 10 ∷ []) longestSheet ≡ refused 14 2
 unfolding converting
 misplaced = refl
 
 -- a blank behind a closing quote
-followed : sheetFrom (34 ∷ 49 ∷ 34 ∷ 32 ∷ 44 ∷ 56 ∷ 48 ∷ 48 ∷ 48 ∷ []) 6420 ≡ refused 14 1
+followed : sheetFrom (34 ∷ 49 ∷ 34 ∷ 32 ∷ 44 ∷ 56 ∷ 48 ∷ 48 ∷ 48 ∷ []) longestSheet ≡ refused 14 1
 unfolding converting
 followed = refl
 
 -- a doubled quote is a byte of its field, which is no number then
-doubled : sheetFrom (49 ∷ 44 ∷ 56 ∷ 48 ∷ 48 ∷ 48 ∷ 44 ∷ 50 ∷ 53 ∷ 48 ∷ 44 ∷ 54 ∷ 48 ∷ 44 ∷ 48 ∷ 44 ∷ 50 ∷ 48 ∷ 48 ∷ 48 ∷ 48 ∷ 44 ∷ 50 ∷ 48 ∷ 48 ∷ 48 ∷ 48 ∷ 48 ∷ 44 ∷ 34 ∷ 48 ∷ 34 ∷ 34 ∷ 34 ∷ []) 6420 ≡ refused 14 1
+doubled : sheetFrom (49 ∷ 44 ∷ 56 ∷ 48 ∷ 48 ∷ 48 ∷ 44 ∷ 50 ∷ 53 ∷ 48 ∷ 44 ∷ 54 ∷ 48 ∷ 44 ∷ 48 ∷ 44 ∷ 50 ∷ 48 ∷ 48 ∷ 48 ∷ 48 ∷ 44 ∷ 50 ∷ 48 ∷ 48 ∷ 48 ∷ 48 ∷ 48 ∷ 44 ∷ 34 ∷ 48 ∷ 34 ∷ 34 ∷ 34 ∷ []) longestSheet ≡ refused 14 1
 unfolding converting
 doubled = refl
 
 -- a leading zero
-leading : sheetFrom (49 ∷ 44 ∷ 48 ∷ 56 ∷ 48 ∷ 48 ∷ 48 ∷ 44 ∷ 50 ∷ 53 ∷ 48 ∷ 44 ∷ 54 ∷ 48 ∷ 44 ∷ 48 ∷ 44 ∷ 50 ∷ 48 ∷ 48 ∷ 48 ∷ 48 ∷ 44 ∷ 50 ∷ 48 ∷ 48 ∷ 48 ∷ 48 ∷ 48 ∷ 44 ∷ 48 ∷ []) 6420 ≡ refused 14 1
+leading : sheetFrom (49 ∷ 44 ∷ 48 ∷ 56 ∷ 48 ∷ 48 ∷ 48 ∷ 44 ∷ 50 ∷ 53 ∷ 48 ∷ 44 ∷ 54 ∷ 48 ∷ 44 ∷ 48 ∷ 44 ∷ 50 ∷ 48 ∷ 48 ∷ 48 ∷ 48 ∷ 44 ∷ 50 ∷ 48 ∷ 48 ∷ 48 ∷ 48 ∷ 48 ∷ 44 ∷ 48 ∷ []) longestSheet ≡ refused 14 1
 unfolding converting
 leading = refl
 
 -- a CR alone
-bare : sheetFrom (49 ∷ 44 ∷ 56 ∷ 48 ∷ 48 ∷ 48 ∷ 44 ∷ 50 ∷ 53 ∷ 48 ∷ 44 ∷ 54 ∷ 48 ∷ 44 ∷ 48 ∷ 44 ∷ 50 ∷ 48 ∷ 48 ∷ 48 ∷ 48 ∷ 44 ∷ 50 ∷ 48 ∷ 48 ∷ 48 ∷ 48 ∷ 48 ∷ 44 ∷ 48 ∷ 13 ∷ []) 6420 ≡ refused 14 1
+bare : sheetFrom (49 ∷ 44 ∷ 56 ∷ 48 ∷ 48 ∷ 48 ∷ 44 ∷ 50 ∷ 53 ∷ 48 ∷ 44 ∷ 54 ∷ 48 ∷ 44 ∷ 48 ∷ 44 ∷ 50 ∷ 48 ∷ 48 ∷ 48 ∷ 48 ∷ 44 ∷ 50 ∷ 48 ∷ 48 ∷ 48 ∷ 48 ∷ 48 ∷ 44 ∷ 48 ∷ 13 ∷ []) longestSheet ≡ refused 14 1
 unfolding converting
 bare = refl
 
 -- a byte-order mark
-mark : sheetFrom (239 ∷ 187 ∷ 191 ∷ 49 ∷ 44 ∷ 56 ∷ 48 ∷ 48 ∷ 48 ∷ 44 ∷ 50 ∷ 53 ∷ 48 ∷ 44 ∷ 54 ∷ 48 ∷ 44 ∷ 48 ∷ 44 ∷ 50 ∷ 48 ∷ 48 ∷ 48 ∷ 48 ∷ 44 ∷ 50 ∷ 48 ∷ 48 ∷ 48 ∷ 48 ∷ 48 ∷ 44 ∷ 48 ∷ []) 6420 ≡ refused 14 1
+mark : sheetFrom (239 ∷ 187 ∷ 191 ∷ 49 ∷ 44 ∷ 56 ∷ 48 ∷ 48 ∷ 48 ∷ 44 ∷ 50 ∷ 53 ∷ 48 ∷ 44 ∷ 54 ∷ 48 ∷ 44 ∷ 48 ∷ 44 ∷ 50 ∷ 48 ∷ 48 ∷ 48 ∷ 48 ∷ 44 ∷ 50 ∷ 48 ∷ 48 ∷ 48 ∷ 48 ∷ 48 ∷ 44 ∷ 48 ∷ []) longestSheet ≡ refused 14 1
 unfolding converting
 mark = refl
 
 -- 2 to the power of the field's bits
-wide : sheetFrom (49 ∷ 44 ∷ 49 ∷ 54 ∷ 51 ∷ 56 ∷ 52 ∷ 44 ∷ 50 ∷ 53 ∷ 48 ∷ 44 ∷ 54 ∷ 48 ∷ 44 ∷ 48 ∷ 44 ∷ 50 ∷ 48 ∷ 48 ∷ 48 ∷ 48 ∷ 44 ∷ 50 ∷ 48 ∷ 48 ∷ 48 ∷ 48 ∷ 48 ∷ 44 ∷ 48 ∷ []) 6420 ≡ refused 14 1
+wide : sheetFrom (49 ∷ 44 ∷ 49 ∷ 54 ∷ 51 ∷ 56 ∷ 52 ∷ 44 ∷ 50 ∷ 53 ∷ 48 ∷ 44 ∷ 54 ∷ 48 ∷ 44 ∷ 48 ∷ 44 ∷ 50 ∷ 48 ∷ 48 ∷ 48 ∷ 48 ∷ 44 ∷ 50 ∷ 48 ∷ 48 ∷ 48 ∷ 48 ∷ 48 ∷ 44 ∷ 48 ∷ []) longestSheet ≡ refused 14 1
 unfolding converting
 wide = refl
 
 -- runs of one bit
-runs : sheetFrom (49 ∷ 44 ∷ 56 ∷ 48 ∷ 48 ∷ 48 ∷ 44 ∷ 50 ∷ 53 ∷ 48 ∷ 44 ∷ 54 ∷ 48 ∷ 44 ∷ 50 ∷ 44 ∷ 50 ∷ 48 ∷ 48 ∷ 48 ∷ 48 ∷ 44 ∷ 50 ∷ 48 ∷ 48 ∷ 48 ∷ 48 ∷ 48 ∷ 44 ∷ 48 ∷ []) 6420 ≡ refused 14 1
+runs : sheetFrom (49 ∷ 44 ∷ 56 ∷ 48 ∷ 48 ∷ 48 ∷ 44 ∷ 50 ∷ 53 ∷ 48 ∷ 44 ∷ 54 ∷ 48 ∷ 44 ∷ 50 ∷ 44 ∷ 50 ∷ 48 ∷ 48 ∷ 48 ∷ 48 ∷ 44 ∷ 50 ∷ 48 ∷ 48 ∷ 48 ∷ 48 ∷ 48 ∷ 44 ∷ 48 ∷ []) longestSheet ≡ refused 14 1
 unfolding converting
 runs = refl
 
 -- a version of more than four bits
-version-wide : sheetFrom (49 ∷ 54 ∷ 44 ∷ 56 ∷ 48 ∷ 48 ∷ 48 ∷ []) 6420 ≡ refused 14 1
+version-wide : sheetFrom (49 ∷ 54 ∷ 44 ∷ 56 ∷ 48 ∷ 48 ∷ 48 ∷ []) longestSheet ≡ refused 14 1
 unfolding converting
 version-wide = refl
 
 -- a header of two fields
-header-count : sheetFrom (49 ∷ 44 ∷ 56 ∷ 48 ∷ 48 ∷ 48 ∷ []) 6420 ≡ refused 15 1
+header-count : sheetFrom (49 ∷ 44 ∷ 56 ∷ 48 ∷ 48 ∷ 48 ∷ []) longestSheet ≡ refused 15 1
 unfolding converting
 header-count = refl
 
 -- version 2 with the fields of version 1
-header-count-2 : sheetFrom (50 ∷ 44 ∷ 56 ∷ 48 ∷ 48 ∷ 48 ∷ 44 ∷ 50 ∷ 53 ∷ 48 ∷ 44 ∷ 54 ∷ 48 ∷ 44 ∷ 48 ∷ 44 ∷ 50 ∷ 48 ∷ 48 ∷ 48 ∷ 48 ∷ 44 ∷ 50 ∷ 48 ∷ 48 ∷ 48 ∷ 48 ∷ 48 ∷ 44 ∷ 48 ∷ []) 6420 ≡ refused 15 1
+header-count-2 : sheetFrom (50 ∷ 44 ∷ 56 ∷ 48 ∷ 48 ∷ 48 ∷ 44 ∷ 50 ∷ 53 ∷ 48 ∷ 44 ∷ 54 ∷ 48 ∷ 44 ∷ 48 ∷ 44 ∷ 50 ∷ 48 ∷ 48 ∷ 48 ∷ 48 ∷ 44 ∷ 50 ∷ 48 ∷ 48 ∷ 48 ∷ 48 ∷ 48 ∷ 44 ∷ 48 ∷ []) longestSheet ≡ refused 15 1
 unfolding converting
 header-count-2 = refl
 
 -- a plate of three fields, of which one is no number
-plate-count : sheetFrom (49 ∷ 44 ∷ 56 ∷ 48 ∷ 48 ∷ 48 ∷ 44 ∷ 50 ∷ 53 ∷ 48 ∷ 44 ∷ 54 ∷ 48 ∷ 44 ∷ 48 ∷ 44 ∷ 50 ∷ 48 ∷ 48 ∷ 48 ∷ 48 ∷ 44 ∷ 50 ∷ 48 ∷ 48 ∷ 48 ∷ 48 ∷ 48 ∷ 44 ∷ 48 ∷ 10 ∷ 50 ∷ 44 ∷ 55 ∷ 44 ∷ 120 ∷ 10 ∷ []) 6420 ≡ refused 15 2
+plate-count : sheetFrom (49 ∷ 44 ∷ 56 ∷ 48 ∷ 48 ∷ 48 ∷ 44 ∷ 50 ∷ 53 ∷ 48 ∷ 44 ∷ 54 ∷ 48 ∷ 44 ∷ 48 ∷ 44 ∷ 50 ∷ 48 ∷ 48 ∷ 48 ∷ 48 ∷ 44 ∷ 50 ∷ 48 ∷ 48 ∷ 48 ∷ 48 ∷ 48 ∷ 44 ∷ 48 ∷ 10 ∷ 50 ∷ 44 ∷ 55 ∷ 44 ∷ 120 ∷ 10 ∷ []) longestSheet ≡ refused 15 2
 unfolding converting
 plate-count = refl
 
 -- a member of three
-member-count : sheetFrom (49 ∷ 44 ∷ 56 ∷ 48 ∷ 48 ∷ 48 ∷ 44 ∷ 50 ∷ 53 ∷ 48 ∷ 44 ∷ 54 ∷ 48 ∷ 44 ∷ 48 ∷ 44 ∷ 50 ∷ 48 ∷ 48 ∷ 48 ∷ 48 ∷ 44 ∷ 50 ∷ 48 ∷ 48 ∷ 48 ∷ 48 ∷ 48 ∷ 44 ∷ 48 ∷ 10 ∷ 50 ∷ 44 ∷ 55 ∷ 44 ∷ 49 ∷ 48 ∷ 48 ∷ 48 ∷ 44 ∷ 48 ∷ 44 ∷ 53 ∷ 48 ∷ 48 ∷ 44 ∷ 54 ∷ 48 ∷ 48 ∷ 44 ∷ 48 ∷ 44 ∷ 48 ∷ 44 ∷ 48 ∷ 44 ∷ 48 ∷ 44 ∷ 48 ∷ 10 ∷ 53 ∷ 44 ∷ 49 ∷ 50 ∷ 44 ∷ 48 ∷ []) 6420 ≡ refused 15 3
+member-count : sheetFrom (49 ∷ 44 ∷ 56 ∷ 48 ∷ 48 ∷ 48 ∷ 44 ∷ 50 ∷ 53 ∷ 48 ∷ 44 ∷ 54 ∷ 48 ∷ 44 ∷ 48 ∷ 44 ∷ 50 ∷ 48 ∷ 48 ∷ 48 ∷ 48 ∷ 44 ∷ 50 ∷ 48 ∷ 48 ∷ 48 ∷ 48 ∷ 48 ∷ 44 ∷ 48 ∷ 10 ∷ 50 ∷ 44 ∷ 55 ∷ 44 ∷ 49 ∷ 48 ∷ 48 ∷ 48 ∷ 44 ∷ 48 ∷ 44 ∷ 53 ∷ 48 ∷ 48 ∷ 44 ∷ 54 ∷ 48 ∷ 48 ∷ 44 ∷ 48 ∷ 44 ∷ 48 ∷ 44 ∷ 48 ∷ 44 ∷ 48 ∷ 44 ∷ 48 ∷ 10 ∷ 53 ∷ 44 ∷ 49 ∷ 50 ∷ 44 ∷ 48 ∷ []) longestSheet ≡ refused 15 3
 unfolding converting
 member-count = refl
 
 -- a version that is not known, with anything behind it
-version : sheetFrom (51 ∷ 44 ∷ 120 ∷ []) 6420 ≡ refused 2 0
+version : sheetFrom (49 ∷ 53 ∷ 44 ∷ 120 ∷ []) longestSheet ≡ refused 2 0
 unfolding converting
 version = refl
 
 -- a length that fits its field and is not allowed
-value : sheetFrom (49 ∷ 44 ∷ 56 ∷ 44 ∷ 50 ∷ 53 ∷ 48 ∷ 44 ∷ 54 ∷ 48 ∷ 44 ∷ 48 ∷ 44 ∷ 50 ∷ 48 ∷ 48 ∷ 48 ∷ 48 ∷ 44 ∷ 50 ∷ 48 ∷ 48 ∷ 48 ∷ 48 ∷ 48 ∷ 44 ∷ 48 ∷ []) 6420 ≡ refused 3 2
+value : sheetFrom (49 ∷ 44 ∷ 56 ∷ 44 ∷ 50 ∷ 53 ∷ 48 ∷ 44 ∷ 54 ∷ 48 ∷ 44 ∷ 48 ∷ 44 ∷ 50 ∷ 48 ∷ 48 ∷ 48 ∷ 48 ∷ 44 ∷ 50 ∷ 48 ∷ 48 ∷ 48 ∷ 48 ∷ 48 ∷ 44 ∷ 48 ∷ []) longestSheet ≡ refused 3 2
 unfolding converting
 value = refl
 
 -- a line of a record too many
-lines : sheetFrom (49 ∷ 44 ∷ 56 ∷ 48 ∷ 48 ∷ 48 ∷ 44 ∷ 50 ∷ 53 ∷ 48 ∷ 44 ∷ 54 ∷ 48 ∷ 44 ∷ 48 ∷ 44 ∷ 50 ∷ 48 ∷ 48 ∷ 48 ∷ 48 ∷ 44 ∷ 50 ∷ 48 ∷ 48 ∷ 48 ∷ 48 ∷ 48 ∷ 44 ∷ 48 ∷ 10 ∷ 50 ∷ 44 ∷ 55 ∷ 44 ∷ 49 ∷ 48 ∷ 48 ∷ 48 ∷ 44 ∷ 48 ∷ 44 ∷ 53 ∷ 48 ∷ 48 ∷ 44 ∷ 54 ∷ 48 ∷ 48 ∷ 44 ∷ 48 ∷ 44 ∷ 48 ∷ 44 ∷ 48 ∷ 44 ∷ 48 ∷ 44 ∷ 48 ∷ []) 6420 ≡ refused 4 0
+lines : sheetFrom (49 ∷ 44 ∷ 56 ∷ 48 ∷ 48 ∷ 48 ∷ 44 ∷ 50 ∷ 53 ∷ 48 ∷ 44 ∷ 54 ∷ 48 ∷ 44 ∷ 48 ∷ 44 ∷ 50 ∷ 48 ∷ 48 ∷ 48 ∷ 48 ∷ 44 ∷ 50 ∷ 48 ∷ 48 ∷ 48 ∷ 48 ∷ 48 ∷ 44 ∷ 48 ∷ 10 ∷ 50 ∷ 44 ∷ 55 ∷ 44 ∷ 49 ∷ 48 ∷ 48 ∷ 48 ∷ 44 ∷ 48 ∷ 44 ∷ 53 ∷ 48 ∷ 48 ∷ 44 ∷ 54 ∷ 48 ∷ 48 ∷ 44 ∷ 48 ∷ 44 ∷ 48 ∷ 44 ∷ 48 ∷ 44 ∷ 48 ∷ 44 ∷ 48 ∷ []) longestSheet ≡ refused 4 0
 unfolding converting
 lines = refl
 
 -- a kind that is not known, with anything behind it
-kind : sheetFrom (49 ∷ 44 ∷ 56 ∷ 48 ∷ 48 ∷ 48 ∷ 44 ∷ 50 ∷ 53 ∷ 48 ∷ 44 ∷ 54 ∷ 48 ∷ 44 ∷ 48 ∷ 44 ∷ 50 ∷ 48 ∷ 48 ∷ 48 ∷ 48 ∷ 44 ∷ 50 ∷ 48 ∷ 48 ∷ 48 ∷ 48 ∷ 48 ∷ 44 ∷ 49 ∷ 10 ∷ 57 ∷ 44 ∷ 34 ∷ 97 ∷ 44 ∷ 98 ∷ 34 ∷ []) 6420 ≡ refused 6 0
+kind : sheetFrom (49 ∷ 44 ∷ 56 ∷ 48 ∷ 48 ∷ 48 ∷ 44 ∷ 50 ∷ 53 ∷ 48 ∷ 44 ∷ 54 ∷ 48 ∷ 44 ∷ 48 ∷ 44 ∷ 50 ∷ 48 ∷ 48 ∷ 48 ∷ 48 ∷ 44 ∷ 50 ∷ 48 ∷ 48 ∷ 48 ∷ 48 ∷ 48 ∷ 44 ∷ 49 ∷ 10 ∷ 57 ∷ 44 ∷ 34 ∷ 97 ∷ 44 ∷ 98 ∷ 34 ∷ []) longestSheet ≡ refused 6 0
 unfolding converting
 kind = refl

@@ -43,10 +43,10 @@ pub inner-passes : answerOf (head ++ plate 126 0) 4 ≡ given (record { n = 1; f
 unfolding checking
 inner-passes = refl
 
--- 1 for 12 and for 19 bytes of version 2, but 2 for 12 bytes of version 3; 3 for a ZDB of 0, a depth of 99 and the last of the 27 zero bits; 4 for one byte more
+-- 1 for 12 and for 19 bytes of version 2, but 2 for 12 bytes of version 15; 3 for a ZDB of 0, a depth of 99 and the last of the 27 zero bits; 4 for one byte more
 computed : (answerOf (take 12 inner) 4 ≡ refused 1 0)
     × (answerOf (take 19 inner) 4 ≡ refused 1 0)
-    × (answerOf (take 12 (set inner 0 55)) 4 ≡ refused 2 0)
+    × (answerOf (take 12 (set inner 0 247)) 4 ≡ refused 2 0)
     × (answerOf (set (set inner 13 0) 14 0) 4 ≡ refused 3 10)
     × (answerOf (set (set inner 15 3) 16 24) 4 ≡ refused 3 11)
     × (answerOf (set inner 19 1) 4 ≡ refused 3 12)
@@ -57,7 +57,7 @@ computed = (refl, refl, refl, refl, refl, refl, refl)
 -- each of these rows holds for its sheet
 pub own-rows : Row (take 12 inner) 4 1 0
     × Row (take 19 inner) 4 1 0
-    × Row (take 12 (set inner 0 55)) 4 2 0
+    × Row (take 12 (set inner 0 247)) 4 2 0
     × Row (set (set inner 13 0) 14 0) 4 3 10
     × Row (set (set inner 15 3) 16 24) 4 3 11
     × Row (set inner 19 1) 4 3 12
@@ -65,7 +65,7 @@ pub own-rows : Row (take 12 inner) 4 1 0
 own-rows = (
   refused-exactly (take 12 inner) 4 1 0 .0 (computed .0),
   refused-exactly (take 19 inner) 4 1 0 .0 (computed .1),
-  refused-exactly (take 12 (set inner 0 55)) 4 2 0 .0 (computed .2),
+  refused-exactly (take 12 (set inner 0 247)) 4 2 0 .0 (computed .2),
   refused-exactly (set (set inner 13 0) 14 0) 4 3 10 .0 (computed .3),
   refused-exactly (set (set inner 15 3) 16 24) 4 3 11 .0 (computed .4),
   refused-exactly (set inner 19 1) 4 3 12 .0 (computed .5),
