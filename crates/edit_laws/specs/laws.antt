@@ -15,3 +15,4 @@ pub mod Sequences
 pub mod Slender
 pub mod Touched
 pub mod Verdicts
+pub mod CallCases

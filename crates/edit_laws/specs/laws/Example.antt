@@ -15,23 +15,23 @@ use Rattle.checker.specs.Unjudged.{soundSheet}
 use Rattle.edit.specs.Edit.{sheetAt, replacing, inserting, removing, placing, putIn, removeIn}
 
 -- all that an edit computes with, under one name for an `unfolding` line
-editing : Type 0
+unfoldable pub editing : Type 0
 unfolding putIn removeIn placing replacing inserting removing positionOf hasOf sheetAt soundSheet reading plateFault
 editing = Unit {0}
 
 -- V's header, with a count of one, two and three
-abbrev vessel : ℕ → List ℕ
+abbrev pub vessel : ℕ → List ℕ
 vessel count = 23 ∷ 208 ∷ 15 ∷ 163 ∷ 192 ∷ 39 ∷ 16 ∷ 0 ∷ 48 ∷ 212 ∷ 0 ∷ count ∷ []
 
 -- the two records
 abbrev seven : List ℕ
 seven = 32 ∷ 31 ∷ 232 ∷ 0 ∷ 7 ∷ 208 ∷ 150 ∷ 0 ∷ 0 ∷ 0 ∷ 0 ∷ 0 ∷ 0 ∷ 0 ∷ 0 ∷ 0 ∷ []
 
-abbrev twelve : List ℕ
+abbrev pub twelve : List ℕ
 twelve = 80 ∷ 48 ∷ 0 ∷ 31 ∷ 68 ∷ 176 ∷ 105 ∷ 50 ∷ 100 ∷ 180 ∷ 100 ∷ 2 ∷ 48 ∷ 2 ∷ 163 ∷ 232 ∷ []
 
 -- the sheet of 44 bytes, in a buffer with so many more
-abbrev lent : ℕ → List ℕ
+abbrev pub lent : ℕ → List ℕ
 lent more = vessel 16 ++ (seven ++ (twelve ++ replicate more 170))
 
 -- case 4 with this id and this thickness
