@@ -6,7 +6,7 @@ use mathlib.Core.List.{List, [], _∷_}
 use lib.Dec.{leb, ltb}
 use Rattle.quantity.specs.Range.{thickness, modulus, shearArea}
 use Rattle.loads.specs.Loads.{sea, deepPressure, lineLoad}
-use Rattle.loads.specs.Sources.{Named, seaNamed, deepNamed}
+use Rattle.loads.specs.Sources.{Named, onLongitudinal, onDeep, deciding}
 use Rattle.sheet.specs.Kinds.{isFloor, isDeep}
 use Rattle.sheet.specs.declared.Header.{Header}
 use Rattle.sheet.specs.declared.Member.{Member}
@@ -61,12 +61,15 @@ memberPressure h kind m =
     let H = h .wave .0 in
     cond (isDeep kind) (deepPressure D0 H (h .«two_runs»)) (sea D0 H (m .z .0))
 
--- the load that the member bears
-abbrev pub memberNamed : Header → ℕ → Member → Named
-memberNamed h kind m =
+-- the loads that bear on the member, and the one of them that decides
+abbrev pub memberLoads : Header → ℕ → Member → List Named
+memberLoads h kind m =
     let D0 = h .draught .0 in
     let H = h .wave .0 in
-    cond (isDeep kind) (deepNamed D0 H (h .«two_runs»)) (seaNamed D0 H (m .z .0))
+    cond (isDeep kind) (onDeep D0 H (h .«two_runs»)) (onLongitudinal D0 H (m .z .0))
+
+abbrev pub memberNamed : Header → ℕ → Member → Named
+memberNamed h kind m = deciding (memberLoads h kind m)
 
 -- q, the line load of that pressure on the member's spacing
 unfoldable pub memberLine : Header → ℕ → Member → ℕ

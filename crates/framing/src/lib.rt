@@ -1,5 +1,6 @@
 // Rules 4, 5 and 6: the web, the section modulus and the shear area of a member.
 use gauge::Shape;
+use loads::Line;
 use loads::Load;
 use quantity::LineLoad;
 use quantity::Modulus;
@@ -47,11 +48,11 @@ fn stressed(a: u64, limit: u8, stress: u8, p: u64) -> Shape
 }
 
 // n·β·η·q·x, which a member's values keep within 64 bits.
-fn product(n: u64, ends: u8, eta: u8, q: LineLoad, x: u64) -> u64
-    requires { ⌜ Product n ends eta (q .0) x ⌝ }
-    ensures { λ r. ⌜ r ≡ n * ends * eta * q .0 * x ⌝ }
+fn product(n: u64, ends: u8, eta: u8, q: Line, x: u64) -> u64
+    requires { ⌜ Product n ends eta (q .load .0) x ⌝ }
+    ensures { λ r. ⌜ r ≡ n * ends * eta * q .load .0 * x ⌝ }
 {
-    n * ends as u64 * eta as u64 * q.0 * x
+    n * ends as u64 * eta as u64 * q.load.0 * x
 }
 
 // The web.
@@ -72,9 +73,9 @@ fn rule4(kind: u8, length: Span, factor: SteelFactor, spacing: Spacing) -> Shape
 }
 
 // The section modulus.
-fn rule5(kind: u8, bending: u8, eta: u8, stress: u8, q: LineLoad, span: Span) -> Shape
-    requires { ⌜ Bounded bending eta (q .0) (span .0) ⌝ }
-    ensures { λ d. ⌜ d ≡ shape5 kind bending eta stress (q .0) (span .0) ⌝ }
+fn rule5(kind: u8, bending: u8, eta: u8, stress: u8, q: Line, span: Span) -> Shape
+    requires { ⌜ Bounded bending eta (q .load .0) (span .0) ⌝ }
+    ensures { λ d. ⌜ d ≡ shape5 kind bending eta stress (q .load .0) (span .0) ⌝ }
 {
     let l = span.0 as u64;
     let l2 = l * l;
@@ -88,9 +89,9 @@ fn rule5(kind: u8, bending: u8, eta: u8, stress: u8, q: LineLoad, span: Span) ->
 }
 
 // The shear area. A girder's has no η.
-fn rule6(kind: u8, shear: u8, eta: u8, q: LineLoad, span: Span) -> Shape
-    requires { ⌜ Bounded shear eta (q .0) (span .0) ⌝ }
-    ensures { λ d. ⌜ d ≡ shape6 kind shear eta (q .0) (span .0) ⌝ }
+fn rule6(kind: u8, shear: u8, eta: u8, q: Line, span: Span) -> Shape
+    requires { ⌜ Bounded shear eta (q .load .0) (span .0) ⌝ }
+    ensures { λ d. ⌜ d ≡ shape6 kind shear eta (q .load .0) (span .0) ⌝ }
 {
     let l = span.0 as u64;
     if kind < 6 {
@@ -156,11 +157,12 @@ fn member_work(h: Header, kind: u8, m: Member, load: Load) -> MemberWork
     requires { ⌜ HeaderRanges h × MemberRanges kind m × (toldLoad load ≡ memberNamed h kind m) ⌝ }
     ensures { λ w. ⌜ toldWork w ≡ workOf h kind m ⌝ }
 {
-    let line = loads::line_load(load, m.spacing);
+    let q = loads::line_load(load, m.spacing);
     let web = rule4(kind, h.length, m.factor, m.spacing);
-    let bending = rule5(kind, m.bending, m.eta, m.stress, line, m.span);
-    let shear = rule6(kind, m.shear, m.eta, line, m.span);
+    let bending = rule5(kind, m.bending, m.eta, m.stress, q, m.span);
+    let shear = rule6(kind, m.shear, m.eta, q, m.span);
     let verdict = member_verdict(h, kind, m, load);
+    let line = q.load;
     MemberWork {
         load,
         line,

@@ -7,12 +7,12 @@ use Rattle.sheet.specs.declared.Record.{Record}
 use Rattle.sheet.specs.declared.Body.{Body}
 use Rattle.sheet.specs.declared.Body.the-variants.{Plate as isPlate, Member as isMember}
 use Rattle.plating.specs.Rules.{platePressure, plateLoads}
-use Rattle.framing.specs.Rules.{memberPressure, memberNamed}
+use Rattle.framing.specs.Rules.{memberPressure, memberLoads}
 
--- those of a plate; a member bears one
+-- those of a plate, or of a member
 abbrev pub bodyLoads : Header → ℕ → Body → List Named
 bodyLoads h kind (isPlate p) = plateLoads h kind p
-bodyLoads h kind (isMember m) = memberNamed h kind m ∷ []
+bodyLoads h kind (isMember m) = memberLoads h kind m
 
 abbrev pub loadsOn : Header → Record → List Named
 loadsOn h r = bodyLoads h (r .kind) (r .body)

@@ -7,7 +7,8 @@ use lib.Dec.{leb, ltb}
 use Rattle.loads.specs.declared.Source.{Source}
 use Rattle.loads.specs.declared.Source.the-variants.{SeaBelow, SeaAbove, Ballast, Cargo}
 use Rattle.loads.specs.declared.Load.{Load}
-use Rattle.loads.specs.Loads.{sea, ballast, relief, deepPressure}
+use Rattle.loads.specs.declared.Line.{Line}
+use Rattle.loads.specs.Loads.{sea, ballast, relief, deepPressure, lineLoad}
 
 -- 0 sea at or below the draught, 1 sea above it, 2 ballast, 3 cargo
 abbrev pub numberOf : Source → ℕ
@@ -56,6 +57,14 @@ onBottom D0 H z isBallast zL = seaNamed D0 H z ∷ withBallast isBallast (ballas
 abbrev pub onInner : ℕ → ℕ → Bool → ℕ → List Named
 onInner cargo z isBallast zL = cargoNamed cargo ∷ withBallast isBallast (ballast zL z)
 
+-- that on a longitudinal: the sea at its height
+abbrev pub onLongitudinal : ℕ → ℕ → ℕ → List Named
+onLongitudinal D0 H z = seaNamed D0 H z ∷ []
+
+-- that on kinds 6 to 8
+abbrev pub onDeep : ℕ → ℕ → Bool → List Named
+onDeep D0 H twoRuns = deepNamed D0 H twoRuns ∷ []
+
 -- ---- the one that decides
 
 -- of two the greater, and of two equal ones that of the lower number
@@ -80,6 +89,21 @@ bottomNamed D0 H z isBallast zL = deciding (onBottom D0 H z isBallast zL)
 -- on an inner bottom plate
 unfoldable pub innerNamed : ℕ → ℕ → Bool → ℕ → Named
 innerNamed cargo z isBallast zL = deciding (onInner cargo z isBallast zL)
+
+-- ---- on a line
+
+-- a line load, and the number of what its pressure comes from
+pub record NamedLine : Type 0 where
+  pub load : ℕ
+  pub source : ℕ
+
+-- what the code's answer says
+abbrev pub toldLine : Line → NamedLine
+toldLine l = record { load = l .load .0; source = numberOf (l .source) }
+
+-- the line load of a pressure on a spacing
+abbrev pub lineNamed : Named → ℕ → NamedLine
+lineNamed n S = record { load = lineLoad (n .pressure) S; source = n .source }
 
 -- ---- what it is to decide
 

@@ -6,8 +6,8 @@ use quantity::Span;
 ghost use mathlib.Core.Path.{_≡_};
 ghost use mathlib.Core.Bool.{cond};
 ghost use Prim.Native.Nat.{_-_, max};
-ghost use Rattle.loads.specs.Loads.{water, wind as windOf, ballast as ballastOf, relief as reliefOf, twoRunWater, lineLoad};
-ghost use Rattle.loads.specs.Sources.{numberOf, toldLoad, heavier as heavierOf, seaNamed, tankNamed, bottomNamed, innerNamed, deepNamed};
+ghost use Rattle.loads.specs.Loads.{water, wind as windOf, ballast as ballastOf, relief as reliefOf, twoRunWater};
+ghost use Rattle.loads.specs.Sources.{numberOf, toldLoad, toldLine, lineNamed, heavier as heavierOf, seaNamed, tankNamed, bottomNamed, innerNamed, deepNamed};
 
 // What a pressure comes from.
 pub enum Source {
@@ -35,6 +35,12 @@ impl Source {
 // A pressure that says what it comes from.
 pub struct Load {
     pub pressure: Pressure,
+    pub source: Source,
+}
+
+// A line load that says what its pressure comes from.
+pub struct Line {
+    pub load: LineLoad,
     pub source: Source,
 }
 
@@ -172,12 +178,13 @@ pub fn deep(draught: Span, wave: Span, two_runs: bool) -> Load
 }
 
 // P·S / 1,000,000, rounded up. The whole parts are taken out first, so that no product is past 64 bits.
-pub fn line_load(load: Load, s: Spacing) -> LineLoad
-    ensures { λ r. ⌜ r .0 ≡ lineLoad (load .pressure .0) (s .0) ⌝ }
+pub fn line_load(load: Load, s: Spacing) -> Line
+    ensures { λ r. ⌜ toldLine r ≡ lineNamed (toldLoad load) (s .0) ⌝ }
 {
     let p = load.pressure.0;
     let w = s.0 as u64;
     let whole = p / 1000000 * w;
     let part = (p % 1000000 * w + 999999) / 1000000;
-    LineLoad(whole + part)
+    let source = load.source;
+    Line { load: LineLoad(whole + part), source }
 }

@@ -8,6 +8,7 @@ use Rattle.quantity.specs.Range.{thickness, modulus, shearArea, lineLoad}
 use Rattle.gauge.specs.Shape.{Says}
 use Rattle.gauge.specs.laws.ShapeLaws.{said}
 use Rattle.loads.specs.Loads.{lineLoad as lineLoadOf}
+use Rattle.loads.specs.Sources.{NamedLine, toldLoad, toldLine, lineNamed}
 use Rattle.verdict.specs.Verdict.{Rule, verdictOf, failedOf}
 use Rattle.framing.specs.Rules.{memberLine, webRule, bendingRule, shearRule}
 use Rattle.framing.specs.laws.BoundLaws.{member-line-high}
@@ -34,11 +35,14 @@ abbrev start2 : tie.Else2 → tie.Start
 start2 c = start (c .before .before .before .before)
 
 -- q is the line load of the member's pressure
-line : (c : tie.After-line-load) → let s = start (c .before) in c .line-load .result .0 ≡ memberLine (s .args .h) (s .args .kind) (s .args .m)
+line : (c : tie.After-line-load) → let s = start (c .before) in c .line-load .result .load .0 ≡ memberLine (s .args .h) (s .args .kind) (s .args .m)
 unfolding memberLine
-line c = let s = start (c .before) in c .line-load .ensures ∙ ap (λ (P : ℕ). lineLoadOf P (s .args .m .spacing .0)) (s .pre .2)
+line c =
+    let s = start (c .before) in
+    let borne : toldLine (c .line-load .result) ≡ lineNamed (toldLoad (s .args .load)) (s .args .m .spacing .0) = c .line-load .ensures in
+    ap (λ (n : NamedLine). n .load) borne ∙ ap (λ (P : ℕ). lineLoadOf P (s .args .m .spacing .0)) (s .pre .2)
 
-line-high : (c : tie.After-line-load) → c .line-load .result .0 ≤ lineLoad .high
+line-high : (c : tie.After-line-load) → c .line-load .result .load .0 ≤ lineLoad .high
 line-high c =
     let s = start (c .before) in
     rw (line c) (member-line-high (s .args .h) (s .args .kind) (s .args .m) (s .pre .0) (s .pre .1))

@@ -6,7 +6,7 @@ use borrow.Author.Needs.{needs}
 use Rattle.quantity.specs.Range.{lineLoad}
 use Rattle.gauge.specs.declared.Shape.{Shape}
 use Rattle.loads.specs.Loads.{lineLoad as lineLoadOf}
-use Rattle.loads.specs.Sources.{Named}
+use Rattle.loads.specs.Sources.{Named, NamedLine, toldLoad, toldLine, lineNamed}
 use Rattle.verdict.specs.declared.Verdict.{Verdict}
 use Rattle.framing.specs.Rules.{memberLine, memberPressure}
 use Rattle.framing.specs.laws.Laws.{member-pressure}
@@ -20,14 +20,14 @@ load-pressure : (s : tie.Start) → s .args .load .pressure .0 ≡ memberPressur
 load-pressure s = ap (λ (n : Named). n .pressure) (s .pre .2) ∙ member-pressure (s .args .h) (s .args .kind) (s .args .m)
 
 -- q is the line load of the member's pressure
-line : (c : tie.After-line-load) → let s = c .before in c .line-load .result .0 ≡ memberLine (s .args .h) (s .args .kind) (s .args .m)
+line : (c : tie.After-line-load) → let s = c .before in c .line-load .result .load .0 ≡ memberLine (s .args .h) (s .args .kind) (s .args .m)
 unfolding memberLine
 line c =
     let s = c .before in
-    let borne : c .line-load .result .0 ≡ lineLoadOf (s .args .load .pressure .0) (s .args .m .spacing .0) = c .line-load .ensures in
-    borne ∙ ap (λ (P : ℕ). lineLoadOf P (s .args .m .spacing .0)) (load-pressure s)
+    let borne : toldLine (c .line-load .result) ≡ lineNamed (toldLoad (s .args .load)) (s .args .m .spacing .0) = c .line-load .ensures in
+    ap (λ (n : NamedLine). n .load) borne ∙ ap (λ (P : ℕ). lineLoadOf P (s .args .m .spacing .0)) (load-pressure s)
 
-line-high : (c : tie.After-line-load) → c .line-load .result .0 ≤ lineLoad .high
+line-high : (c : tie.After-line-load) → c .line-load .result .load .0 ≤ lineLoad .high
 line-high c =
     let s = c .before in
     rw (line c) (member-line-high (s .args .h) (s .args .kind) (s .args .m) (s .pre .0) (s .pre .1))
@@ -52,7 +52,8 @@ parts p1 p2 p3 p4 p5 p6 = rw (p1, p2, p3, p4, p5, p6)
 
 returns : tie.Need-returns
 returns c =
-    let s = c .before in
+    let v = c .before in
+    let s = v .before in
     let b = s .before in
     let w = b .before in
     let q = w .before in
@@ -63,7 +64,7 @@ returns c =
     (w .rule4 .ensures)
     (b .rule5 .ensures ∙ ap (λ (x : ℕ). shape5 (a .kind) (a .m .bending) (a .m .eta) (a .m .stress) x (a .m .span .0)) (line q))
     (s .rule6 .ensures ∙ ap (λ (x : ℕ). shape6 (a .kind) (a .m .shear) (a .m .eta) x (a .m .span .0)) (line q))
-    (c .member-verdict .ensures)
+    (v .member-verdict .ensures)
 
 pub member-work-spec : {M : Type 1} → statement M
 member-work-spec = tie.close (tie.spec (λ c κs. search needs) (λ c κs. search needs) rule5-requires rule6-requires (λ c κs. let s = c .before .before .before .before in (s .pre .0, s .pre .1, load-pressure s)) returns)

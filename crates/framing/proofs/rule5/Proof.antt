@@ -31,8 +31,8 @@ unfolding shape5
 returns-2 c =
     let b = c .before .before in
     let a = b .before .before .before .args in
-    let load : c .before .product2 .result ≡ 29 * a .bending * 1 * a .q .0 * (a .span .0 * a .span .0) = c .before .product2 .ensures in
-    rw (c .at-least .ensures, load ∙ without-η (29 * a .bending) (a .q .0) (a .span .0 * a .span .0), le-leb _ _ (b .before .if1 .left), floors _ (b .before .if1 .left) (b .if2 .taken))
+    let load : c .before .product2 .result ≡ 29 * a .bending * 1 * a .q .load .0 * (a .span .0 * a .span .0) = c .before .product2 .ensures in
+    rw (c .at-least .ensures, load ∙ without-η (29 * a .bending) (a .q .load .0) (a .span .0 * a .span .0), le-leb _ _ (b .before .if1 .left), floors _ (b .before .if1 .left) (b .if2 .taken))
 
 returns-3 : tie.Need-returns-3
 unfolding shape5

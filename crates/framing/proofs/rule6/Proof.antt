@@ -21,17 +21,17 @@ unfolding shape6
 returns-2 c =
     let b = c .before .before in
     let a = b .before .before .before .args in
-    let load : c .before .product2 .result ≡ 9 * a .shear * 1 * a .q .0 * a .span .0 = c .before .product2 .ensures in
+    let load : c .before .product2 .result ≡ 9 * a .shear * 1 * a .q .load .0 * a .span .0 = c .before .product2 .ensures in
     let asked : c .at-least2 .result ≡ Floor (ceilOf (c .before .product2 .result) 20000000) = c .at-least2 .ensures in
-    rw (asked, load ∙ without-η (9 * a .shear) (a .q .0) (a .span .0), le-leb _ _ (b .before .if1 .left), floors _ (b .before .if1 .left) (b .if2 .taken))
+    rw (asked, load ∙ without-η (9 * a .shear) (a .q .load .0) (a .span .0), le-leb _ _ (b .before .if1 .left), floors _ (b .before .if1 .left) (b .if2 .taken))
 
 returns-3 : tie.Need-returns-3
 unfolding shape6
 returns-3 c =
     let b = c .before .before in
     let a = b .before .before .before .args in
-    let load : c .before .product3 .result ≡ 7 * a .shear * 1 * a .q .0 * a .span .0 = c .before .product3 .ensures in
-    rw (c .at-least3 .ensures, load ∙ without-η (7 * a .shear) (a .q .0) (a .span .0), le-leb _ _ (b .before .if1 .left), above-floors _ (b .if2 .left))
+    let load : c .before .product3 .result ≡ 7 * a .shear * 1 * a .q .load .0 * a .span .0 = c .before .product3 .ensures in
+    rw (c .at-least3 .ensures, load ∙ without-η (7 * a .shear) (a .q .load .0) (a .span .0), le-leb _ _ (b .before .if1 .left), above-floors _ (b .if2 .left))
 
 pub rule6-spec : {M : Type 1} → statement M
 rule6-spec =

@@ -2,6 +2,7 @@
 -- Assumes nothing.
 use Prim.Native.Nat.{ℕ, _*_, _<_}
 use mathlib.Core.Bool.{Bool}
+use mathlib.Core.List.{List}
 use mathlib.Core.Path.{_≡_, refl, sym, _∙_}
 use lib.Dec.{lit<, leb}
 use Rattle.gauge.specs.Ceil.{ceilOf}
@@ -11,7 +12,7 @@ use Rattle.gauge.specs.Shape.{meetsOf}
 use Rattle.gauge.specs.laws.ShapeLaws.{monotone, over-floor, excess}
 use Rattle.gauge.specs.declared.Shape.{Shape}
 use Rattle.gauge.specs.declared.Shape.the-variants.{Floor, Square}
-use Rattle.loads.specs.Sources.{Named}
+use Rattle.loads.specs.Sources.{Named, deciding}
 use Rattle.truth.specs.laws.Tests.{either-both}
 use Rattle.sheet.specs.Kinds.{isFloor, isDeep}
 use Rattle.sheet.specs.declared.Header.{Header}
@@ -54,4 +55,4 @@ rule6-monotone kind βs η q l =
 
 -- the pressure that names its source is the one that q is worked out of
 pub member-pressure : (h : Header) (kind : ℕ) (m : Member) → memberNamed h kind m .pressure ≡ memberPressure h kind m
-member-pressure h kind m = either-both (λ (n : Named) (P : ℕ). n .pressure ≡ P) (isDeep kind) _ _ _ _ refl refl
+member-pressure h kind m = either-both (λ (ls : List Named) (P : ℕ). deciding ls .pressure ≡ P) (isDeep kind) _ _ _ _ refl refl

@@ -25,7 +25,7 @@ use Rattle.hull.specs.Sources.{bodyLoads, loadsOn, bodyPressure, pressur
 
 named-decides : (h : Header) (kind : ℕ) (b : Body) → Decides (bodyNamed h kind b) (bodyLoads h kind b)
 named-decides h kind (isPlate p) = either-of (λ (ls : List Named). Decides (deciding ls) ls) (isBottom kind) _ _ (deciding-decides _ _) (deciding-decides _ _)
-named-decides h kind (isMember m) = deciding-decides _ []
+named-decides h kind (isMember m) = either-of (λ (ls : List Named). Decides (deciding ls) ls) (isDeep kind) _ _ (deciding-decides _ []) (deciding-decides _ [])
 
 -- its pressure is the one that the rules go by
 named-pressure : (h : Header) (kind : ℕ) (b : Body) → bodyNamed h kind b .pressure ≡ bodyPressure h kind b
@@ -48,7 +48,7 @@ source-most h r = go (r .kind) (r .body)
         (either-of (λ (n : Named). n .source ≤ numberOf Cargo) (isBottom kind) _ _
         (bottom-numbered (h .draught .0) (h .wave .0) (p .z .0) (p .ballast) (p .«tank_top» .0))
         (inner-numbered (p .cargo) (p .z .0) (p .ballast) (p .«tank_top» .0)))
-    go kind (isMember m) = either-of (λ (n : Named). n .source ≤ numberOf Cargo) (isDeep kind) _ _ (lit≤ tt) (sea-numbered (h .draught .0) (h .wave .0) (m .z .0))
+    go kind (isMember m) = either-of (λ (ls : List Named). deciding ls .source ≤ numberOf Cargo) (isDeep kind) _ _ (lit≤ tt) (sea-numbered (h .draught .0) (h .wave .0) (m .z .0))
 
 -- ---- unchanged
 

@@ -1,12 +1,14 @@
 -- `loads::line_load` meets its contract: its parts fit 64 bits and make up the whole.
 -- Assumes nothing.
 use Prim.Native.Nat.{ℕ, _*_, _/_, _%_, _≤_}
+use mathlib.Core.Path.{ap}
 use borrow.Author.Needs.{needs}
 use native.Mathlib.Omega.{arith}
 use native.Mathlib.Nat.{mul-le-mul}
 use lib.Dec.{lit<}
 use Rattle.gauge.specs.Ceil.{ceilOf}
 use Rattle.loads.specs.Loads.{lineLoad}
+use Rattle.loads.specs.Sources.{numberOf, NamedLine}
 use Rattle.loads.proofs.Parts.{ceil-parts}
 use Rattle.loads.proofs.line_load.Statement.{statement}
 use Rattle.loads.proofs.line_load.Tie as tie
@@ -25,7 +27,7 @@ in-range c =
 
 returns : tie.Need-returns
 unfolding lineLoad ceilOf
-returns c = ceil-parts _ _ 1000000 (lit< tt)
+returns c = ap {B = NamedLine} (λ (q : ℕ). record { load = q; source = numberOf (c .before .args .load .source) }) (ceil-parts _ _ 1000000 (lit< tt))
 
 pub line-load-spec : {M : Type 1} → statement M
 line-load-spec =
