@@ -1,5 +1,6 @@
 mod Answers
 mod Faults
+mod Parts
 mod Pass
 mod Unjudged
 mod Whole

@@ -1,13 +1,13 @@
 -- The pass: what one record comes to, one turn, and the whole.
 -- Assumes nothing.
-use Prim.Native.Nat.{ℕ, suc, _+_, _-_, _*_, _≤_, _<_}
+use Prim.Native.Nat.{ℕ, suc, _+_, _-_, _≤_, _<_}
 use mathlib.Core.Path.{_≡_, refl, sym, ap, ap₂, _∙_}
 use mathlib.Core.List.{List, [], _∷_, _++_, map, append-assoc, append-nil}
 use native.Mathlib.Omega.{arith}
 use native.Mathlib.Nat.{sub-zero, zero-add, add-zero}
-use lib.ListN.{length, take, drop, take-append-drop, length-take, length-drop, length-append}
-use lib.Seq.{drop-drop, take-at}
-use borrow.Rule.Slice.PartMut.{putMid, drop-put}
+use native.Mathlib.Numerals.{add-one}
+use lib.ListN.{length, take, drop, set, take-append-drop}
+use lib.Seq.{take-suc-set, drop-set-lt}
 use Rattle.layout.specs.Bytes.{readOf}
 use Rattle.sheet.specs.declared.Header.{Header}
 use Rattle.sheet.specs.declared.Record.{Record}
@@ -21,9 +21,8 @@ use Rattle.verdict.specs.Judged.{Finding, judgedBy}
 use Rattle.verdict.specs.laws.JudgedLaws.{given-sound, sound-given}
 use Rattle.hull.specs.Hull.{finding}
 use Rattle.checker.specs.declared.Entry.{Entry}
-use Rattle.checker.specs.Entry.{entryFault, entryBytes, writeEntry}
-use Rattle.checker.specs.laws.EntryLaws.{bytes-written}
-use Rattle.checker.specs.Check.{_then_, recordPart, partsFrom, soundAfter, recordsIn, entryWith, entryOf, bytesOf, failing, failures}
+use Rattle.checker.specs.Entry.{entryFault, entryNumber}
+use Rattle.checker.specs.Check.{_then_, recordPart, partsFrom, soundAfter, recordsIn, entryWith, entryOf, failing, failures}
 use Rattle.checker.specs.laws.ThenLaws.{then-given}
 use Rattle.checker.specs.laws.CheckLaws.{sound-read}
 use Rattle.checker.specs.Passes.{Refuses, judgedAfter, Pass, passOver}
@@ -95,7 +94,7 @@ rest-none n s i l =
 
 -- the pass with the verdicts that are left: so many have failed before them, and the draft holds those up to record i
 abbrev passWith : (n i failed : ℕ) → List ℕ → List Entry → Pass
-passWith n i failed draft es = record { failed = failed + failures es; draft = take (4 * i) draft ++ bytesOf es ++ drop (4 * n) draft }
+passWith n i failed draft es = record { failed = failed + failures es; draft = take i draft ++ map entryNumber es ++ drop n draft }
 
 -- what the pass comes to from record i on
 unfoldable pub passFrom : (n : ℕ) → Header → List ℕ → (i before failed : ℕ) → List ℕ → Answer Pass
@@ -112,45 +111,6 @@ then-then : {A B C : Type 0} (x : Answer A) (f : A → B) (g : B → Answer C) �
 unfolding _then_
 then-then (given a) f g = refl
 then-then (refused k p) f g = refl
-
--- A part that was lent from the middle and has come back. at: where it starts, four bytes; v: what it holds now; past it nothing has changed.
-module _ (out v : List ℕ) (at : ℕ) (sized : length v ≡ 4) (within : at + 4 ≤ length out) where
-  unfoldable whole : List ℕ
-  whole = putMid at (at + 4 - at) out v
-
-  drop-whole : (m : ℕ) → at + 4 ≤ m → drop m whole ≡ drop m out
-  unfolding whole
-  drop-whole m h =
-      let d : drop (at + 4) whole ≡ drop (at + 4) out = drop-put at (at + 4) out v (omega arith) within (omega arith) in
-      let e : at + 4 + (m - (at + 4)) ≡ m = omega arith in
-      ap (λ (k : ℕ). drop k whole) (sym e)
-      ∙ sym (drop-drop (m - (at + 4)) (at + 4) whole)
-      ∙ ap (drop (m - (at + 4))) d
-      ∙ drop-drop (m - (at + 4)) (at + 4) out
-      ∙ ap (λ (k : ℕ). drop k out) e
-
-  take-whole : take (at + 4) whole ≡ take at out ++ v
-  unfolding whole
-  take-whole =
-      let l : length (take at out ++ v) ≡ at + 4 = simp (length-append, length-take) (omega arith) in
-      ap (take (at + 4)) (sym (append-assoc (take at out) v _)) ∙ take-at (take at out ++ v) _ (at + 4) l
-
-  part-turn : (m : ℕ) (more : List ℕ) → at + 4 ≤ m → take (at + 4) (putMid at (at + 4 - at) out v) ++ more ++ drop m (putMid at (at + 4 - at) out v) ≡ take at out ++ (v ++ more) ++ drop m out
-  unfolding whole
-  part-turn m more h = rw (take-whole, drop-whole m h) (simp append-assoc)
-
--- four bytes into which an entry was written are the entry's
-wrote-four : (e : Entry) (o after : List ℕ) → length o ≡ 4 → entryFault e ≡ 0 → after ≡ writeEntry e o .bytes → after ≡ entryBytes e
-wrote-four e o after l z w =
-    w ∙ bytes-written e o (omega arith) z ∙ ap (λ (t : List ℕ). entryBytes e ++ t) (drop-all o l) ∙ append-nil (entryBytes e)
-  where
-    drop-all : (q : List ℕ) → length q ≡ 4 → drop 4 q ≡ []
-    drop-all (a ∷ b ∷ c ∷ d ∷ []) m = refl
-    drop-all [] m = refl
-    drop-all (a ∷ []) m = refl
-    drop-all (a ∷ b ∷ []) m = refl
-    drop-all (a ∷ b ∷ c ∷ []) m = refl
-    drop-all (a ∷ b ∷ c ∷ d ∷ x ∷ q) m = absurd (omega arith)
 
 -- at the start it is the whole
 pub pass-start : (h : Header) (s draft : List ℕ) → passFrom (h .count) h s 0 0 0 draft ≡ passOver h s draft
@@ -179,18 +139,18 @@ module _ (n : ℕ) (h : Header) (s : List ℕ) (i before failed : ℕ) (draft : 
 
   -- after the last there is nothing to add
   pub pass-end : i ≡ n → given (record { failed = failed; draft = draft }) ≡ all
-  unfolding passFrom recordsIn _then_ bytesOf failures
+  unfolding passFrom recordsIn _then_ failures
   pass-end e =
       let l : n ≤ i = omega arith in
       let nothing : given (record { failed = failed; draft = draft }) ≡ passFrom n h s i before failed draft = rw (rest-none n s i l, e, append-nil, take-append-drop, add-zero) in
       nothing ∙ left
 
-  -- a verdict goes into its four bytes
+  -- a verdict is kept
   module _ (more : i < n) (e : Entry) (judged : given e ≡ judgedAfter h i before (recordPart s i)) where
     sound : (r : Record) × (soundAfter i before (recordPart s i) ≡ given r) × (e ≡ entryOf h r)
     sound = judged-sound h i before (recordPart s i) e judged
 
-    writable : entryFault e ≡ 0
+    pub writable : entryFault e ≡ 0
     writable =
         let r = sound .0 in
         let a = sound-read i before (recordPart s i) r (sound .1) in
@@ -202,17 +162,10 @@ module _ (n : ℕ) (h : Header) (s : List ℕ) (i before failed : ℕ) (draft : 
         pass-step n h s i before failed draft more (sound .0) (sound .1)
         ∙ ap (λ (x : Entry). recordsIn (i + 1) (x .id) (rest n s (i + 1)) then λ rs. given (passWith n i failed draft (x ∷ map (entryOf h) rs))) (sym (sound .2))
 
-    module _ (o after : List ℕ) (lent : o ≡ take (4 * i + 4 - 4 * i) (drop (4 * i) draft)) (wrote : after ≡ writeEntry e o .bytes) (room : 4 * n ≤ length draft)
-        (more-failed : ℕ) (counted : more-failed ≡ failing e) where
-      abbrev next : List ℕ
-      next = putMid (4 * i) (4 * i + 4 - 4 * i) draft after
-
-      bytes-turn : (es : List Entry) → take (4 * (i + 1)) next ++ bytesOf es ++ drop (4 * n) next ≡ take (4 * i) draft ++ bytesOf (e ∷ es) ++ drop (4 * n) draft
-      unfolding bytesOf
-      bytes-turn es =
-          let four-more : 4 * (i + 1) ≡ 4 * i + 4 = omega arith in
-          let sized : length o ≡ 4 = rw lent (simp (length-take, length-drop) (omega arith)) in
-          rw (four-more, wrote-four e o after sized writable wrote) (part-turn draft (entryBytes e) (4 * i) refl (omega arith) (4 * n) (bytesOf es) (omega arith))
+    -- its number has its place in the draft
+    module _ (next : List ℕ) (stored : next ≡ set draft i (entryNumber e)) (room : n ≤ length draft) (more-failed : ℕ) (counted : more-failed ≡ failing e) where
+      draft-turn : (ns : List ℕ) → take (i + 1) next ++ ns ++ drop n next ≡ take i draft ++ (entryNumber e ∷ ns) ++ drop n draft
+      draft-turn ns = rw (stored, add-one, take-suc-set draft i (entryNumber e) (omega arith), drop-set-lt n draft i (entryNumber e) more) (simp append-assoc)
 
       failures-turn : (es : List Entry) → failed + more-failed + failures es ≡ failed + failures (e ∷ es)
       unfolding failures
@@ -222,6 +175,6 @@ module _ (n : ℕ) (h : Header) (s : List ℕ) (i before failed : ℕ) (draft : 
       unfolding passFrom
       pass-turn =
           then-same (recordsIn (i + 1) (e .id) (rest n s (i + 1))) _ _
-          (λ rs. ap₂ (λ (k : ℕ) (d : List ℕ). given (record { failed = k; draft = d })) (failures-turn (map (entryOf h) rs)) (bytes-turn (map (entryOf h) rs)))
+          (λ rs. ap₂ (λ (k : ℕ) (d : List ℕ). given (record { failed = k; draft = d })) (failures-turn (map (entryOf h) rs)) (draft-turn (map entryNumber (map (entryOf h) rs))))
           ∙ sym step
           ∙ left

@@ -56,9 +56,13 @@ entryIn n = let e = entryAt (unpack verdictWidths n) in entryRefused (entryFault
 unfoldable pub readEntry : List ℕ → Answer Entry
 readEntry s = cond (ltb (length s) 4) (refused 1 0) (entryIn (pack (bytes 4) (take 4 s)))
 
--- the four bytes of an entry
+-- the number of 32 bits that an entry is
+abbrev pub entryNumber : Entry → ℕ
+entryNumber e = pack verdictWidths (entryValues e)
+
+-- its four bytes
 abbrev pub entryBytes : Entry → List ℕ
-entryBytes e = unpack (bytes 4) (pack verdictWidths (entryValues e))
+entryBytes e = unpack (bytes 4) (entryNumber e)
 
 -- writing: 5 where there are under 4 bytes, then 7; a refusal leaves every byte, and else the first four are the entry's
 unfoldable pub writeEntry : Entry → List ℕ → Wrote

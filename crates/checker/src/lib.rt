@@ -13,18 +13,20 @@ use verdict::Judged;
 use verdict::Verdict;
 ghost use mathlib.Core.Path.{_≡_};
 ghost use mathlib.Core.Bool.{cond};
+ghost use mathlib.Core.List.{_++_};
 ghost use Prim.Native.Nat.{_+_, _*_, _≤_};
 ghost use lib.Dec.{eqb};
-ghost use lib.ListN.{length};
+ghost use lib.ListN.{length, drop};
 ghost use Rattle.quantity.specs.Range.{modulus};
 ghost use Rattle.layout.specs.Layout.{pack, unpack, Fit};
+ghost use Rattle.layout.specs.Bytes.{writtenOf};
 ghost use Rattle.sheet.specs.Refusals.{given, told, toldOutcome, toldHeader, toldRecord};
 ghost use Rattle.sheet.specs.Header.{headerFault};
 ghost use Rattle.sheet.specs.Writes.{Writes};
 ghost use Rattle.checker.specs.Entry.{verdictWidths, entryValues, entryAt, entryFault, toldEntry, readEntry, writeEntry};
 ghost use Rattle.checker.specs.Check.{headerFor, recordPart, soundAfter, entryWith, failing as failingOf, Checks};
 ghost use Rattle.checker.specs.Unjudged.{recordsSound, soundHeader};
-ghost use Rattle.checker.specs.Passes.{Refuses, judgedAfter, Ready, toldPassed, passOver};
+ghost use Rattle.checker.specs.Passes.{Refuses, judgedAfter, Ready, toldPassed, passOver, numberBytes};
 
 // One verdict as it stands in the output, with the id of its record.
 pub struct Entry {
@@ -50,7 +52,7 @@ pub enum Checked {
 // How many bytes a verdict takes, and those of the most records.
 pub const VERDICT: usize = 4;
 
-pub const DRAFT: usize = VERDICT * (MOST as usize);
+pub const LONGEST: usize = VERDICT * (MOST as usize);
 
 // The most that a verdict with this rule can require: nothing on a pass, else the highest value of any gauge.
 fn most_required(rule: u8) -> u32
@@ -108,6 +110,13 @@ pub fn read_verdict(s: &[u8]) -> EntryRead
     EntryRead::Refused(Refusal::Field(f as u32))
 }
 
+// The writer of a verdict: its number into the first four bytes.
+fn write_number(n: u32, out: &mut [u8])
+    ensures { λ _. ⌜ now (out .exit) ≡ writtenOf 4 n (now (out .entry)) ⌝ }
+{
+    layout::write_half(out, n)
+}
+
 // The verdict into the first four bytes, or why not.
 pub fn write_verdict(e: Entry, out: &mut [u8]) -> Outcome
     ensures { λ r. ⌜ Writes (writeEntry e (now (out .entry))) (toldOutcome r) (now (out .exit)) ⌝ }
@@ -119,7 +128,7 @@ pub fn write_verdict(e: Entry, out: &mut [u8]) -> Outcome
     if f != 0 {
         return Outcome::Refused(Refusal::Field(f as u32));
     }
-    layout::write_half(out, number_of(e));
+    write_number(number_of(e), out);
     Outcome::Fine
 }
 
@@ -200,7 +209,7 @@ fn records_sound(records: &[u8], n: u16) -> Outcome
 pub fn sound_header(sheet: &[u8]) -> HeaderRead
     ensures { λ r. ⌜ toldHeader r ≡ soundHeader (now (sheet .entry)) ⌝ }
 {
-    let read = header_for(sheet, DRAFT);
+    let read = header_for(sheet, LONGEST);
     match read {
         HeaderRead::Refused(x) => HeaderRead::Refused(x),
         HeaderRead::Good(h) => {
@@ -281,8 +290,8 @@ enum Passed {
     Refused(Refusal),
 }
 
-// The pass: each record is judged in turn and its verdict goes into its own four bytes of the draft, up to the first record that is turned away.
-fn judge_all(h: Header, records: &[u8], draft: &mut [u8]) -> Passed
+// The pass: each record is judged in turn and its verdict goes into the draft as a number, up to the first record that is turned away.
+fn judge_all(h: Header, records: &[u8], draft: &mut [u32]) -> Passed
     requires { ⌜ Ready h (now records) (length (now draft)) ⌝ }
     ensures { λ r. ⌜ toldPassed r (now (draft .exit)) ≡ passOver h (now (records .entry)) (now (draft .entry)) ⌝ }
 {
@@ -299,9 +308,7 @@ fn judge_all(h: Header, records: &[u8], draft: &mut [u8]) -> Passed
             }
             EntryRead::Good(e) => e,
         };
-        let first = VERDICT * (i as usize);
-        let past = first + VERDICT;
-        write_verdict(e, &mut draft[first..past]);
+        draft[i as usize] = number_of(e);
         failed += failing(e);
         before = e.id;
         i += 1;
@@ -309,17 +316,30 @@ fn judge_all(h: Header, records: &[u8], draft: &mut [u8]) -> Passed
     Passed::Fine(failed)
 }
 
-// The records of a sheet whose header is sound. What the draft holds goes into the output once none of them is turned away.
-fn judge_sheet(h: Header, sheet: &[u8], draft: &mut [u8], out: &mut [u8]) -> Checked
-    requires { ⌜ (given h ≡ headerFor (now sheet) (length (now out))) × (4 * h .count ≤ length (now draft)) ⌝ }
+// Each verdict of the draft into its own four bytes of the output, which are lent on from its middle.
+fn write_all(draft: &[u32], out: &mut [u8])
+    requires { ⌜ 4 * length (now draft) ≤ length (now out) ⌝ }
+    ensures { λ _. ⌜ now (out .exit) ≡ numberBytes (now (draft .entry)) ++ drop (4 * length (now (draft .entry))) (now (out .entry)) ⌝ }
+{
+    let mut i: usize = 0;
+    while i < draft.len() {
+        let first = VERDICT * i;
+        let past = first + VERDICT;
+        write_number(draft[i], &mut out[first..past]);
+        i += 1;
+    }
+}
+
+// The records of a sheet whose header is sound. The verdicts go into the output once none of them is turned away.
+fn judge_sheet(h: Header, sheet: &[u8], draft: &mut [u32], out: &mut [u8]) -> Checked
+    requires { ⌜ (given h ≡ headerFor (now sheet) (length (now out))) × (h .count ≤ length (now draft)) ⌝ }
     ensures { λ r. ⌜ Checks (now (sheet .entry)) (now (out .entry)) r (now (out .exit)) ⌝ }
 {
     let passed = judge_all(h, &sheet[h.size()..], draft);
     match passed {
         Passed::Refused(x) => Checked::Refused(x),
         Passed::Fine(failed) => {
-            let size = VERDICT * (h.count as usize);
-            bytes::copy(&draft[..size], out);
+            write_all(&draft[..h.count as usize], out);
             Checked::Done { n: h.count, failed }
         }
     }
@@ -333,7 +353,7 @@ pub fn check(sheet: &[u8], out: &mut [u8]) -> Checked
     match read {
         HeaderRead::Refused(x) => Checked::Refused(x),
         HeaderRead::Good(h) => {
-            let mut draft = [0u8; DRAFT];
+            let mut draft = [0u32; MOST as usize];
             judge_sheet(h, sheet, &mut draft, out)
         }
     }

@@ -157,12 +157,12 @@ fn member_work(h: Header, kind: u8, m: Member, load: Load) -> MemberWork
     requires { ⌜ HeaderRanges h × MemberRanges kind m × (toldLoad load ≡ memberNamed h kind m) ⌝ }
     ensures { λ w. ⌜ toldWork w ≡ workOf h kind m ⌝ }
 {
-    let q = loads::line_load(load, m.spacing);
+    let borne = loads::line_load(load, m.spacing);
     let web = rule4(kind, h.length, m.factor, m.spacing);
-    let bending = rule5(kind, m.bending, m.eta, m.stress, q, m.span);
-    let shear = rule6(kind, m.shear, m.eta, q, m.span);
+    let bending = rule5(kind, m.bending, m.eta, m.stress, borne, m.span);
+    let shear = rule6(kind, m.shear, m.eta, borne, m.span);
     let verdict = member_verdict(h, kind, m, load);
-    let line = q.load;
+    let line = borne.load;
     MemberWork {
         load,
         line,

@@ -114,7 +114,7 @@ fn put_checked(checked: Checked, out: &[u8], page: &mut [u8]) -> usize
 pub fn page_of(sheet: &[u8]) -> Page
     ensures { λ r. ⌜ Pages (now (sheet .entry)) r ⌝ }
 {
-    let mut out = [0u8; checker::DRAFT];
+    let mut out = [0u8; checker::LONGEST];
     let checked = checker::check(sheet, &mut out);
     let mut bytes = [0u8; LONGEST];
     let len = put_checked(checked, &out, &mut bytes);

@@ -5,12 +5,13 @@ use mathlib.Core.Path.{_≡_, refl, ap, sym, _∙_}
 use Prim.Native.Nat.{_≤_, _-_}
 use native.Mathlib.Omega.{arith}
 use denote.Ref.{now}
-use lib.ListN.{length}
+use lib.ListN.{length, set, length-set}
 use Rattle.sheet.specs.Refusals.{given}
 use Rattle.checker.specs.Entry.{toldEntry}
+use Rattle.checker.specs.laws.EntryLaws.{entry-fit}
 use Rattle.checker.specs.Check.{recordPart}
 use Rattle.checker.specs.Passes.{judgedAfter, passOver}
-use Rattle.checker.proofs.Pass.{passFrom, pass-start, pass-refused, pass-turn, pass-end}
+use Rattle.checker.proofs.Pass.{passFrom, writable, pass-start, pass-refused, pass-turn, pass-end}
 use Rattle.checker.proofs.judge_all.Statement.{statement}
 use Rattle.checker.proofs.judge_all.Tie as tie
 
@@ -35,10 +36,21 @@ returns c =
     pass-refused (a .h .count) (a .h) (now (a .records)) (l .i) (l .before) (l .failed) (l .draft) (l .inv .3) _ _ (turn .loop-test .taken)
     (sym (ap toldEntry (c .before .judged .given .1)) ∙ at-judged .judged-at .ensures)
 
+-- a verdict that is given has a number
+number-of-requires : tie.Need-number-of-requires Inv-loop μ-loop
+number-of-requires c κs =
+    let at-entry = c .before in
+    let at-judged = at-entry .before .before in
+    let turn = at-judged .before in
+    let l = turn .before .loop in
+    let a = turn .before .before .before .before .args in
+    entry-fit _ (writable (a .h .count) (a .h) (now (a .records)) (l .i) (l .before) (l .failed) (l .draft) (l .inv .3) (turn .loop-test .taken) _
+    (sym (ap toldEntry (at-entry .judged2 .given .1)) ∙ at-judged .judged-at .ensures))
+
 loop-again : tie.Need-loop-again Inv-loop μ-loop
 loop-again c =
-    let at-write = c .before .before .before in
-    let at-entry = at-write .before .before .before in
+    let at-number = c .before in
+    let at-entry = at-number .before .before in
     let at-judged = at-entry .before .before in
     let turn = at-judged .before in
     let l = turn .before .loop in
@@ -48,9 +60,9 @@ loop-again c =
     let judged : given e ≡ judgedAfter (a .h) (l .i) (l .before) (recordPart (now (a .records)) (l .i)) = sym (ap toldEntry (at-entry .judged2 .given .1)) ∙ at-judged .judged-at .ensures in (
       search needs,
       search needs,
-      omega (arith, c .before .before .draft .given .1, l .inv .2),
-      pass-turn (a .h .count) (a .h) (now (a .records)) (l .i) (l .before) (l .failed) (l .draft) (l .inv .3) (turn .loop-test .taken) e judged _ (at-write .write-verdict .last .1 .0) refl
-          (at-write .write-verdict .ensures .bytes) (omega (arith, l .inv .2, start .pre .fits)) (c .failing .result) (c .failing .ensures .0),
+      simp length-set (l .inv .2),
+      pass-turn (a .h .count) (a .h) (now (a .records)) (l .i) (l .before) (l .failed) (l .draft) (l .inv .3) (turn .loop-test .taken) e judged _
+          (ap (set (l .draft) (l .i)) (at-number .number-of .ensures)) (omega (arith, l .inv .2, start .pre .fits)) (c .failing .result) (c .failing .ensures .0),
     )
 
 returns-2 : tie.Need-returns-2 Inv-loop μ-loop
@@ -71,13 +83,10 @@ judge-all-spec =
     (λ c. c .before .before .before .before .before .loop .inv .2)
     returns
     (λ c. search needs)
+    number-of-requires
     (λ c. search needs)
     (λ c. search needs)
     (λ c. search needs)
-    (λ c. search needs)
-    (λ c. search needs)
-    (λ c. search needs)
-    (λ c κs. search needs)
     (λ c κs. search needs)
     (λ c. search needs)
     (λ c. search needs)

@@ -4,17 +4,17 @@ use borrow.Author.Needs.{needs}
 use native.Mathlib.Omega.{arith}
 use Prim.Native.Nat.{_-_, _*_, _≤_}
 use mathlib.Core.Path.{_≡_, ap, sym, subst, _∙_}
-use mathlib.Core.List.{List}
+use mathlib.Core.List.{List, _++_}
 use Prim.Native.Nat.{ℕ}
 use borrow.Rule.Slice.PartMut.{midOf}
 use denote.Ref.{now}
-use lib.ListN.{length, take, length-take}
+use lib.ListN.{length, take, drop, length-take}
 use Rattle.layout.specs.laws.Tail.{mid-past}
 use Rattle.sheet.specs.Header.{headerSize}
 use Rattle.checker.specs.Check.{recordsPart}
 use Rattle.checker.specs.laws.FrontLaws.{header-fits}
-use Rattle.checker.specs.Passes.{Ready, toldPassed, passOver}
-use Rattle.checker.proofs.Whole.{ready, at-records, refused-checks, copied, done-checks}
+use Rattle.checker.specs.Passes.{Ready, toldPassed, passOver, numberBytes}
+use Rattle.checker.proofs.Whole.{ready, at-records, refused-checks, done-checks}
 use Rattle.checker.proofs.judge_sheet.Statement.{statement}
 use Rattle.checker.proofs.judge_sheet.Tie as tie
 
@@ -51,8 +51,8 @@ returns c =
     (at-records (now (a .sheet)) (length (now (a .out))) (a .h) (start .pre .0) _ _ _
     (sym (ap (λ p. toldPassed p drawn) (c .before .passed .given .1)) ∙ passed at-judge))
 
--- the part of the draft that is copied has all the verdicts
-as-many : tie.Need-slice-aggregate-copy
+-- the part of the draft that is written has all the verdicts
+as-many : tie.Need-slice-aggregate-write-all
 as-many c =
     let at-draft = c .before .before .before .before .before .before in
     let start = at-draft .before .before .before .before .before .before .before .before in
@@ -60,16 +60,17 @@ as-many c =
 
 returns-2 : tie.Need-returns-2
 returns-2 c =
-    let at-copy = c .before .before in
-    let at-part = at-copy .before .before in
+    let at-write = c .before .before in
+    let at-part = at-write .before .before in
     let at-passed = at-part .before .before .before in
     let at-judge = at-passed .before .before .before .before in
     let start = at-judge .before .before .before .before .before .before .before in
     let a = start .args in
     let drawn = at-judge .judge-all .last .1 .1 .0 in
-    let size = 4 * a .h .count in
+    let all = take (a .h .count) drawn in
+    let wrote : at-write .write-all .last .1 .0 ≡ numberBytes all ++ drop (4 * length all) (now (a .out)) = at-write .write-all .ensures in
     done-checks (now (a .sheet)) (now (a .out)) (a .h) (start .pre .0) (now (a .draft)) _ drawn _
-    (copied size (take size drawn) (now (a .out)) _ (as-many at-part) (at-copy .copy .ensures .1))
+    (wrote ∙ ap (λ (k : ℕ). numberBytes all ++ drop (4 * k) (now (a .out))) (sym (as-many at-part)))
     (sym (ap (λ p. toldPassed p drawn) (at-passed .passed2 .given .1)) ∙ passed at-judge)
 
 pub judge-sheet-spec : {M : Type 1} → statement M
@@ -81,7 +82,6 @@ judge-sheet-spec =
     (λ c. omega (arith, inside c))
     (λ c. search needs)
     judge-all-requires
-    (λ c. search needs)
     (λ c. search needs)
     (λ c. search needs)
     (λ c. search needs)

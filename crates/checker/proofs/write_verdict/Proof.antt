@@ -13,9 +13,9 @@ returns-2 c = write-bad _ _ _ (c .before .before .if1 .left) (c .before .fault .
 
 returns-3 : tie.Need-returns-3
 returns-3 c =
-    let at-number = c .before .before .before in
-    let at-fault = at-number .before .before .before in
-    write-good _ (now (at-fault .before .before .before .args .out)) _ (at-fault .before .if1 .left) (at-fault .fault .ensures) _ _ (at-number .before .before .if2 .left) (at-number .number-of .ensures) (c .before .before .write-half .ensures)
+    let at-number = c .before .before .before .before in
+    let at-fault = at-number .before .before in
+    write-good _ (now (at-fault .before .before .before .args .out)) _ (at-fault .before .if1 .left) (at-fault .fault .ensures) _ _ (at-number .before .if2 .left) (at-number .number-of .ensures) (c .before .before .write-number .ensures)
 
 pub write-verdict-spec : {M : Type 1} → statement M
 write-verdict-spec =
@@ -25,7 +25,7 @@ write-verdict-spec =
     (λ c κs. search needs)
     (λ c. search needs)
     returns-2
-    (λ c κs. entry-fit _ (sym (c .before .before .fault .ensures) ∙ c .before .if2 .left))
+    (λ c κs. entry-fit _ (sym (c .before .fault .ensures) ∙ c .if2 .left))
     (λ c κs. search needs)
     (λ c. search needs)
     returns-3)
