@@ -20,7 +20,7 @@ ghost use Rattle.report.specs.Pieces.{verdictText, verdictsText, refusal
 pub const LONGEST: usize = 16 * (MOST as usize) + 8;
 
 // Room for a refusal's line: the word, and numbers of at most two digits and ten.
-const REFUSAL: usize = 22;
+pub const REFUSAL: usize = 22;
 
 // The text of an answer, and how many bytes of the page it takes; the others are 0.
 pub struct Page {
