@@ -1,5 +1,5 @@
 // The program: a sheet on standard input, checked and reported.
-use libc::STDIN_FILENO;
+use console::Read;
 use libc::STDOUT_FILENO;
 use report::Page;
 use sheet::ENOUGH;
@@ -18,11 +18,24 @@ fn answer(buffer: &[u8], got: usize) -> Page
     report::page_of(&buffer[..got])
 }
 
-fn main() {
-    let mut sheet = [0u8; ENOUGH];
-    let got = io::read_full(STDIN_FILENO, &mut sheet);
-    let page = answer(&sheet, got);
+// The answer goes to standard output; of a text that was handed over for a sheet a word is said too.
+fn tell(sheet: &[u8], got: usize)
+    requires { ⌜ (enough ≤ length (now sheet)) × (got ≤ length (now sheet)) ⌝ }
+{
+    let page = answer(sheet, got);
     let len = page.len;
     let text = page.bytes;
     io::write_all(STDOUT_FILENO, &text[..len]);
+    if text[0] == b'r' {
+        console::hint(&sheet[..got]);
+    }
+}
+
+fn main() {
+    let mut sheet = [0u8; ENOUGH];
+    let read = console::load(&mut sheet);
+    match read {
+        Read::Failed => {}
+        Read::Got(got) => tell(&sheet, got),
+    }
 }

@@ -1,22 +1,18 @@
--- `barge::main` is safe and ends: the buffer is long enough, and the text is within its page.
+-- `barge::main` is safe and ends: as many bytes are looked at as were read.
 -- Assumes nothing.
 use borrow.Author.Needs.{needs}
 use Prim.Native.Nat.{_≤_}
-use mathlib.Core.Path.{sym}
+use mathlib.Core.Path.{subst}
 use native.Mathlib.Omega.{arith}
-use lib.ListN.{length, take, length-take}
-use lib.Seq.{length-take-le, take-all}
-use Rattle.report.specs.laws.PageLaws.{page-within}
+use lib.ListN.{length}
+use Rattle.console.specs.declared.Read.{Read}
+use Rattle.console.specs.Console.{Loaded}
 use Rattle.barge.proofs.main.Statement.{statement}
 use Rattle.barge.proofs.main.Tie as tie
 
--- the text of the bytes that were read
-within : (c : tie.After-answer) → c .answer .result .len ≤ length (c .answer .result .bytes)
-within c =
-    let r = c .before .before .before in
-    let b = r .read-full .last .1 .0 in
-    let got = r .read-full .result in
-    page-within (take got b) _ (c .answer .ensures (take got b) (sym (take-all (length b) (take got b) (simp length-take (omega arith)))))
+-- no more was read than the space has
+inside : (c : tie.After-read) → c .read .given .0 .0 ≤ length (c .before .before .before .load .last .0)
+inside c = let l = c .before .before .before in subst (λ (r : Read). Loaded r (l .load .last .0)) (c .read .given .1) (l .load .ensures)
 
 pub main-spec : {M : Type 1} → statement M
 main-spec =
@@ -25,8 +21,8 @@ main-spec =
     (λ c. search needs)
     (λ c κs. search needs)
     (λ c. search needs)
-    (λ c κs. search needs)
-    (λ c. within (c .before))
-    (λ c. sym (length-take-le _ _ (within (c .before .before))))
-    (λ c κs. search needs)
+    (λ c. search needs)
+    (λ c. search needs)
+    (λ c κs. (omega arith, omega (arith, inside (c .before .before))))
+    (λ c. search needs)
     (λ c. search needs))
