@@ -1,16 +1,14 @@
--- What the words of a command are, and what is known of an edit before it is saved.
+-- What the words of a command are, and what is known of an edit.
 use Prim.Native.Nat.{ℕ, _-_, _/_, _≤_}
 use mathlib.Core.Path.{_≡_}
 use mathlib.Core.Bool.{cond}
-use mathlib.Core.List.{List, [], _∷_}
+use mathlib.Core.List.{List}
 use lib.ListN.{length, take}
 use lib.Dec.{ltb}
 use Rattle.sheet.specs.Refusals.{Answer, refused}
 use Rattle.edit.specs.declared.Edited.{Edited}
 use Rattle.edit.specs.declared.Edited.the-variants.{Length, Refused as notEdited}
 use Rattle.edit.specs.Edit.{headerOf, After, toldEdited, Edits}
-use Rattle.barge_edit.specs.declared.file.Read.{Read}
-use Rattle.barge_edit.specs.declared.file.Read.the-variants.{Got, Failed}
 
 -- how many numbers a record is: 11 for a plate, whose kind is up to 4, and 13 for a member
 unfoldable pub fieldsOf : ℕ → ℕ
@@ -20,21 +18,12 @@ fieldsOf kind = cond (ltb kind 5) 11 13
 abbrev pub recordCount : ℕ → ℕ
 recordCount len = (len - 12) / 16
 
--- what the file beside a sheet is called, but for the six bytes that make it another one each time
-abbrev pub besideTail : List ℕ
-besideTail = 46 ∷ 88 ∷ 88 ∷ 88 ∷ 88 ∷ 88 ∷ 88 ∷ []
-
--- a file's first bytes were read, no more than the buffer has
-abbrev pub Loaded : Read → List ℕ → Type 0
-Loaded (Got n) b = n ≤ length b
-Loaded Failed b = Unit {0}
-
 -- the new sheet is in a buffer of so many bytes
 abbrev pub EditInside : Edited → (size : ℕ) → Type 0
 EditInside (Length n) size = n ≤ size
 EditInside (notEdited r) size = Unit {0}
 
--- An edit of a file of which the buffer b has the first `got` bytes, all or as many as it holds: it answers x, and what the whole file is turned away for
+-- An edit of an input of which the buffer b has the first `got` bytes, all or as many as it holds: it answers x, and what the whole is turned away for
 -- it is turned away for.
 pub record OfFile (x : Answer After) (b : List ℕ) (got : ℕ) (e : Edited) (after : List ℕ) : Type 0 where
   pub edits : Edits x b e after

@@ -30,7 +30,8 @@ pub fn load(space: &mut [u8]) -> Read
     Read::Got(got)
 }
 
-fn begin() {
+// What every line of a program's own begins with.
+pub fn begin() {
     io::write_all(STDERR_FILENO, b"barge: ");
 }
 

@@ -186,5 +186,8 @@ pub fn line_load(load: Load, s: Spacing) -> Line
     let whole = p / 1000000 * w;
     let part = (p % 1000000 * w + 999999) / 1000000;
     let source = load.source;
-    Line { load: LineLoad(whole + part), source }
+    Line {
+        load: LineLoad(whole + part),
+        source,
+    }
 }

@@ -4,8 +4,9 @@ use borrow.Author.Needs.{needs}
 use Prim.Native.Nat.{ℕ}
 use mathlib.Core.Path.{sym, subst}
 use native.Mathlib.Omega.{arith}
-use Rattle.barge_edit.specs.declared.file.Read.{Read}
-use Rattle.barge_edit.specs.Office.{Loaded, EditInside}
+use Rattle.console.specs.declared.Read.{Read}
+use Rattle.console.specs.Console.{Loaded}
+use Rattle.barge_edit.specs.Office.{EditInside}
 use Rattle.barge_edit.specs.laws.OfficeLaws.{remove-inside}
 use Rattle.barge_edit.proofs.remove.Statement.{statement}
 use Rattle.barge_edit.proofs.remove.Tie as tie
@@ -15,8 +16,8 @@ remove-in-requires : tie.Need-remove-in-requires
 remove-in-requires c κs =
     let r = c .before .before in
     let l = r .before .before .before in
-    let got = subst (λ (x : Read). Loaded x (l .load .last .1 .0)) (r .read .given .1) (l .load .ensures) in
-    (omega (arith, l .load .kept .1 .0), omega (arith, got, l .load .kept .1 .0))
+    let got = subst (λ (x : Read). Loaded x (l .load .last .0)) (r .read .given .1) (l .load .ensures) in
+    (omega (arith, l .load .kept .0), omega (arith, got, l .load .kept .0))
 
 finish-requires : tie.Need-finish-requires
 finish-requires c κs =
