@@ -4,12 +4,11 @@ use Prim.Native.Nat.{ℕ}
 use mathlib.Core.Bool.{Bool, cond}
 use lib.Dec.{eqb}
 use mathlib.Core.Path.{_≡_, refl, sym, ap, ap₂, _∙_}
-use Rattle.quantity.specs.declared.LineLoad.{LineLoad}
 use Rattle.loads.specs.declared.Source.{Source}
 use Rattle.loads.specs.declared.Source.the-variants.{SeaBelow, SeaAbove, Ballast, Cargo}
 use Rattle.loads.specs.declared.Load.{Load}
-use Rattle.loads.specs.Loads.{lineLoad}
-use Rattle.loads.specs.Sources.{numberOf, Named, toldLoad, seaNamed, bottomNamed, innerNamed, deepNamed}
+use Rattle.loads.specs.declared.Line.{Line}
+use Rattle.loads.specs.Sources.{numberOf, Named, NamedLine, toldLoad, toldLine, lineNamed, seaNamed, bottomNamed, innerNamed, deepNamed}
 
 -- the source of a number
 sourceAt : ℕ → Source
@@ -51,5 +50,9 @@ inner-only cargo z isBallast zL = load-only (innerNamed cargo z isBallast zL)
 pub deep-only : (D0 H : ℕ) (twoRuns : Bool) (a b : Load) → toldLoad a ≡ deepNamed D0 H twoRuns → toldLoad b ≡ deepNamed D0 H twoRuns → a ≡ b
 deep-only D0 H twoRuns = load-only (deepNamed D0 H twoRuns)
 
-pub line-load-only : (P S : ℕ) (a b : LineLoad) → a .0 ≡ lineLoad P S → b .0 ≡ lineLoad P S → a ≡ b
-line-load-only P S a b p q = ap (λ (x : ℕ). record { 0 = x }) (p ∙ sym q)
+pub line-load-only : (n : Named) (S : ℕ) (a b : Line) → toldLine a ≡ lineNamed n S → toldLine b ≡ lineNamed n S → a ≡ b
+line-load-only n S a b p q =
+    let same = p ∙ sym q in
+    let load : a .load ≡ b .load = ap (λ (x : ℕ). record { 0 = x }) (ap (λ (m : NamedLine). m .load) same) in
+    let source = source-only (a .source) (b .source) (ap (λ (m : NamedLine). m .source) same) in
+    ap₂ {C = Line} (λ k s. record { load = k; source = s }) load source
