@@ -1,5 +1,5 @@
 """Sheets as bytes and as words, and ./barge run on them: what the checks of its commands share."""
-import os, subprocess, sys
+import os, resource, subprocess, sys
 
 os.chdir(os.path.join(os.path.dirname(os.path.abspath(__file__)), ".."))
 
@@ -73,6 +73,11 @@ def plate_words(number, thickness):
 def state(folder):
     """Each name in a folder, with what the file has."""
     return {name: os.path.isdir(os.path.join(folder, name)) or content(os.path.join(folder, name)) for name in os.listdir(folder)}
+
+
+def limited():
+    """A file may not grow past 1,000 bytes, so that a longer sheet is written in part."""
+    resource.setrlimit(resource.RLIMIT_FSIZE, (1000, 1000))
 
 
 # ---- what this machine cannot try
