@@ -46,7 +46,7 @@ fn finish(sheet: &[u8], e: Edited)
     match e {
         Edited::Length(len) => write_sheet(&sheet[..len]),
         Edited::Refused(r) => {
-            console::refusal(STDERR_FILENO, r);
+            report::print_refusal(STDERR_FILENO, r);
             console::hint(sheet);
         }
     }

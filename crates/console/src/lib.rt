@@ -1,8 +1,6 @@
 // What the programs share: standard input, of which a read that fails is not taken for the end, and what is said on standard error.
 use libc::STDERR_FILENO;
 use libc::STDIN_FILENO;
-use report::Told;
-use sheet::Refusal;
 ghost use mathlib.Core.Path.{_≡_};
 ghost use Rattle.console.specs.Console.{Loaded, beginsText, looksLikeText};
 
@@ -55,18 +53,6 @@ pub fn failed(what: &[u8], which: &[u8]) {
     begin();
     io::write_all(STDERR_FILENO, what);
     os::fail(which);
-}
-
-// A refusal's line, as it is printed of a sheet.
-pub fn refusal(fd: i32, r: Refusal) {
-    let mut line = [0u8; report::REFUSAL];
-    let told = report::write_refusal(r, &mut line);
-    match told {
-        Told::Length(len) => {
-            io::write_all(fd, &line[..len]);
-        }
-        Told::Refused(_) => {}
-    }
 }
 
 // Whether a text may begin with a byte: a digit, a quote, or the first byte of a byte-order mark.

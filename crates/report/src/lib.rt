@@ -20,7 +20,7 @@ ghost use Rattle.report.specs.Pieces.{verdictText, verdictsText, refusal
 pub const LONGEST: usize = 16 * (MOST as usize) + 8;
 
 // Room for a refusal's line: the word, and numbers of at most two digits and ten.
-pub const REFUSAL: usize = 22;
+const REFUSAL: usize = 22;
 
 // The text of an answer, and how many bytes of the page it takes; the others are 0.
 pub struct Page {
@@ -150,4 +150,11 @@ pub fn write_refusal(r: Refusal, text: &mut [u8]) -> Told
     let mut bytes = [0u8; REFUSAL];
     let len = put_refusal(&mut bytes, r);
     tell(&bytes[..len], text)
+}
+
+// The same written to a descriptor.
+pub fn print_refusal(fd: i32, r: Refusal) {
+    let mut bytes = [0u8; REFUSAL];
+    let len = put_refusal(&mut bytes, r);
+    io::write_all(fd, &bytes[..len]);
 }
