@@ -1,0 +1,4 @@
+-- What is proved of the definitions.
+pub mod RowLaws
+pub mod StepLaws
+pub mod Only
