@@ -68,7 +68,7 @@ module _ (b : List ℕ) (room : ℕ) where
 module _ (ls : Lines) (room : ℕ) (draft : List ℕ) where
   -- a line that is turned away
   pub lines-refused : (x : Refusal) → Fills (sheetMade ls) [] (Made.Refused x) draft → sheetOf ls room ≡ told x
-  unfolding sheetOf _then_
+  unfolding _then_
   lines-refused x f = go (sheetMade ls) f
     where
       go : (y : Answer (List ℕ)) → Fills y [] (Made.Refused x) draft → (y then λ b. soundIn b room) ≡ told x
@@ -76,7 +76,7 @@ module _ (ls : Lines) (room : ℕ) (draft : List ℕ) where
 
   -- lines that make bytes: within the draft, and answered as what it holds
   pub lines-made : (end : ℕ) → Fills (sheetMade ls) [] (Made.Length end) draft → (end ≤ length draft) × (soundIn (take end draft) room ≡ sheetOf ls room)
-  unfolding sheetOf _then_
+  unfolding _then_
   lines-made end f = go (sheetMade ls) f
     where
       go : (y : Answer (List ℕ)) → Fills y [] (Made.Length end) draft → (end ≤ length draft) × (soundIn (take end draft) room ≡ (y then λ b. soundIn b room))

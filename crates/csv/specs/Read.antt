@@ -35,7 +35,7 @@ sheetMade (row fs ls) = headerLine 1 (length fs) (map valueIn fs) then λ b. rec
 -- ---- reading
 
 -- the sheet that lines are, in an output of so many bytes
-unfoldable pub sheetOf : Lines → (room : ℕ) → Answer (List ℕ)
+abbrev pub sheetOf : Lines → (room : ℕ) → Answer (List ℕ)
 sheetOf ls room =
     sheetMade ls
     then λ b. soundSheet b
@@ -43,7 +43,7 @@ sheetOf ls room =
     then λ u. given b
 
 -- the sheet that a text is
-abbrev pub sheetFrom : List ℕ → (room : ℕ) → Answer (List ℕ)
+unfoldable pub sheetFrom : List ℕ → (room : ℕ) → Answer (List ℕ)
 sheetFrom s room = sheetOf (linesIn s) room
 
 -- ---- what is answered and written

@@ -13,7 +13,7 @@ use Rattle.csv.proofs.read_sheet.Statement.{statement}
 use Rattle.csv.proofs.read_sheet.Tie as tie
 
 as-it-is : (s : List ℕ) (room : ℕ) (o : List ℕ) (r : Converted) (after : List ℕ) → Converts (sheetOf (linesLeft false s 0) room) o r after → Converts (sheetFrom s room) o r after
-unfolding linesLeft linesAt
+unfolding linesLeft linesAt sheetFrom
 as-it-is s room o r after h = h
 
 pub read-sheet-spec : {M : Type 1} → statement M

@@ -23,24 +23,24 @@ use Rattle.csv.proofs.read_table.Tie as tie
 -- by the looks at a text
 module _ (s o : List ℕ) (first : Converted) (mid : List ℕ) (h : Converts (sheetOf (linesLeft false s 0) (length o)) o first mid) where
   taken : (n : ℕ) → first ≡ Length n → Converts (tableFrom s (length o)) o first mid
-  unfolding linesLeft linesAt tableFrom
+  unfolding linesLeft linesAt sheetFrom tableFrom
   taken n e = look-taken (sheetFrom s (length o)) (unfilledFrom s (length o)) o first mid h n e
 
   other : (x : Refusal) → first ≡ notConverted x → byLine (numberOf x) ≡ false → Converts (tableFrom s (length o)) o (notConverted x) mid
-  unfolding linesLeft linesAt tableFrom
+  unfolding linesLeft linesAt sheetFrom tableFrom
   other x e f = look-other (sheetFrom s (length o)) (unfilledFrom s (length o)) o first mid h x e f
 
   module _ (x : Refusal) (e : first ≡ notConverted x) (f : byLine (numberOf x) ≡ true) (second : Converted) (after : List ℕ) (g : Converts (unfilledFrom s (length mid)) mid second after) where
     lent : Converts (unfilledFrom s (length o)) o second after
-    unfolding linesLeft linesAt
+    unfolding linesLeft linesAt sheetFrom
     lent = subst (λ (l : List ℕ). Converts (unfilledFrom s (length l)) l second after) (look-lent (sheetFrom s (length o)) (unfilledFrom s (length o)) o first mid h x e) g
 
     again : stands (numberOf x) (placeOf x) (toldConverted second) ≡ false → Converts (tableFrom s (length o)) o second after
-    unfolding linesLeft linesAt tableFrom
+    unfolding linesLeft linesAt sheetFrom tableFrom
     again u = look-again (sheetFrom s (length o)) (unfilledFrom s (length o)) o first mid h x e f second after lent u
 
     stood : stands (numberOf x) (placeOf x) (toldConverted second) ≡ true → Converts (tableFrom s (length o)) o (notConverted x) after
-    unfolding linesLeft linesAt tableFrom
+    unfolding linesLeft linesAt sheetFrom tableFrom
     stood u = look-stands (sheetFrom s (length o)) (unfilledFrom s (length o)) o first mid h x e f second after lent u
 
 pub read-table-spec : {M : Type 1} → statement M

@@ -84,7 +84,7 @@ not-by-line s room a b = go (sheetFrom s room) refl
 
 -- and so is one without filling
 pub no-filling : (s : List ℕ) (room : ℕ) → linesLeft true s 0 ≡ linesAt s 0 → tableFrom s room ≡ sheetFrom s room
-unfolding tableFrom
+unfolding sheetFrom tableFrom
 no-filling s room e = ap (λ (ls : Lines). ofBoth (sheetFrom s room) (sheetOf ls room)) e ∙ go (sheetFrom s room)
   where
     alike : (t : Bool) (x : Answer (List ℕ)) → cond t x x ≡ x
