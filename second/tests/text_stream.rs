@@ -75,7 +75,7 @@ fn a_long_input_or_output_or_nothing_to_do_breaks_a_stream() {
         head[4 * number + 3] = 1;
         assert_eq!(words(&[&head[..], &vec![0; 70_000]].concat()), ["broken"]);
     }
-    for what in [[0, 0, 0, 2], [0, 0, 1, 0], [0x80, 0, 0, 1]] {
+    for what in [[0, 0, 0, 3], [0, 0, 1, 0], [0x80, 0, 0, 1]] {
         let stream = [&what[..], &[0; 8], &both].concat();
         assert_eq!(words(&stream), ["broken"]);
     }

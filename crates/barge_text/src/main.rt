@@ -24,8 +24,8 @@ ghost use Rattle.barge_text.specs.Convert.{Loaded, MadeInside, lineIn, p
 // Where the word stands.
 const COMMAND: usize = 1;
 
-// A longer text is not looked at: no sheet's has so many bytes, and few have so much filling. One byte more is read, so that it is noticed.
-const LONGEST: usize = 1_048_576;
+// A longer text is not looked at; one with every field quoted and filled up has a quarter of it. One byte more is read, so that it is noticed.
+const LONGEST: usize = 262_144;
 
 const TEXT_READ: usize = LONGEST + 1;
 
@@ -180,7 +180,7 @@ fn take(text: &[u8], checks: bool) {
 
 fn from_text(text: &[u8], checks: bool) {
     if LONGEST < text.len() {
-        say::text(b"the text has more than 1048576 bytes, and no sheet's text has so many");
+        say::too_long(LONGEST as u64);
     } else {
         take(text, checks);
     }

@@ -12,3 +12,5 @@ pub mod SheetBytes
 pub mod Spelled
 pub mod TextAgain
 pub mod Turned
+pub mod TableAgain
+mod TableCases
