@@ -67,7 +67,10 @@ read-table-spec =
     let i = j .before in
     let m = i .before .before in
     let r = m .before .before .before .before in
-    stood _ _ _ _ (r .read-lines .ensures) _ (m .first .given .1) (sym (i .is-by-line .ensures) ∙ not-false _ (j .if1 .left)) _ _ (q .read-lines2 .ensures) (sym (d .does-stand .ensures) ∙ c .if2 .taken))
+    let a = r .before .before .before .before .args in
+    let mid = r .read-lines .last .1 .1 .0 in
+    let g : Converts (unfilledFrom (now (a .text)) (length mid)) mid (q .read-lines2 .result) (q .read-lines2 .last .1 .1 .0) = q .read-lines2 .ensures in
+    stood _ _ _ _ (r .read-lines .ensures) _ (m .first .given .1) (sym (i .is-by-line .ensures) ∙ not-false _ (j .if1 .left)) _ _ g (sym (d .does-stand .ensures) ∙ c .if2 .taken))
     (λ c. search needs)
     (λ c. let r = c .before .before .before .before in taken _ _ _ _ (r .read-lines .ensures) _ (c .enum-told .given .1))
     (λ c. search needs)
@@ -78,4 +81,7 @@ read-table-spec =
     let i = j .before in
     let m = i .before .before in
     let r = m .before .before .before .before in
-    again _ _ _ _ (r .read-lines .ensures) _ (m .first .given .1) (sym (i .is-by-line .ensures) ∙ not-false _ (j .if1 .left)) _ _ (q .read-lines2 .ensures) (sym (d .does-stand .ensures) ∙ c .if2 .left)))
+    let a = r .before .before .before .before .args in
+    let mid = r .read-lines .last .1 .1 .0 in
+    let g : Converts (unfilledFrom (now (a .text)) (length mid)) mid (q .read-lines2 .result) (q .read-lines2 .last .1 .1 .0) = q .read-lines2 .ensures in
+    again _ _ _ _ (r .read-lines .ensures) _ (m .first .given .1) (sym (i .is-by-line .ensures) ∙ not-false _ (j .if1 .left)) _ _ g (sym (d .does-stand .ensures) ∙ c .if2 .left)))

@@ -34,13 +34,14 @@ loop-again c =
     let e = n .before .before .before in
     let l = e .before in
     let g = on n in
-    let s = now (l .before .before .args .text) in (
+    let s = now (l .before .before .args .text) in
+    let kept : c .kept-by .result ≡ cond (e .is-empty .result) (l .loop .kept) (m .one-more .result) = c .kept-by .ensures in (
       omega (arith, m .one-more .ensures, g .on),
       omega (arith, m .one-more .ensures, g .on, g .within),
       l .loop .inv .2 ∙ g .end,
       l .loop .inv .3
           ∙ g .count (l .loop .count) (l .loop .kept)
-          ∙ ap₂ (counted s (n .next .given .0 .1 .0)) (sym (m .one-more .ensures)) (ap₂ {C = ℕ} (λ (t : Bool) (k : ℕ). cond t (l .loop .kept) k) (sym (e .is-empty .ensures)) (sym (m .one-more .ensures)) ∙ sym (c .kept-by .ensures)),
+          ∙ ap₂ (counted s (n .next .given .0 .1 .0)) (sym (m .one-more .ensures)) (ap₂ {C = ℕ} (λ (t : Bool) (k : ℕ). cond t (l .loop .kept) k) (sym (e .is-empty .ensures)) (sym (m .one-more .ensures)) ∙ sym kept),
     )
 
 -- the fields up to the row's end, by the last of them

@@ -37,11 +37,11 @@ tail-drop : (s : List ℕ) (at b : ℕ) (l : List ℕ) → drop at s ≡ b ∷ l
 tail-drop s at b l e = sym (drop-drop 1 at s) ∙ ap (drop 1) e
 
 -- the marks of nothing but a row's end
-data Over (m : Marks) : Type 0 where
+pub data Over (m : Marks) : Type 0 where
   ended : m ≡ Marks.end → Over m
   lined : (next : ℕ) (rest : Marks) → m ≡ Marks.line next rest → Over m
 
-blank-over : (s l : List ℕ) (at : ℕ) → drop at s ≡ l → blank false l ≡ true → Over (unfilled s (outside l at Start))
+pub blank-over : (s l : List ℕ) (at : ℕ) → drop at s ≡ l → blank false l ≡ true → Over (unfilled s (outside l at Start))
 unfolding outside blank unfilled
 blank-over s [] at e t = ended refl
 blank-over s (b ∷ l) at e t = go (tail-drop s at b l e) (λ u. blank-over s l (at + 1) (tail-drop s at b l e) u) (seen b l) t
@@ -119,20 +119,20 @@ skip-feeds b t e = go (eqb b 44) (eqb b 34) (eqb b 10) (eqb b 13) (feeds t) refl
     go false false false false f g u = absurd (omega arith)
 
 -- where the field ends with a comma: it is empty without quotes, and the rest is blank
-pub comma-blank : (s l : List ℕ) (at : ℕ) (bs : List ℕ) (next : ℕ) (m : Marks) → drop at s ≡ l → outside l at Start ≡ prefix bs (Marks.comma next m)
-    → blank false l ≡ (blankBy true (seenAt l) true && blank false (drop next s))
+pub comma-blank : (all : Bool) (s l : List ℕ) (at : ℕ) (bs : List ℕ) (next : ℕ) (m : Marks) → drop at s ≡ l → outside l at Start ≡ prefix bs (Marks.comma next m)
+    → blank all l ≡ (blankBy true (seenAt l) true && blank all (drop next s))
 unfolding outside blank seenAt
-comma-blank s [] at bs next m d e = absurd (omega (arith, ap closes e ∙ closes-prefix bs (Marks.comma next m)))
-comma-blank s (b ∷ l) at bs next m d e = go (seen b l) refl e
+comma-blank all s [] at bs next m d e = absurd (omega (arith, ap closes e ∙ closes-prefix bs (Marks.comma next m)))
+comma-blank all s (b ∷ l) at bs next m d e = go (seen b l) refl e
   where
     place : (cs : List ℕ) (x : Marks) → Marks.comma (at + 1) x ≡ prefix cs (Marks.comma next m) → at + 1 ≡ next
     place [] x f = cc
     place (c ∷ cs) x f = let z : _≡_ {A = ℕ} 0 1 = cc in absurd (omega arith)
 
     go : (k : Seen) → seen b l ≡ k → by k Start (at + 1) (outside l (at + 1)) (inside l (at + 1)) ≡ prefix bs (Marks.comma next m)
-        → blankBy false k (blank false l) ≡ (blankBy true k true && blank false (drop next s))
+        → blankBy all k (blank all l) ≡ (blankBy true k true && blank all (drop next s))
     go End h f = absurd (omega (arith, ap closes f ∙ closes-prefix bs (Marks.comma next m)))
-    go Comma h f = ap (blank false) (sym (tail-drop s at b l d) ∙ ap (λ (k : ℕ). drop k s) (place bs (outside l (at + 1) Start) f))
+    go Comma h f = ap (blank all) (sym (tail-drop s at b l d) ∙ ap (λ (k : ℕ). drop k s) (place bs (outside l (at + 1) Start) f))
     go Line h f = absurd (omega (arith, ap closes f ∙ closes-prefix bs (Marks.comma next m)))
     go Skip h f = let z = feed-row l (at + 1) (skip-feeds b l h) in absurd (omega (arith, z .1, ap closes f ∙ closes-prefix bs (Marks.comma next m)))
     go Quote h f = refl
@@ -152,16 +152,76 @@ last-blank (b ∷ l) at c = go (seen b l) refl c
     go Quote h f = refl
     go (Data c) h f = refl
 
-pub fault-blank : (l : List ℕ) (at : ℕ) → closes (outside l at Start) ≡ 4 → blank false l ≡ false
+pub fault-blank : (all : Bool) (l : List ℕ) (at : ℕ) → closes (outside l at Start) ≡ 4 → blank all l ≡ false
 unfolding outside blank
-fault-blank [] at c = absurd (omega arith)
-fault-blank (b ∷ l) at c = go (seen b l) refl c
+fault-blank all [] at c = absurd (omega arith)
+fault-blank all (b ∷ l) at c = go (seen b l) refl c
   where
-    go : (k : Seen) → seen b l ≡ k → closes (by k Start (at + 1) (outside l (at + 1)) (inside l (at + 1))) ≡ 4 → blankBy false k (blank false l) ≡ false
+    go : (k : Seen) → seen b l ≡ k → closes (by k Start (at + 1) (outside l (at + 1)) (inside l (at + 1))) ≡ 4 → blankBy all k (blank all l) ≡ false
     go End h f = absurd (omega arith)
     go Comma h f = absurd (omega arith)
     go Line h f = absurd (omega arith)
     go Skip h f = absurd (omega (arith, feed-row l (at + 1) (skip-feeds b l h) .2))
+    go Quote h f = refl
+    go (Data c) h f = refl
+
+-- with the rest of the text behind its end
+line-place : (k next : ℕ) (x m : Marks) (bs : List ℕ) → Marks.line k x ≡ prefix bs (Marks.line next m) → k ≡ next
+line-place k next x m [] e = cc
+line-place k next x m (b ∷ bs) e = let z : _≡_ {A = ℕ} 0 1 = cc in absurd (omega arith)
+
+-- a line feed, with others behind it
+feed-line : (all : Bool) (s v : List ℕ) (at : ℕ) (bs : List ℕ) (next : ℕ) (m : Marks) → drop at s ≡ 10 ∷ v
+    → by (afterFeed v) Start (at + 1) (outside v (at + 1)) (inside v (at + 1)) ≡ prefix bs (Marks.line next m) → blankBy all (afterFeed v) (blank all v) ≡ cond all (blank true (drop next s)) true
+feed-line all s [] at bs next m d e = absurd (omega (arith, ap closes e ∙ closes-prefix bs (Marks.line next m)))
+feed-line true s (c ∷ v) at bs next m d e = ap (blank true) (sym (tail-drop s at 10 (c ∷ v) d) ∙ ap (λ (k : ℕ). drop k s) (line-place (at + 1) next _ m bs e))
+feed-line false s (c ∷ v) at bs next m d e = refl
+
+pub line-blank : (all : Bool) (s l : List ℕ) (at : ℕ) (bs : List ℕ) (next : ℕ) (m : Marks) → drop at s ≡ l → outside l at Start ≡ prefix bs (Marks.line next m)
+    → blank all l ≡ (blankBy true (seenAt l) true && cond all (blank true (drop next s)) true)
+unfolding outside blank seenAt
+line-blank all s [] at bs next m d e = absurd (omega (arith, ap closes e ∙ closes-prefix bs (Marks.line next m)))
+line-blank all s (b ∷ l) at bs next m d e = go (seen b l) refl e
+  where
+    behind-skip : (t : List ℕ) → feeds t ≡ true → drop (at + 1) s ≡ t → outside t (at + 1) Start ≡ prefix bs (Marks.line next m) → blank all t ≡ cond all (blank true (drop next s)) true
+    behind-skip [] f g k = absurd (true≢false (sym f))
+    behind-skip (c ∷ v) f g k = fed c (eqb-true c 10 f) g k
+      where
+        fed : (c : ℕ) → c ≡ 10 → drop (at + 1) s ≡ c ∷ v → outside (c ∷ v) (at + 1) Start ≡ prefix bs (Marks.line next m) → blank all (c ∷ v) ≡ cond all (blank true (drop next s)) true
+        fed c h g k = rw h (feed-line all s v (at + 1) bs next m (g ∙ ap (λ (x : ℕ). x ∷ v) h) (rw h at k))
+
+    by-line : (t : Bool) → by Line Start (at + 1) (outside l (at + 1)) (inside l (at + 1)) ≡ prefix bs (Marks.line next m) → cond t (blank t l) true ≡ cond t (blank true (drop next s)) true
+    by-line true f = ap (blank true) (sym (tail-drop s at b l d) ∙ ap (λ (k : ℕ). drop k s) (line-place (at + 1) next _ m bs f))
+    by-line false f = refl
+
+    go : (k : Seen) → seen b l ≡ k → by k Start (at + 1) (outside l (at + 1)) (inside l (at + 1)) ≡ prefix bs (Marks.line next m)
+        → blankBy all k (blank all l) ≡ (blankBy true k true && cond all (blank true (drop next s)) true)
+    go End h f = absurd (omega (arith, ap closes f ∙ closes-prefix bs (Marks.line next m)))
+    go Comma h f = absurd (omega (arith, ap closes f ∙ closes-prefix bs (Marks.line next m)))
+    go Line h f = by-line all f
+    go Skip h f = behind-skip l (skip-feeds b l h) (tail-drop s at b l d) f
+    go Quote h f = refl
+    go (Data c) h f = refl
+
+-- with the text's end
+pub end-blank : (all : Bool) (l : List ℕ) (at : ℕ) → closes (outside l at Start) ≡ 3 → blank all l ≡ blankBy true (seenAt l) true
+unfolding outside blank seenAt
+end-blank all [] at c = refl
+end-blank all (b ∷ l) at c = go (seen b l) refl c
+  where
+    behind-skip : (t : List ℕ) → feeds t ≡ true → closes (outside t (at + 1) Start) ≡ 3 → blank all t ≡ true
+    behind-skip [] f k = absurd (true≢false (sym f))
+    behind-skip (x ∷ v) f k = fed x (eqb-true x 10 f) v k
+      where
+        fed : (x : ℕ) → x ≡ 10 → (v : List ℕ) → closes (outside (x ∷ v) (at + 1) Start) ≡ 3 → blank all (x ∷ v) ≡ true
+        fed x h [] k = rw h
+        fed x h (y ∷ v) k = absurd (omega (arith, rw h at k))
+
+    go : (k : Seen) → seen b l ≡ k → closes (by k Start (at + 1) (outside l (at + 1)) (inside l (at + 1))) ≡ 3 → blankBy all k (blank all l) ≡ blankBy true k true
+    go End h f = refl
+    go Comma h f = absurd (omega arith)
+    go Line h f = absurd (omega arith)
+    go Skip h f = behind-skip l (skip-feeds b l h) f
     go Quote h f = refl
     go (Data c) h f = refl
 
@@ -227,11 +287,11 @@ no : _≡_ {A = ℕ} 0 1 → ⊥
 no z = omega arith
 
 module _ (s : List ℕ) (at : ℕ) where
-  lines-left : (bs : List ℕ) (m : Marks) → marksAt s at ≡ prefix bs m → (fs : List (List ℕ)) (ls : Lines) → linesOf (unfilled s m) ≡ row ([] ∷ fs) ls → linesLeft true s at ≡ row (bs ∷ fs) ls
+  pub lines-left : (bs : List ℕ) (m : Marks) → marksAt s at ≡ prefix bs m → (fs : List (List ℕ)) (ls : Lines) → linesOf (unfilled s m) ≡ row ([] ∷ fs) ls → linesLeft true s at ≡ row (bs ∷ fs) ls
   unfolding linesLeft
   lines-left bs m e fs ls f = ap (λ (k : Marks). linesOf (unfilled s k)) e ∙ ap linesOf (unfilled-prefix s bs m) ∙ lines-prefix bs (unfilled s m) fs ls f
 
-  bad-left : (bs : List ℕ) (m : Marks) → marksAt s at ≡ prefix bs m → linesOf (unfilled s m) ≡ bad → linesLeft true s at ≡ bad
+  pub bad-left : (bs : List ℕ) (m : Marks) → marksAt s at ≡ prefix bs m → linesOf (unfilled s m) ≡ bad → linesLeft true s at ≡ bad
   unfolding linesLeft
   bad-left bs m e f = ap (λ (k : Marks). linesOf (unfilled s k)) e ∙ ap linesOf (unfilled-prefix s bs m) ∙ bad-prefix bs (unfilled s m) f
 

@@ -61,7 +61,7 @@ module _ (s : List ℕ) (here : ℕ) where
   unfolding marksAt
   passes bs next o l e =
       let left = left-comma s here bs next e in
-      let blanks : blank false (drop here s) ≡ (emptyAt s here && blank false (drop next s)) = comma-blank s (drop here s) here bs next _ refl e in
+      let blanks : blank false (drop here s) ≡ (emptyAt s here && blank false (drop next s)) = comma-blank false s (drop here s) here bs next _ refl e in
       record {
         on = o;
         within = l;
@@ -146,7 +146,7 @@ module _ (s : List ℕ) (here : ℕ) where
           let g = left-fault s here bs f in
           record {
             end = ap (λ (x : Numbers). x .end) g;
-            count = λ passed kept. ap₂ (λ (t : Bool) (x : Numbers). cond t kept (passed + length (x .values))) (fault-blank (drop here s) here (ends-so bs _ f)) g ∙ omega arith;
+            count = λ passed kept. ap₂ (λ (t : Bool) (x : Numbers). cond t kept (passed + length (x .values))) (fault-blank false (drop here s) here (ends-so bs _ f)) g ∙ omega arith;
           }
 
 -- ---- nothing but filling
