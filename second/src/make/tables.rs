@@ -11,15 +11,7 @@ use super::{damage, spoil, whole::sound};
 const EMPTY: Cell = Cell::Raw(Vec::new());
 
 /// What can stand where filling does.
-const OTHERS: [&[u8]; 7] = [
-    b"\"\"",
-    b"\"\"",
-    b"\r",
-    b" ",
-    b"0",
-    b"\"\r\"",
-    b"\"\"\"",
-];
+const OTHERS: [&[u8]; 7] = [b"\"\"", b"\"\"", b"\r", b" ", b"0", b"\"\r\"", b"\"\"\""];
 
 /// A filled text.
 pub fn text(chance: &mut Chance, slips: &mut Slips, refused: Draft) -> Vec<u8> {

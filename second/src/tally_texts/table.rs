@@ -61,7 +61,9 @@ fn look(
     match (first, outcome) {
         (Ok(_), _) => "read at once",
         (Err(first), Ok(_)) if by_line(first) => "read without its filling",
-        (Err(first), Err(again)) if by_line(first) && by_line(again) => by_lines(text, first, again),
+        (Err(first), Err(again)) if by_line(first) && by_line(again) => {
+            by_lines(text, first, again)
+        }
         (Err(first), _) if by_line(first) => "the table's own without filling",
         (Err(_), _) => "the table's own at once",
     }
