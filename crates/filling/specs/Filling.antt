@@ -1,16 +1,14 @@
 -- The filling of a text that a spreadsheet program saved as a rectangle: the empty fields without quotes at the ends of its rows, and the rows at its end that
 -- have nothing else.
 use Prim.Native.Nat.{ℕ}
-use mathlib.Core.Path.{_≡_}
 use mathlib.Core.Bool.{Bool, true, false, cond}
 use mathlib.Core.List.{List, [], _∷_}
-use lib.ListN.{length, drop}
+use lib.ListN.{drop}
 use Rattle.fields.specs.Marks.{Marks, seen, marksAt}
 use Rattle.fields.specs.Lines.{Lines, linesOf}
 use Rattle.fields.specs.declared.Num.the-variants.{Empty}
 use Rattle.fields.specs.declared.Seen.{Seen}
 use Rattle.fields.specs.declared.Seen.the-variants.{End, Comma, Line, Skip, Quote, Data}
-use Rattle.text.specs.declared.Line as text
 use Rattle.text.specs.Line.{Numbers, lineOf}
 
 -- whether nothing but commas comes before the row's end, or with `all` nothing but commas and line ends before the text's: by what stands first and by the rest

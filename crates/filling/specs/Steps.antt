@@ -1,5 +1,4 @@
 -- What the functions of this crate say to each other. No promise to a caller rests on this.
-use Prim.Native.Nat.{ℕ}
 use mathlib.Core.Path.{_≡_}
 use lib.ListN.{length}
 use Rattle.text.specs.Line.{Numbers}

@@ -116,7 +116,7 @@ fn unfilled_at(text: &[u8], at: usize, nums: &mut [u32]) -> Line
     line
 }
 
-// The line that starts at a place, without its filling where it has some to be left out: its numbers go over the first of `nums`, as far as there is room.
+// The line that starts at a place, without its filling where the text is filled up: its numbers go over the first of `nums`, as far as there is room.
 pub fn line_at(text: &[u8], at: usize, filled: bool, nums: &mut [u32]) -> Line
     ensures { λ r. ⌜ Reads (lineLeft filled (now (text .entry)) at) (now (nums .entry)) r (now (nums .exit)) ⌝ }
 {

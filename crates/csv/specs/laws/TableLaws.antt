@@ -7,7 +7,7 @@ use mathlib.Core.List.{List}
 use lib.Dec.{eqb}
 use borrow.Author.Tests.{eqb-true}
 use Rattle.sheet.specs.declared.Refusal.{Refusal}
-use Rattle.sheet.specs.Refusals.{Answer, given, refused, told, numberOf, placeOf}
+use Rattle.sheet.specs.Refusals.{Answer, given, refused, numberOf, placeOf}
 use Rattle.sheet.specs.laws.RefusalLaws.{given-refused, refused-number, refused-place}
 use Rattle.fields.specs.Lines.{Lines, linesAt}
 use Rattle.filling.specs.Filling.{linesLeft}

@@ -1,7 +1,7 @@
 -- A table that is read, at once or without its filling, is a sheet whose own text reads as the same.
 -- Assumes nothing.
 use Prim.Native.Nat.{ℕ, _≤_}
-use mathlib.Core.Path.{_≡_, refl, sym, ap, _∙_}
+use mathlib.Core.Path.{_≡_, sym, ap, _∙_}
 use mathlib.Core.Bool.{Bool, true, false, cond, not, _&&_}
 use mathlib.Core.Logic.{_⊎_, inl, inr, ⊎-elim}
 use mathlib.Core.List.{List}
@@ -11,7 +11,7 @@ use lib.Dec.{leb}
 use borrow.Author.Tests.{leb-true}
 use Rattle.sheet.specs.Refusals.{Answer, given, refused}
 use Rattle.sheet.specs.laws.RefusalLaws.{given-same, given-refused}
-use Rattle.fields.specs.Lines.{Lines, linesIn, linesAt}
+use Rattle.fields.specs.Lines.{Lines, linesIn}
 use Rattle.filling.specs.Filling.{linesLeft}
 use Rattle.checker.specs.Check.{demand, Sheet}
 use Rattle.checker.specs.laws.ThenLaws.{then-given, demand-given}

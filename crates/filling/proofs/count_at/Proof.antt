@@ -7,9 +7,6 @@ use Prim.Native.Nat.{ℕ, _+_, _-_, _≤_}
 use native.Mathlib.Omega.{arith}
 use denote.Ref.{now}
 use lib.ListN.{length}
-use Rattle.fields.specs.declared.Field.{Field}
-use Rattle.fields.specs.declared.Field.the-variants as Field
-use Rattle.fields.specs.Field.{fieldAt}
 use Rattle.filling.specs.Filling.{lineLeft}
 use Rattle.filling.specs.laws.RowLaws.{one-left}
 use Rattle.filling.specs.laws.StepLaws.{counted, emptyAt, Passes, at-comma, at-line, at-end, at-fault}

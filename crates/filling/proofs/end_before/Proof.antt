@@ -1,9 +1,8 @@
 -- `filling::end_before` meets its contract.
 -- Assumes nothing.
 use borrow.Author.Needs.{needs}
-use mathlib.Core.Path.{_≡_, sym, ap, _∙_}
-use mathlib.Core.Bool.{Bool, true, false, cond}
-use Rattle.text.specs.declared.LineEnd.{LineEnd}
+use mathlib.Core.Path.{sym, ap, _∙_}
+use mathlib.Core.Bool.{Bool, cond}
 use Rattle.text.specs.declared.LineEnd.the-variants.{More, Last}
 use Rattle.filling.proofs.end_before.Statement.{statement}
 use Rattle.filling.proofs.end_before.Tie as tie

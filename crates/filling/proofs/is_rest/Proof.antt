@@ -3,13 +3,12 @@
 use borrow.Author.Needs.{needs}
 use mathlib.Core.Path.{_≡_, refl, sym, ap, _∙_}
 use mathlib.Core.Bool.{Bool, true, false, _&&_}
-use Prim.Native.Nat.{ℕ, _+_, _-_}
-use native.Mathlib.Omega.{arith}
+use Prim.Native.Nat.{_+_, _-_}
 use denote.Ref.{now}
 use borrow.Author.Tests.{not-true, not-false}
 use lib.ListN.{length, drop}
 use Rattle.filling.specs.Filling.{blank}
-use Rattle.filling.specs.laws.StepLaws.{emptyAt, rest-step, rest-end}
+use Rattle.filling.specs.laws.StepLaws.{rest-step, rest-end}
 use Rattle.filling.proofs.is_rest.Statement.{statement}
 use Rattle.filling.proofs.is_rest.Tie as tie
 

@@ -5,7 +5,6 @@ use mathlib.Core.Path.{_≡_, sym, subst}
 use mathlib.Core.Bool.{Bool, true, false}
 use mathlib.Core.List.{List}
 use Prim.Native.Nat.{ℕ}
-use denote.Ref.{now}
 use Rattle.text.specs.declared.Line.{Line}
 use Rattle.text.specs.Line.{Reads, lineAt}
 use Rattle.filling.specs.Filling.{lineLeft}

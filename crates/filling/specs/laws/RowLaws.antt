@@ -1,24 +1,23 @@
 -- A row without its filling, by its first field.
 -- Assumes nothing.
 use Prim.Native.Nat.{ℕ, zero, suc, _+_, _-_, _≤_, _<_}
-use mathlib.Core.Path.{_≡_, refl, sym, ap, ap₂, _∙_}
+use mathlib.Core.Path.{_≡_, refl, sym, ap, _∙_}
 use mathlib.Core.Bool.{Bool, true, false, cond, _&&_, true≢false}
 use mathlib.Core.List.{List, [], _∷_, map}
 use native.Mathlib.Omega.{arith}
 use lib.Dec.{eqb}
 use borrow.Author.Tests.{eqb-true}
-use lib.ListN.{length, drop, take}
+use lib.ListN.{length, drop}
 use lib.Seq.{drop-drop}
-use Rattle.fields.specs.Number.{numberOf, valueOf, digitsOf}
+use Rattle.fields.specs.Number.{numberOf, valueOf}
 use Rattle.fields.specs.Marks.{Marks, feeds, afterFeed, seen, seenAt, by, outside, inside, marksAt}
-use Rattle.fields.specs.Lines.{Lines, none, bad, row, linesOf, linesAt, fieldMore, ontoLine}
+use Rattle.fields.specs.Lines.{Lines, none, bad, row, linesOf, linesAt, fieldMore}
 use Rattle.fields.specs.laws.First.{prefix, First, comma, line, end, fault, first}
 use Rattle.fields.specs.declared.Num.{Num}
 use Rattle.fields.specs.declared.Num.the-variants.{Empty}
 use Rattle.fields.specs.declared.Seen.{Seen}
 use Rattle.fields.specs.declared.Seen.the-variants.{End, Comma, Line, Skip, Quote, Data}
-use Rattle.fields.specs.declared.Place.{Place}
-use Rattle.fields.specs.declared.Place.the-variants.{Start, Inside, Closed}
+use Rattle.fields.specs.declared.Place.the-variants.{Start}
 use Rattle.text.specs.declared.LineEnd.{LineEnd}
 use Rattle.text.specs.declared.LineEnd.the-variants.{More, Last, Fault}
 use Rattle.text.specs.Line.{Numbers, behind, lineOf, lineAt}

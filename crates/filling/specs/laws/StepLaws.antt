@@ -3,13 +3,13 @@
 use Prim.Native.Nat.{ℕ, zero, suc, _+_, _-_, _≤_, _<_}
 use mathlib.Core.Path.{_≡_, refl, sym, ap, ap₂, subst, _∙_}
 use mathlib.Core.Bool.{Bool, true, false, cond, _&&_}
-use mathlib.Core.List.{List, [], _∷_, _++_, append-nil}
+use mathlib.Core.List.{List, [], _∷_, _++_}
 use native.Mathlib.Omega.{arith}
 use native.Mathlib.Numerals.{add-one}
 use lib.Dec.{eqb}
 use lib.ListN.{length, getD, drop, take, take-append-drop, drop-of-length-le}
 use lib.Seq.{drop-cons}
-use Rattle.fields.specs.Number.{numberOf, valueOf}
+use Rattle.fields.specs.Number.{numberOf}
 use Rattle.fields.specs.Marks.{Marks, feeds, afterFeed, seen, seenAt, outside, marksAt}
 use Rattle.fields.specs.declared.Seen.{Seen}
 use Rattle.fields.specs.declared.Seen.the-variants.{End, Comma, Line, Skip, Quote, Data}

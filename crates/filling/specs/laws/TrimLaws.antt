@@ -2,13 +2,12 @@
 -- and no rows at the end that have nothing else, but for the first.
 -- Assumes nothing.
 use Prim.Native.Nat.{ℕ, zero, suc, _+_, _≤_, _<_}
-use mathlib.Core.Path.{_≡_, refl, sym, ap, ap₂, _∙_}
+use mathlib.Core.Path.{_≡_, refl, sym, ap, _∙_}
 use mathlib.Core.Bool.{Bool, true, false, cond, _&&_, true≢false}
-use mathlib.Core.List.{List, [], _∷_, map}
+use mathlib.Core.List.{List, [], _∷_}
 use native.Mathlib.Omega.{arith}
 use lib.ListN.{length, drop}
-use Rattle.fields.specs.Marks.{Marks, outside, marksAt}
-use Rattle.fields.specs.declared.Place.the-variants.{Start}
+use Rattle.fields.specs.Marks.{Marks, marksAt}
 use Rattle.fields.specs.Lines.{Lines, linesOf, linesAt, fieldMore, ontoLine}
 use Rattle.fields.specs.Lines as lines
 use Rattle.fields.specs.laws.First.{prefix, First, comma, line, end, fault, first}
