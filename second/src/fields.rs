@@ -40,12 +40,34 @@ fn marked(text: &[u8]) -> Vec<Mark> {
 
 /// The lines of a text; the empty one is a line too.
 pub fn lines(text: &[u8]) -> Vec<Line> {
+    cut(&marked(text)).iter().map(line).collect()
+}
+
+/// The lines without what a spreadsheet program fills a table up with: fields of no
+/// bytes at the end of a line, and lines of nothing else at the end of the text. The
+/// first field and the first line stay.
+pub fn unfilled(text: &[u8]) -> Vec<Line> {
     let marks = marked(text);
+    let mut lines = cut(&marks);
+    for fields in &mut lines {
+        while matches!(fields[..], [_, .., []]) {
+            fields.pop();
+        }
+    }
+    while matches!(&lines[..], [_, .., last] if matches!(last[..], [[]])) {
+        lines.pop();
+    }
+    lines.iter().map(line).collect()
+}
+
+/// Into lines, and these into fields as they stand, quotes and all.
+fn cut(marks: &[Mark]) -> Vec<Vec<&[Mark]>> {
     if marks.is_empty() {
-        return vec![line(&[])];
+        return vec![vec![marks]];
     }
     let ended = marks.split_inclusive(|mark| *mark == LF);
-    ended.map(|marks| line(without_end(marks))).collect()
+    let fields = |line| without_end(line).split(|mark| *mark == COMMA).collect();
+    ended.map(fields).collect()
 }
 
 /// A CR belongs to the line end only before a LF.
@@ -57,8 +79,8 @@ fn without_end(line: &[Mark]) -> &[Mark] {
     }
 }
 
-fn line(marks: &[Mark]) -> Line {
-    let fields = marks.split(|mark| *mark == COMMA);
+fn line(fields: &Vec<&[Mark]>) -> Line {
+    let fields = fields.iter();
     let fields = fields.map(|marks| marks.iter().map(|mark| mark.0).collect());
     fields.map(|field: String| content(&field)).collect()
 }

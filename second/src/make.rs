@@ -17,6 +17,7 @@ mod record;
 mod refused;
 mod slips;
 mod spoil;
+mod tables;
 mod texts;
 mod tie;
 mod vessel;
@@ -33,6 +34,9 @@ use faults::Faults;
 use headers::Headers;
 use texts::Texts;
 use whole::{full, noise, sound, sound_in};
+
+/// One case of texts in so many is a table.
+const TABLE_TURN: usize = 16;
 
 /// A sheet with more behind its header than all its records can fill.
 fn longer_than_any(chance: &mut Chance) -> Vec<u8> {
@@ -76,7 +80,12 @@ pub fn edit_cases(seed: u64) -> impl Iterator<Item = (Lent, Vec<Edit>)> {
 pub fn text_cases(seed: u64) -> impl Iterator<Item = Case> {
     let mut chance = Chance::new(seed);
     let mut texts = Texts::new();
-    std::iter::repeat_with(move || texts.case(&mut chance))
+    let mut tables = Chance::one_of(seed, 0);
+    let turns = (1..=TABLE_TURN).cycle();
+    turns.map(move |turn| match turn {
+        TABLE_TURN => texts.table(&mut tables),
+        _ => texts.case(&mut chance),
+    })
 }
 
 /// A sheet with hundreds of records that no check turns away.

@@ -2,6 +2,7 @@
 //! by what it was given for, and how the texts were put down (`tally_texts/shape`).
 
 mod shape;
+mod table;
 
 use crate::fields::{lines, Line, QuoteFault};
 use crate::form::PLATE;
@@ -12,12 +13,16 @@ use crate::text::{layout_of, packed, LineFault, NumberFault};
 use crate::text_stream::{cases, Broken, Case, What};
 use crate::version::{SHORTEST_HEADER, VERSIONS};
 pub use shape::SHAPES;
+pub use table::{FILLED, LOOKS};
 
 /// A row that must come up in each version has its share there.
 const SHARE: usize = HUNDREDS / VERSIONS.len();
 
 /// Each shape comes up at least so often.
 const SOME: usize = 30;
+
+/// And of tables each look and each way of filling.
+const FEW: usize = 10;
 
 /// The rows that must come up hundreds of times whatever the version.
 pub const IN_ANY_VERSION: [&str; 14] = [
@@ -62,6 +67,7 @@ pub const BY_VERSION: [&str; 17] = [
 pub struct TextTally {
     pub reads: usize,
     pub writes: usize,
+    pub tables: usize,
     pub rows: Rows,
     pub broken: bool,
 }
@@ -80,12 +86,19 @@ impl TextTally {
 
     fn count(&mut self, mut case: Case) {
         let outcome = case.run();
+        if case.what == What::Table {
+            self.tables += 1;
+            for name in table::of(&case.input, outcome) {
+                self.rows.add(name, ANY);
+            }
+            return;
+        }
         let (name, version) = match case.what {
             What::Read => {
                 self.reads += 1;
                 read(&case.input, outcome)
             }
-            What::Write => {
+            _ => {
                 self.writes += 1;
                 written(&case.input, outcome)
             }
@@ -105,6 +118,10 @@ impl TextTally {
         lines.extend(self.rows.lines_by_version(&BY_VERSION));
         lines.push("of these".to_string());
         lines.extend(self.rows.lines(&SHAPES));
+        lines.push(line("tables to read", &[self.tables]));
+        lines.extend(self.rows.lines(&LOOKS));
+        lines.push("of these".to_string());
+        lines.extend(self.rows.lines(&FILLED));
         lines.join("\n") + "\n"
     }
 
@@ -113,6 +130,8 @@ impl TextTally {
         let mut complaints = self.rows.complaints(&IN_ANY_VERSION, HUNDREDS);
         complaints.extend(self.rows.complaints_by_version(&BY_VERSION, SHARE));
         complaints.extend(self.rows.complaints(&SHAPES, SOME));
+        complaints.extend(self.rows.complaints(&LOOKS, FEW));
+        complaints.extend(self.rows.complaints(&FILLED, FEW));
         complaints
     }
 }

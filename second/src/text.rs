@@ -4,7 +4,7 @@
 
 use crate::bits::BitWriter;
 use crate::edit::read_sheet;
-use crate::fields::{lines, Line, QuoteFault};
+use crate::fields::{lines, unfilled, Line, QuoteFault};
 use crate::form::{entered, record_layout, Form, Layout, RECORD_BYTES};
 use crate::refusal::Refusal;
 use crate::sheet::Record;
@@ -97,9 +97,9 @@ fn unknown(first: i128, index: usize) -> Vec<u8> {
 }
 
 /// The sheet that the lines make: refusals 14 and 15.
-fn sheet_of(text: &[u8]) -> Result<Vec<u8>, Refusal> {
+fn sheet_of(lines: &[Line]) -> Result<Vec<u8>, Refusal> {
     let mut sheet = Vec::new();
-    for (index, line) in lines(text).iter().enumerate() {
+    for (index, line) in lines.iter().enumerate() {
         sheet.extend(packed(line, index).map_err(|fault| fault.refusal(index))?);
     }
     Ok(sheet)
@@ -127,11 +127,33 @@ fn put(bytes: &[u8], output: &mut [u8]) -> Result<usize, Refusal> {
     Ok(bytes.len())
 }
 
-/// Reads a text into a sheet and gives the sheet's length.
-pub fn read_text(text: &[u8], output: &mut [u8]) -> Result<usize, Refusal> {
-    let sheet = sheet_of(text)?;
+fn read_lines(lines: &[Line], output: &mut [u8]) -> Result<usize, Refusal> {
+    let sheet = sheet_of(lines)?;
     read_sheet(&sheet, sheet.len())?;
     put(&sheet, output)
+}
+
+/// Reads a text into a sheet and gives the sheet's length.
+pub fn read_text(text: &[u8], output: &mut [u8]) -> Result<usize, Refusal> {
+    read_lines(&lines(text), output)
+}
+
+/// The same for a table that may be filled up: where a line is at fault, it is looked at
+/// again without the filling. A field that is no number (14) does not become a wrong
+/// count (15) of its line by that.
+pub fn read_table(text: &[u8], output: &mut [u8]) -> Result<usize, Refusal> {
+    let first = read_text(text, output);
+    let Err(Refusal {
+        number: number @ (14 | 15),
+        place,
+    }) = first
+    else {
+        return first;
+    };
+    match read_lines(&unfilled(text), output) {
+        Err(again) if number == 14 && again == Refusal::new(15, place) => first,
+        again => again,
+    }
 }
 
 /// Writes a sheet as text and gives the text's length.

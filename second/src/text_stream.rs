@@ -4,10 +4,11 @@
 
 use crate::refusal::Refusal;
 use crate::rest::{self, Rest};
-use crate::text::{read_text, write_text};
+use crate::text::{read_table, read_text, write_text};
 
 const READ: u32 = 0;
 const WRITE: u32 = 1;
+const TABLE: u32 = 2;
 
 #[derive(Clone, Copy, Debug, PartialEq, Eq)]
 pub enum What {
@@ -15,6 +16,8 @@ pub enum What {
     Read,
     /// A sheet is written as text.
     Write,
+    /// A text is read into a sheet, again without its filling where that helps.
+    Table,
 }
 
 #[derive(Clone, Debug, PartialEq, Eq)]
@@ -30,6 +33,7 @@ impl Case {
         match self.what {
             What::Read => read_text(&self.input, &mut self.output),
             What::Write => write_text(&self.input, &mut self.output),
+            What::Table => read_table(&self.input, &mut self.output),
         }
     }
 }
@@ -54,6 +58,7 @@ impl Cases<'_> {
         let what = match what {
             READ => What::Read,
             WRITE => What::Write,
+            TABLE => What::Table,
             _ => return None,
         };
         let input = self.rest.bytes_of(length)?.to_vec();
@@ -92,6 +97,7 @@ pub fn framed(case: &Case) -> Vec<u8> {
     let what = match what {
         What::Read => READ,
         What::Write => WRITE,
+        What::Table => TABLE,
     };
     let mut bytes = rest::framed([what, rest::length(input), rest::length(output)]);
     bytes.extend(input);

@@ -8,7 +8,7 @@ use second::form::{entered, Layout, MEMBER, PLATE};
 use second::make::text_cases;
 use second::refusal::Refusal;
 use second::rows::ANY;
-use second::tally_texts::{TextTally, BY_VERSION, IN_ANY_VERSION, SHAPES};
+use second::tally_texts::{TextTally, BY_VERSION, IN_ANY_VERSION, LOOKS, SHAPES};
 use second::text::{layout_of, packed, LineFault, NumberFault};
 use second::text_stream::{cases, framed, Broken, Case, What};
 use second::version::VERSIONS;
@@ -75,7 +75,7 @@ fn a_long_input_or_output_or_nothing_to_do_breaks_a_stream() {
         head[4 * number + 3] = 1;
         assert_eq!(words(&[&head[..], &vec![0; 70_000]].concat()), ["broken"]);
     }
-    for what in [[0, 0, 0, 2], [0, 0, 1, 0], [0x80, 0, 0, 1]] {
+    for what in [[0, 0, 0, 3], [0, 0, 1, 0], [0x80, 0, 0, 1]] {
         let stream = [&what[..], &[0; 8], &both].concat();
         assert_eq!(words(&stream), ["broken"]);
     }
@@ -110,13 +110,15 @@ fn the_seed_decides() {
 /// Each case has one row, and of a short run the tally complains.
 #[test]
 fn ten_thousand_cases_bring_up_every_row() {
-    assert_eq!(RUN.reads + RUN.writes, 10_000);
+    assert_eq!(RUN.reads + RUN.writes + RUN.tables, 10_000);
     assert!(!RUN.broken);
     assert_eq!(RUN.complaints(), Vec::<String>::new());
     let in_any = IN_ANY_VERSION.iter().map(|row| RUN.rows.of(row, ANY));
     let by_version = BY_VERSION.iter();
     let by_version = by_version.flat_map(|row| [1, 2].map(|version| RUN.rows.of(row, version)));
-    assert_eq!(in_any.chain(by_version).sum::<usize>(), 10_000);
+    let looks = LOOKS.iter().map(|look| RUN.rows.of(look, ANY));
+    let rows = in_any.chain(by_version).chain(looks);
+    assert_eq!(rows.sum::<usize>(), 10_000);
     assert!(!TextTally::of(&stream(7, 600)).complaints().is_empty());
 }
 

@@ -1,7 +1,7 @@
 -- What is known of the input and of what is made of it, and what is printed of a text.
 use Prim.Native.Nat.{ℕ, _≤_}
 use mathlib.Core.Path.{_≡_}
-use mathlib.Core.Bool.{Bool, false, cond}
+use mathlib.Core.Bool.{cond}
 use mathlib.Core.List.{List}
 use lib.ListN.{length, take}
 use lib.Dec.{eqb}
@@ -13,7 +13,8 @@ use Rattle.report.specs.Text.{printed, textBy, textOf}
 use Rattle.report.specs.Pieces.{refusalText}
 use Rattle.csv.specs.declared.Converted.{Converted}
 use Rattle.csv.specs.declared.Converted.the-variants.{Length, Refused as notConverted}
-use Rattle.csv.specs.Read.{sheetFrom, lengthOf}
+use Rattle.csv.specs.Read.{lengthOf}
+use Rattle.csv.specs.Table.{tableFrom}
 use Rattle.barge_text.specs.declared.Read.{Read}
 use Rattle.barge_text.specs.declared.Read.the-variants.{Got, Failed}
 use Rattle.barge_text.specs.declared.Reply.{Reply}
@@ -33,16 +34,11 @@ abbrev pub lineIn : Answer ℕ → ℕ
 lineIn (given n) = 0
 lineIn (refused number place) = cond (eqb number 14) place (cond (eqb number 15) place 0)
 
--- whether it is turned away by 15
-abbrev pub isCount : Answer ℕ → Bool
-isCount (given n) = false
-isCount (refused number place) = eqb number 15
-
 -- ---- what is printed of a text
 
--- what `barge` prints of the sheet that it is, or the refusal
+-- what `barge` prints of the sheet that it is, looked at again without its filling where a line is at fault, or the refusal
 unfoldable pub printedText : List ℕ → List ℕ
-printedText s = textBy (sheetFrom s longestSheet then printed)
+printedText s = textBy (tableFrom s longestSheet then printed)
 
 -- the same by what it was converted to, and the output that this left
 abbrev pub printedBy : Converted → List ℕ → List ℕ
@@ -57,4 +53,4 @@ pub record Shows (t : List ℕ) (p : Page) : Type 0 where
 -- What the answer to a text is: what is printed, and the line that it is turned away by.
 pub record Replies (s : List ℕ) (r : Reply) : Type 0 where
   pub page : Shows (printedText s) (r .page)
-  pub line : r .line ≡ lineIn (lengthOf (sheetFrom s longestSheet))
+  pub line : r .line ≡ lineIn (lengthOf (tableFrom s longestSheet))

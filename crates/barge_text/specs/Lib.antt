@@ -1,4 +1,3 @@
 pub mod Shown
-pub mod Filled
 pub mod Convert
 pub mod laws

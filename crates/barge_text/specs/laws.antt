@@ -1,4 +1,3 @@
 -- What is proved of the definitions.
 pub mod ConvertLaws
-pub mod FilledLaws
 pub mod ShownLaws

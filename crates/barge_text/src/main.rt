@@ -1,7 +1,6 @@
 // The drawing office's converter. Its word says what standard input is turned into: `sheet` a text into the sheet that it is, `csv` a sheet into its text,
 // `check` a text into what `barge` prints of that sheet. A refusal of the first two goes to standard error, with nothing on standard output, and of a text
 // that is turned away by a line the line goes there too. So does whatever else is wrong.
-mod fill;
 mod say;
 mod show;
 
@@ -16,17 +15,17 @@ ghost use mathlib.Core.List.{List};
 ghost use Prim.Native.Nat.{ℕ, _≤_};
 ghost use lib.ListN.{length, take};
 ghost use Rattle.sheet.specs.Refusals.{told};
-ghost use Rattle.sheet.specs.Versions.{enough, longestSheet};
+ghost use Rattle.sheet.specs.Versions.{enough};
 ghost use Rattle.report.specs.Pieces.{refusalText};
-ghost use Rattle.csv.specs.Read.{sheetFrom, lengthOf, toldConverted, Converts};
+ghost use Rattle.csv.specs.Read.{toldConverted, Converts};
 ghost use Rattle.csv.specs.Write.{textFrom};
-ghost use Rattle.barge_text.specs.Convert.{Loaded, MadeInside, isCount, lineIn, printedBy, Shows, Replies};
+ghost use Rattle.barge_text.specs.Convert.{Loaded, MadeInside, lineIn, printedBy, Shows, Replies};
 
 // Where the word stands.
 const COMMAND: usize = 1;
 
-// A longer text is no sheet's, and is not looked at. One byte more is read, so that it is noticed.
-const LONGEST: usize = 65536;
+// A longer text is not looked at; one with every field quoted and filled up has a quarter of it. One byte more is read, so that it is noticed.
+const LONGEST: usize = 262_144;
 
 const TEXT_READ: usize = LONGEST + 1;
 
@@ -123,7 +122,7 @@ fn answer(text: &[u8]) -> Reply
     ensures { λ r. ⌜ Replies (now (text .entry)) r ⌝ }
 {
     let mut sheet = [0u8; sheet::LONGEST];
-    let c = csv::read_sheet(text, &mut sheet);
+    let c = csv::read_table(text, &mut sheet);
     let page = page_by(c, &sheet);
     let line = line_at_fault(c);
     Reply { page, line }
@@ -149,7 +148,7 @@ fn deliver(c: Converted, made: &[u8])
 
 fn make_sheet(text: &[u8]) {
     let mut sheet = [0u8; sheet::LONGEST];
-    let c = csv::read_sheet(text, &mut sheet);
+    let c = csv::read_table(text, &mut sheet);
     deliver(c, &sheet);
     show::line(text, line_at_fault(c));
 }
@@ -179,45 +178,9 @@ fn take(text: &[u8], checks: bool) {
     }
 }
 
-fn is_miscount(c: Converted) -> bool
-    ensures { λ r. ⌜ r ≡ isCount (toldConverted c) ⌝ }
-{
-    match c {
-        Converted::Length(_) => false,
-        Converted::Refused(r) => r.number() == 15,
-    }
-}
-
-// Whether a text is turned away by the count of a line's fields, as one that a spreadsheet program has filled up is.
-fn miscounted(text: &[u8]) -> bool
-    ensures { λ r. ⌜ r ≡ isCount (lengthOf (sheetFrom (now (text .entry)) longestSheet)) ⌝ }
-{
-    let mut sheet = [0u8; sheet::LONGEST];
-    let c = csv::read_sheet(text, &mut sheet);
-    is_miscount(c)
-}
-
-// A text without its filling, which is put into a space as long as it.
-fn take_unfilled(text: &[u8], space: &mut [u8], checks: bool)
-    requires { ⌜ length (now space) ≡ length (now text) ⌝ }
-{
-    let at = fill::unfill(text, space);
-    take(&space[at..], checks);
-}
-
-fn take_filled(text: &[u8], checks: bool)
-    requires { ⌜ length (now text) ≤ 65536 ⌝ }
-{
-    let mut space = [0u8; LONGEST];
-    let len = text.len();
-    take_unfilled(text, &mut space[..len], checks);
-}
-
 fn from_text(text: &[u8], checks: bool) {
     if LONGEST < text.len() {
-        say::text(b"the text has more than 65536 bytes, and no sheet's text has so many");
-    } else if miscounted(text) {
-        take_filled(text, checks);
+        say::too_long(LONGEST as u64);
     } else {
         take(text, checks);
     }

@@ -20,6 +20,14 @@ pub fn failed(what: &[u8], which: &[u8]) {
     os::fail(which);
 }
 
+// That a text has more bytes than are looked at.
+pub fn too_long(most: u64) {
+    begin();
+    io::write_all(STDERR_FILENO, b"the text has more than ");
+    io::print_decimal(STDERR_FILENO, most);
+    io::write_all(STDERR_FILENO, b" bytes, and no sheet's text has so many\n");
+}
+
 // A refusal's line, as it is printed of a sheet.
 pub fn refusal(r: Refusal) {
     let mut line = [0u8; 22];

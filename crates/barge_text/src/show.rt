@@ -23,7 +23,7 @@ fn feed_at(text: &[u8], at: usize) -> bool
 }
 
 // Whether a line ends at a byte: at LF, or at CR with LF behind it.
-pub fn ends_at(text: &[u8], i: usize) -> bool
+fn ends_at(text: &[u8], i: usize) -> bool
     requires { ⌜ i < length (now text) ⌝ }
     ensures { λ r. ⌜ r ≡ endsHere (drop i (now (text .entry))) ⌝ }
 {

@@ -15,8 +15,7 @@ use Rattle.layout.specs.laws.Tail.{mid-tail, put-tail}
 use Rattle.decimal.specs.Put.{putCount, putOn, Puts}
 use Rattle.sheet.specs.declared.Refusal.{Refusal}
 use Rattle.sheet.specs.Refusals.{Answer, given, refused, told}
-use Rattle.fields.specs.Lines.{linesAt}
-use Rattle.text.specs.Line.{lineAt}
+use Rattle.filling.specs.Filling.{lineLeft, linesLeft}
 use Rattle.rows.specs.declared.Row.{Row}
 use Rattle.rows.specs.declared.RowEnd.the-variants as RowEnd
 use Rattle.rows.specs.Rows.{headerRow, recordRow, toldRow, shown}
@@ -52,14 +51,14 @@ module _ (b draft : List ℕ) (end n : ℕ) (part : List ℕ) (inside : end ≤ 
 -- ---- the records
 
 -- the lines from `here` on are left, of which the first has the place p
-pub record Filling (whole : Answer (List ℕ)) (front s : List ℕ) (p here end : ℕ) (draft : List ℕ) : Type 0 where
+pub record Filling (whole : Answer (List ℕ)) (front : List ℕ) (filled : Bool) (s : List ℕ) (p here end : ℕ) (draft : List ℕ) : Type 0 where
   pub made : List ℕ
   pub held : Held (front ++ made) end draft
   pub size : length draft ≡ draftSize
-  pub rest : whole ≡ (recordsMade p (linesAt s here) then λ bs. given (made ++ bs))
+  pub rest : whole ≡ (recordsMade p (linesLeft filled s here) then λ bs. given (made ++ bs))
 
-pub begin : (s : List ℕ) (at head : ℕ) (draft : List ℕ) → head ≤ length draft → length draft ≡ draftSize → Filling (recordsMade 2 (linesAt s at)) (take head draft) s 2 at head draft
-begin s at head draft l e =
+pub begin : (filled : Bool) (s : List ℕ) (at head : ℕ) (draft : List ℕ) → head ≤ length draft → length draft ≡ draftSize → Filling (recordsMade 2 (linesLeft filled s at)) (take head draft) filled s 2 at head draft
+begin filled s at head draft l e =
     record {
       made = [];
       held = record {
@@ -69,30 +68,30 @@ begin s at head draft l e =
         much = inl (sym (length-append (take head draft) [] ∙ ap (λ (k : ℕ). k + 0) (length-take-le head draft l) ∙ omega arith));
       };
       size = e;
-      rest = nothing-in-front (recordsMade 2 (linesAt s at));
+      rest = nothing-in-front (recordsMade 2 (linesLeft filled s at));
     }
 
-module _ (whole : Answer (List ℕ)) (front s : List ℕ) (p here end : ℕ) (draft : List ℕ) (f : Filling whole front s p here end draft)
-    (r : Row) (shows : toldRow r ≡ shown (recordRow p (lineAt s here))) where
+module _ (whole : Answer (List ℕ)) (front : List ℕ) (filled : Bool) (s : List ℕ) (p here end : ℕ) (draft : List ℕ) (f : Filling whole front filled s p here end draft)
+    (r : Row) (shows : toldRow r ≡ shown (recordRow p (lineLeft filled s here))) where
   -- the line has another behind it
-  pub on : (n : ℕ) → r .end ≡ RowEnd.More n → Goes (recordsMade (nextLine p)) (recordsMade p (linesAt s here)) s here r (recordRow p (lineAt s here)) shows (records-by-row p s here) n
-  on n e = row-more (recordsMade (nextLine p)) (recordsMade p (linesAt s here)) s here r (recordRow p (lineAt s here)) shows (records-by-row p s here) n e
+  pub on : (n : ℕ) → r .end ≡ RowEnd.More n → Goes (recordsMade (nextLine p)) (recordsMade p (linesLeft filled s here)) filled s here r (recordRow p (lineLeft filled s here)) shows (records-by-row p filled s here) n
+  on n e = row-more (recordsMade (nextLine p)) (recordsMade p (linesLeft filled s here)) filled s here r (recordRow p (lineLeft filled s here)) shows (records-by-row p filled s here) n e
 
-  pub ends : r .end ≡ RowEnd.Last → Stops (recordsMade (nextLine p)) (recordsMade p (linesAt s here)) s here r (recordRow p (lineAt s here)) shows (records-by-row p s here)
-  ends e = row-last (recordsMade (nextLine p)) (recordsMade p (linesAt s here)) s here r (recordRow p (lineAt s here)) shows (records-by-row p s here) e
+  pub ends : r .end ≡ RowEnd.Last → Stops (recordsMade (nextLine p)) (recordsMade p (linesLeft filled s here)) filled s here r (recordRow p (lineLeft filled s here)) shows (records-by-row p filled s here)
+  ends e = row-last (recordsMade (nextLine p)) (recordsMade p (linesLeft filled s here)) filled s here r (recordRow p (lineLeft filled s here)) shows (records-by-row p filled s here) e
 
-  pub go-on : (n : ℕ) → r .end ≡ RowEnd.More n → (next : ℕ) (after : List ℕ) → PutsBehind (take (r .size) (r .bytes)) draft end next after → (q : ℕ) → q ≡ nextLine p → Filling whole front s q n next after
+  pub go-on : (n : ℕ) → r .end ≡ RowEnd.More n → (next : ℕ) (after : List ℕ) → PutsBehind (take (r .size) (r .bytes)) draft end next after → (q : ℕ) → q ≡ nextLine p → Filling whole front filled s q n next after
   go-on n e next after u q z =
       let g = on n e in
       let b = g .made in
       let v : PutsBehind b draft end next after = subst (λ (x : List ℕ). PutsBehind x draft end next after) (g .bytes .front) u in
-      let h = held-more (front ++ f .made) b draft end next after (f .held) (f .size) (record-sixteen p (lineAt s here) _ (g .line)) v in
+      let h = held-more (front ++ f .made) b draft end next after (f .held) (f .size) (record-sixteen p (lineLeft filled s here) _ (g .line)) v in
       record {
         made = f .made ++ b;
         held = subst (λ (x : List ℕ). Held x next after) (append-assoc front (f .made) b) (h .0);
         size = h .1;
-        rest = f .rest ∙ ap (λ (x : Answer (List ℕ)). x then λ cs. given (f .made ++ cs)) (g .rest) ∙ in-front (recordsMade (nextLine p) (linesAt s n)) (f .made) b
-            ∙ ap (λ (k : ℕ). recordsMade k (linesAt s n) then λ bs. given ((f .made ++ b) ++ bs)) (sym z);
+        rest = f .rest ∙ ap (λ (x : Answer (List ℕ)). x then λ cs. given (f .made ++ cs)) (g .rest) ∙ in-front (recordsMade (nextLine p) (linesLeft filled s n)) (f .made) b
+            ∙ ap (λ (k : ℕ). recordsMade k (linesLeft filled s n) then λ bs. given ((f .made ++ b) ++ bs)) (sym z);
       }
 
   pub finish : r .end ≡ RowEnd.Last → (next : ℕ) (after : List ℕ) → PutsBehind (take (r .size) (r .bytes)) draft end next after → Fills whole front (Made.Length next) after
@@ -100,14 +99,14 @@ module _ (whole : Answer (List ℕ)) (front s : List ℕ) (p here end : ℕ) (dr
       let g = ends e in
       let b = g .made in
       let v : PutsBehind b draft end next after = subst (λ (x : List ℕ). PutsBehind x draft end next after) (g .bytes .front) u in
-      let h = held-more (front ++ f .made) b draft end next after (f .held) (f .size) (record-sixteen p (lineAt s here) _ (g .line)) v in
-      subst (λ (x : Answer (List ℕ)). Fills x front (Made.Length next) after) (sym (f .rest ∙ given-in-front (recordsMade p (linesAt s here)) (f .made) b (g .rest)))
+      let h = held-more (front ++ f .made) b draft end next after (f .held) (f .size) (record-sixteen p (lineLeft filled s here) _ (g .line)) v in
+      subst (λ (x : Answer (List ℕ)). Fills x front (Made.Length next) after) (sym (f .rest ∙ given-in-front (recordsMade p (linesLeft filled s here)) (f .made) b (g .rest)))
       (subst (λ (x : List ℕ). Held x next after) (append-assoc front (f .made) b) (h .0))
 
   pub turned-away : (x : Refusal) → r .end ≡ RowEnd.Refused x → Fills whole front (Made.Refused x) draft
   turned-away x e =
-      let g = row-refused (recordsMade (nextLine p)) (recordsMade p (linesAt s here)) s here r (recordRow p (lineAt s here)) shows (records-by-row p s here) x e in
-      subst (λ (y : Answer (List ℕ)). Fills y front (Made.Refused x) draft) (sym (f .rest ∙ refused-in-front (recordsMade p (linesAt s here)) (f .made) _ _ g)) refl
+      let g = row-refused (recordsMade (nextLine p)) (recordsMade p (linesLeft filled s here)) filled s here r (recordRow p (lineLeft filled s here)) shows (records-by-row p filled s here) x e in
+      subst (λ (y : Answer (List ℕ)). Fills y front (Made.Refused x) draft) (sym (f .rest ∙ refused-in-front (recordsMade p (linesLeft filled s here)) (f .made) _ _ g)) refl
 
 -- ---- the header
 
@@ -117,22 +116,22 @@ unfolding _then_
 behind (given b) front (Made.Length end) draft f = f
 behind (refused k p) front (Made.Refused x) draft f = f
 
-module _ (s draft : List ℕ) (size : length draft ≡ draftSize) (r : Row) (shows : toldRow r ≡ shown (headerRow 1 (lineAt s 0))) where
-  pub head-on : (n : ℕ) → r .end ≡ RowEnd.More n → Goes (recordsMade 2) (sheetMade (linesAt s 0)) s 0 r (headerRow 1 (lineAt s 0)) shows (sheet-by-row s) n
-  head-on n e = row-more (recordsMade 2) (sheetMade (linesAt s 0)) s 0 r (headerRow 1 (lineAt s 0)) shows (sheet-by-row s) n e
+module _ (filled : Bool) (s draft : List ℕ) (size : length draft ≡ draftSize) (r : Row) (shows : toldRow r ≡ shown (headerRow 1 (lineLeft filled s 0))) where
+  pub head-on : (n : ℕ) → r .end ≡ RowEnd.More n → Goes (recordsMade 2) (sheetMade (linesLeft filled s 0)) filled s 0 r (headerRow 1 (lineLeft filled s 0)) shows (sheet-by-row filled s) n
+  head-on n e = row-more (recordsMade 2) (sheetMade (linesLeft filled s 0)) filled s 0 r (headerRow 1 (lineLeft filled s 0)) shows (sheet-by-row filled s) n e
 
-  pub head-ends : r .end ≡ RowEnd.Last → Stops (recordsMade 2) (sheetMade (linesAt s 0)) s 0 r (headerRow 1 (lineAt s 0)) shows (sheet-by-row s)
-  head-ends e = row-last (recordsMade 2) (sheetMade (linesAt s 0)) s 0 r (headerRow 1 (lineAt s 0)) shows (sheet-by-row s) e
+  pub head-ends : r .end ≡ RowEnd.Last → Stops (recordsMade 2) (sheetMade (linesLeft filled s 0)) filled s 0 r (headerRow 1 (lineLeft filled s 0)) shows (sheet-by-row filled s)
+  head-ends e = row-last (recordsMade 2) (sheetMade (linesLeft filled s 0)) filled s 0 r (headerRow 1 (lineLeft filled s 0)) shows (sheet-by-row filled s) e
 
-  pub head-refused : (x : Refusal) → r .end ≡ RowEnd.Refused x → Fills (sheetMade (linesAt s 0)) [] (Made.Refused x) draft
+  pub head-refused : (x : Refusal) → r .end ≡ RowEnd.Refused x → Fills (sheetMade (linesLeft filled s 0)) [] (Made.Refused x) draft
   head-refused x e =
       subst (λ (y : Answer (List ℕ)). Fills y [] (Made.Refused x) draft)
-      (sym (row-refused (recordsMade 2) (sheetMade (linesAt s 0)) s 0 r (headerRow 1 (lineAt s 0)) shows (sheet-by-row s) x e)) refl
+      (sym (row-refused (recordsMade 2) (sheetMade (linesLeft filled s 0)) filled s 0 r (headerRow 1 (lineLeft filled s 0)) shows (sheet-by-row filled s) x e)) refl
 
-  pub head-alone : r .end ≡ RowEnd.Last → (next : ℕ) (after : List ℕ) → PutsBehind (take (r .size) (r .bytes)) draft 0 next after → Fills (sheetMade (linesAt s 0)) [] (Made.Length next) after
+  pub head-alone : r .end ≡ RowEnd.Last → (next : ℕ) (after : List ℕ) → PutsBehind (take (r .size) (r .bytes)) draft 0 next after → Fills (sheetMade (linesLeft filled s 0)) [] (Made.Length next) after
   head-alone e next after u =
       let g = head-ends e in
-      let small = header-twenty 1 (lineAt s 0) _ (g .line) in
+      let small = header-twenty 1 (lineLeft filled s 0) _ (g .line) in
       let v : PutsBehind (g .made) draft 0 next after = subst (λ (x : List ℕ). PutsBehind x draft 0 next after) (g .bytes .front) u in
       subst (λ (x : Answer (List ℕ)). Fills x [] (Made.Length next) after) (sym (g .rest)) (held-first (g .made) draft next after (omega arith) v .0)
 
@@ -140,14 +139,14 @@ module _ (s draft : List ℕ) (size : length draft ≡ draftSize) (r : Row) (sho
     held : Held (head-on n e .made) next after × (length after ≡ length draft)
     held =
         let g = head-on n e in
-        held-first (g .made) draft next after (omega (arith, header-twenty 1 (lineAt s 0) _ (g .line))) (subst (λ (x : List ℕ). PutsBehind x draft 0 next after) (g .bytes .front) u)
+        held-first (g .made) draft next after (omega (arith, header-twenty 1 (lineLeft filled s 0) _ (g .line))) (subst (λ (x : List ℕ). PutsBehind x draft 0 next after) (g .bytes .front) u)
 
     pub head-room : (length after ≡ draftSize) × (next ≤ length after)
     head-room = (held .1 ∙ size, held .0 .inside)
 
-    pub head-and-records : (m : Made) (done : List ℕ) → Fills (recordsMade 2 (linesAt s n)) (take next after) m done → Fills (sheetMade (linesAt s 0)) [] m done
+    pub head-and-records : (m : Made) (done : List ℕ) → Fills (recordsMade 2 (linesLeft filled s n)) (take next after) m done → Fills (sheetMade (linesLeft filled s 0)) [] m done
     head-and-records m done f =
         let g = head-on n e in
-        let small = header-twenty 1 (lineAt s 0) _ (g .line) in
+        let small = header-twenty 1 (lineLeft filled s 0) _ (g .line) in
         let front : take next after ≡ g .made = held .0 .front ∙ take-all next (g .made) (⊎-elim (λ h. omega arith) (λ h. absurd (omega (arith, held .0 .within))) (held .0 .much)) in
-        subst (λ (x : Answer (List ℕ)). Fills x [] m done) (sym (g .rest)) (behind (recordsMade 2 (linesAt s n)) (g .made) m done (subst (λ (x : List ℕ). Fills (recordsMade 2 (linesAt s n)) x m done) front f))
+        subst (λ (x : Answer (List ℕ)). Fills x [] m done) (sym (g .rest)) (behind (recordsMade 2 (linesLeft filled s n)) (g .made) m done (subst (λ (x : List ℕ). Fills (recordsMade 2 (linesLeft filled s n)) x m done) front f))

@@ -12,12 +12,12 @@ use Rattle.sheet.specs.Refusals.{Answer, given, refused, told}
 use Rattle.sheet.specs.laws.RefusalLaws.{given-refused, refused-number, refused-place}
 use Rattle.checker.specs.Check.{_then_, demand, Sheet}
 use Rattle.checker.specs.Unjudged.{soundSheet, soundHeader}
-use Rattle.fields.specs.Lines.{linesAt}
+use Rattle.fields.specs.Lines.{Lines}
 use Rattle.csv.specs.declared.Converted.{Converted}
 use Rattle.csv.specs.declared.Converted.the-variants as Converted
 use Rattle.csv.specs.declared.Made.{Made}
 use Rattle.csv.specs.declared.Made.the-variants as Made
-use Rattle.csv.specs.Read.{sheetMade, sheetFrom, toldConverted, lengthOf, outputBy, Converts}
+use Rattle.csv.specs.Read.{sheetMade, sheetOf, toldConverted, lengthOf, outputBy, Converts}
 use Rattle.csv.specs.Write.{textOf, textFrom}
 use Rattle.csv.specs.Steps.{Held, Fills, fitsIn, soundIn}
 use Rattle.csv.specs.laws.HeldLaws.{held-sound}
@@ -65,19 +65,19 @@ module _ (b : List ℕ) (room : ℕ) where
 
 -- ---- the lines
 
-module _ (s : List ℕ) (room : ℕ) (draft : List ℕ) where
+module _ (ls : Lines) (room : ℕ) (draft : List ℕ) where
   -- a line that is turned away
-  pub lines-refused : (x : Refusal) → Fills (sheetMade (linesAt s 0)) [] (Made.Refused x) draft → sheetFrom s room ≡ told x
-  unfolding sheetFrom _then_
-  lines-refused x f = go (sheetMade (linesAt s 0)) f
+  pub lines-refused : (x : Refusal) → Fills (sheetMade ls) [] (Made.Refused x) draft → sheetOf ls room ≡ told x
+  unfolding _then_
+  lines-refused x f = go (sheetMade ls) f
     where
       go : (y : Answer (List ℕ)) → Fills y [] (Made.Refused x) draft → (y then λ b. soundIn b room) ≡ told x
       go (refused k p) e = ap₂ refused (refused-number (sym e)) (refused-place (sym e))
 
   -- lines that make bytes: within the draft, and answered as what it holds
-  pub lines-made : (end : ℕ) → Fills (sheetMade (linesAt s 0)) [] (Made.Length end) draft → (end ≤ length draft) × (soundIn (take end draft) room ≡ sheetFrom s room)
-  unfolding sheetFrom _then_
-  lines-made end f = go (sheetMade (linesAt s 0)) f
+  pub lines-made : (end : ℕ) → Fills (sheetMade ls) [] (Made.Length end) draft → (end ≤ length draft) × (soundIn (take end draft) room ≡ sheetOf ls room)
+  unfolding _then_
+  lines-made end f = go (sheetMade ls) f
     where
       go : (y : Answer (List ℕ)) → Fills y [] (Made.Length end) draft → (end ≤ length draft) × (soundIn (take end draft) room ≡ (y then λ b. soundIn b room))
       go (given b) h = (h .inside, held-sound b end draft h room)

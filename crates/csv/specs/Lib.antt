@@ -1,4 +1,5 @@
 pub mod Read
+pub mod Table
 pub mod Write
 pub mod Steps
 pub mod laws

@@ -34,13 +34,17 @@ sheetMade (row fs ls) = headerLine 1 (length fs) (map valueIn fs) then λ b. rec
 
 -- ---- reading
 
--- the sheet that a text is, in an output of so many bytes
-unfoldable pub sheetFrom : List ℕ → (room : ℕ) → Answer (List ℕ)
-sheetFrom s room =
-    sheetMade (linesIn s)
+-- the sheet that lines are, in an output of so many bytes
+abbrev pub sheetOf : Lines → (room : ℕ) → Answer (List ℕ)
+sheetOf ls room =
+    sheetMade ls
     then λ b. soundSheet b
     then λ t. demand (leb (length b) room) 5
     then λ u. given b
+
+-- the sheet that a text is
+unfoldable pub sheetFrom : List ℕ → (room : ℕ) → Answer (List ℕ)
+sheetFrom s room = sheetOf (linesIn s) room
 
 -- ---- what is answered and written
 

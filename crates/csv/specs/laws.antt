@@ -2,4 +2,5 @@
 pub mod HeldLaws
 pub mod Only
 pub mod ReadLaws
+pub mod TableLaws
 pub mod WriteLaws

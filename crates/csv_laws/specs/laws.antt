@@ -10,5 +10,7 @@ pub mod RowsBack
 pub mod SheetAgain
 pub mod SheetBytes
 pub mod Spelled
+pub mod TableAgain
+mod TableCases
 pub mod TextAgain
 pub mod Turned

@@ -85,7 +85,8 @@ fn after_feed(text: &[u8], at: usize) -> Seen
     }
 }
 
-fn look(text: &[u8], at: usize) -> Seen
+// What stands at a place outside quotes.
+pub fn look(text: &[u8], at: usize) -> Seen
     ensures { λ r. ⌜ r ≡ seenAt (drop at (now (text .entry))) ⌝ }
 {
     if text.len() <= at {

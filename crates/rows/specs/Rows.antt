@@ -13,7 +13,7 @@ use Rattle.sheet.specs.Header.{ownBytes}
 use Rattle.sheet.specs.Refusals.{Answer, given, refused, told}
 use Rattle.text.specs.declared.LineEnd.{LineEnd}
 use Rattle.text.specs.declared.LineEnd.the-variants as LineEnd
-use Rattle.text.specs.Line.{Numbers, lineAt}
+use Rattle.text.specs.Line.{Numbers}
 use Rattle.rows.specs.declared.Row.{Row}
 use Rattle.rows.specs.declared.RowEnd.{RowEnd}
 use Rattle.rows.specs.declared.RowEnd.the-variants as RowEnd

@@ -11,7 +11,7 @@ ghost use Prim.Native.Nat.{_+_, _≤_};
 ghost use lib.Dec.{eqb};
 ghost use Rattle.quantity.specs.Range.{within, from};
 ghost use Rattle.sheet.specs.Refusals.{told};
-ghost use Rattle.text.specs.Line.{lineAt};
+ghost use Rattle.filling.specs.Filling.{lineLeft};
 ghost use Rattle.rows.specs.Pack.{below, fieldsOf};
 ghost use Rattle.rows.specs.Rows.{taken as takenOf, headerLine, recordLine, rowBy, headerRow, recordRow, shown, toldRow};
 ghost use Rattle.rows.specs.Steps.{isFault, rowEnd, firstPart, ownPart, placedOf};
@@ -156,12 +156,12 @@ fn record_row(nums: [u32; 13], count: usize, line: u32, end: LineEnd) -> Row
     refused(Refusal::Text(line))
 }
 
-// The line of a text that starts at a place, as a record.
-pub fn record_at(text: &[u8], at: usize, line: u32) -> Row
-    ensures { λ r. ⌜ toldRow r ≡ shown (recordRow line (lineAt (now (text .entry)) at)) ⌝ }
+// The line of a text that starts at a place, as a record; where it is filled up, without its filling.
+pub fn record_at(text: &[u8], at: usize, line: u32, filled: bool) -> Row
+    ensures { λ r. ⌜ toldRow r ≡ shown (recordRow line (lineLeft filled (now (text .entry)) at)) ⌝ }
 {
     let mut nums = [0u32; 13];
-    let read = text::line_at(text, at, &mut nums);
+    let read = filling::line_at(text, at, filled, &mut nums);
     let count = read.count;
     let end = read.end;
     record_row(nums, count, line, end)
@@ -208,12 +208,12 @@ fn header_row(nums: [u32; 13], count: usize, line: u32, end: LineEnd) -> Row
     refused(Refusal::Text(line))
 }
 
-// The first line of a text, as a header.
-pub fn header_at(text: &[u8]) -> Row
-    ensures { λ r. ⌜ toldRow r ≡ shown (headerRow 1 (lineAt (now (text .entry)) 0)) ⌝ }
+// The first line of a text, as a header, likewise.
+pub fn header_at(text: &[u8], filled: bool) -> Row
+    ensures { λ r. ⌜ toldRow r ≡ shown (headerRow 1 (lineLeft filled (now (text .entry)) 0)) ⌝ }
 {
     let mut nums = [0u32; 13];
-    let read = text::line_at(text, 0, &mut nums);
+    let read = filling::line_at(text, 0, filled, &mut nums);
     let count = read.count;
     let end = read.end;
     header_row(nums, count, 1, end)

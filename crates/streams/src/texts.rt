@@ -1,5 +1,5 @@
-// Texts and sheets to be converted. The head is what is asked, 0 a text into a sheet and 1 a sheet into text, the input's length and the output's size; of each
-// case it prints a line, the length written or the refusal, and the output as it then stands.
+// Texts and sheets to be converted. The head is what is asked, 0 a text into a sheet, 1 a sheet into text and 2 a table that may be filled up into a sheet, the
+// input's length and the output's size; of each case it prints a line, the length written or the refusal, and the output as it then stands.
 use crate::parts;
 use csv::Converted;
 use libc::STDOUT_FILENO;
@@ -14,7 +14,10 @@ fn converted(what: u32, input: &[u8], out: &mut [u8]) -> Converted
     if what == 0 {
         return csv::read_sheet(input, out);
     }
-    csv::write_text(input, out)
+    if what == 1 {
+        return csv::write_text(input, out);
+    }
+    csv::read_table(input, out)
 }
 
 // The answer to a case: its line, and the output.
@@ -30,7 +33,7 @@ pub fn print(head: &[u8; 20], input: &[u8], out: &mut [u8]) -> bool
     requires { ⌜ length (now out) ≤ 65536 ⌝ }
 {
     let what = parts::number(head, 0);
-    if 1 < what {
+    if 2 < what {
         return false;
     }
     let mut line = [0u8; parts::LINE];

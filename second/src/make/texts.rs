@@ -6,6 +6,7 @@ use super::headers::Headers;
 use super::page::Page;
 use super::refused::{full_with_a_fault_at_its_end, with_number, Refused};
 use super::slips::{self, Slips};
+use super::tables;
 use super::whole::{full, noise, sound, sound_in};
 use super::{damage, spoil};
 use crate::rest::LONGEST;
@@ -18,6 +19,8 @@ pub struct Texts {
     slips: Slips,
     to_read: Refused,
     to_write: Refused,
+    in_tables: Slips,
+    to_fill: Refused,
     headers: Headers,
 }
 
@@ -27,6 +30,8 @@ impl Texts {
             slips: Slips::default(),
             to_read: Refused::default(),
             to_write: Refused::default(),
+            in_tables: Slips::default(),
+            to_fill: Refused::default(),
             headers: Headers::new(),
         }
     }
@@ -37,6 +42,13 @@ impl Texts {
             _ => (What::Read, self.text(chance)),
         };
         lend(chance, what, input)
+    }
+
+    /// A text that a spreadsheet program has saved.
+    pub fn table(&mut self, chance: &mut Chance) -> Case {
+        let refused = self.to_fill.draft(chance);
+        let input = tables::text(chance, &mut self.in_tables, refused);
+        lend(chance, What::Table, input)
     }
 
     fn text(&mut self, chance: &mut Chance) -> Vec<u8> {

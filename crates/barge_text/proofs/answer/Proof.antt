@@ -13,7 +13,7 @@ use Rattle.barge_text.proofs.answer.Tie as tie
 page-by-requires : tie.Need-page-by-requires
 page-by-requires c κs =
     let r = c .before .before in
-    made-inside _ (replicate longestSheet 0) (r .read-sheet .result) (r .read-sheet .last .1 .0) (r .read-sheet .kept .1 .0) (r .read-sheet .ensures)
+    made-inside _ (replicate longestSheet 0) (r .read-table .result) (r .read-table .last .1 .0) (r .read-table .kept .1 .0) (r .read-table .ensures)
 
 returns : tie.Need-returns
 returns c =
@@ -23,9 +23,9 @@ returns c =
     record {
       page = record {
         inside = p .page-by .ensures .inside;
-        text = p .page-by .ensures .text ∙ made-printed s (replicate longestSheet 0) (r .read-sheet .result) (r .read-sheet .last .1 .0) (r .read-sheet .ensures);
+        text = p .page-by .ensures .text ∙ made-printed s (replicate longestSheet 0) (r .read-table .result) (r .read-table .last .1 .0) (r .read-table .ensures);
       };
-      line = c .line-at-fault .ensures ∙ ap lineIn (r .read-sheet .ensures .answer);
+      line = c .line-at-fault .ensures ∙ ap lineIn (r .read-table .ensures .answer);
     }
 
 pub answer-spec : {M : Type 1} → statement M

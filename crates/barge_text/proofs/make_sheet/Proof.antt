@@ -10,7 +10,7 @@ use Rattle.barge_text.proofs.make_sheet.Tie as tie
 deliver-requires : tie.Need-deliver-requires
 deliver-requires c κs =
     let r = c .before .before in
-    made-inside _ (replicate longestSheet 0) (r .read-sheet .result) (r .read-sheet .last .1 .0) (r .read-sheet .kept .1 .0) (r .read-sheet .ensures)
+    made-inside _ (replicate longestSheet 0) (r .read-table .result) (r .read-table .last .1 .0) (r .read-table .kept .1 .0) (r .read-table .ensures)
 
 pub make-sheet-spec : {M : Type 1} → statement M
 make-sheet-spec =

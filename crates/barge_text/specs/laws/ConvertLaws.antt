@@ -17,7 +17,8 @@ use Rattle.report.specs.Text.{line, refusedWord, printed, textBy, textOf}
 use Rattle.report.specs.Pieces.{refusalText}
 use Rattle.csv.specs.declared.Converted.{Converted}
 use Rattle.csv.specs.declared.Converted.the-variants.{Length, Refused as notConverted}
-use Rattle.csv.specs.Read.{sheetFrom, toldConverted, lengthOf, outputBy, Converts}
+use Rattle.csv.specs.Read.{toldConverted, lengthOf, outputBy, Converts}
+use Rattle.csv.specs.Table.{tableFrom}
 use Rattle.csv.specs.Write.{textFrom}
 use Rattle.barge_text.specs.Convert.{MadeInside, printedText, printedBy}
 
@@ -48,9 +49,9 @@ by-answer (given b) o (notConverted x) after d = given-refused (sym (d .answer))
 by-answer (refused k p) o (Length n) after d = given-refused (d .answer)
 by-answer (refused k p) o (notConverted x) after d = refusal-text x k p (refused-number (d .answer)) (refused-place (d .answer))
 
-pub made-printed : (s o : List ℕ) (r : Converted) (after : List ℕ) → Converts (sheetFrom s longestSheet) o r after → printedBy r after ≡ printedText s
+pub made-printed : (s o : List ℕ) (r : Converted) (after : List ℕ) → Converts (tableFrom s longestSheet) o r after → printedBy r after ≡ printedText s
 unfolding printedText
-made-printed s o r after d = by-answer (sheetFrom s longestSheet) o r after d
+made-printed s o r after d = by-answer (tableFrom s longestSheet) o r after d
 
 -- ---- the sheet's length
 

@@ -12,7 +12,7 @@ returns c =
     let e = c .before in
     let h = e .before .before in
     let s = h .before .before .before in
-    head-refused (now (s .args .text)) (now (s .args .draft)) (s .pre) (h .header-at .result) (h .header-at .ensures) _ (e .ended .given .1)
+    head-refused (s .args .filled) (now (s .args .text)) (now (s .args .draft)) (s .pre) (h .header-at .result) (h .header-at .ensures) _ (e .ended .given .1)
 
 returns-2 : tie.Need-returns-2
 returns-2 c =
@@ -20,7 +20,7 @@ returns-2 c =
     let e = p .before .before in
     let h = e .before .before in
     let s = h .before .before .before in
-    head-alone (now (s .args .text)) (now (s .args .draft)) (s .pre) (h .header-at .result) (h .header-at .ensures) (e .enum-told .given .1) _ _ (p .put-row .ensures)
+    head-alone (s .args .filled) (now (s .args .text)) (now (s .args .draft)) (s .pre) (h .header-at .result) (h .header-at .ensures) (e .enum-told .given .1) _ _ (p .put-row .ensures)
 
 returns-3 : tie.Need-returns-3
 returns-3 c =
@@ -29,7 +29,7 @@ returns-3 c =
     let e = p .before .before .before in
     let h = e .before .before in
     let s = h .before .before .before in
-    head-and-records (now (s .args .text)) (now (s .args .draft)) (s .pre) (h .header-at .result) (h .header-at .ensures) _ (e .ended2 .given .1) _ _ (p .put-row2 .ensures) _ _ (q .put-records .ensures)
+    head-and-records (s .args .filled) (now (s .args .text)) (now (s .args .draft)) (s .pre) (h .header-at .result) (h .header-at .ensures) _ (e .ended2 .given .1) _ _ (p .put-row2 .ensures) _ _ (q .put-records .ensures)
 
 pub put-lines-spec : {M : Type 1} → statement M
 put-lines-spec =
@@ -38,15 +38,15 @@ put-lines-spec =
     (λ c κs. search needs)
     (λ c. search needs)
     (λ c. search needs)
-    (λ c κs. let e = c .before in let h = e .before .before in let s = h .before .before .before in (head-ends (now (s .args .text)) (now (s .args .draft)) (s .pre) (h .header-at .result) (h .header-at .ensures) (e .enum-told .given .1) .bytes .inside, omega arith))
+    (λ c κs. let e = c .before in let h = e .before .before in let s = h .before .before .before in (head-ends (s .args .filled) (now (s .args .text)) (now (s .args .draft)) (s .pre) (h .header-at .result) (h .header-at .ensures) (e .enum-told .given .1) .bytes .inside, omega arith))
     (λ c. search needs)
-    (λ c κs. let e = c .before .before in let h = e .before .before in let s = h .before .before .before in (head-on (now (s .args .text)) (now (s .args .draft)) (s .pre) (h .header-at .result) (h .header-at .ensures) _ (e .ended2 .given .1) .bytes .inside, omega arith))
+    (λ c κs. let e = c .before .before in let h = e .before .before in let s = h .before .before .before in (head-on (s .args .filled) (now (s .args .text)) (now (s .args .draft)) (s .pre) (h .header-at .result) (h .header-at .ensures) _ (e .ended2 .given .1) .bytes .inside, omega arith))
     (λ c κs.
     let p = c .before .before .before in
     let e = p .before .before .before in
     let h = e .before .before in
     let s = h .before .before .before in
-    head-room (now (s .args .text)) (now (s .args .draft)) (s .pre) (h .header-at .result) (h .header-at .ensures) _ (e .ended2 .given .1) _ _ (p .put-row2 .ensures))
+    head-room (s .args .filled) (now (s .args .text)) (now (s .args .draft)) (s .pre) (h .header-at .result) (h .header-at .ensures) _ (e .ended2 .given .1) _ _ (p .put-row2 .ensures))
     returns
     (λ c. search needs)
     returns-2

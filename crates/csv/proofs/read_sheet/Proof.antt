@@ -1,53 +1,29 @@
 -- `csv::read_sheet` meets its contract.
 -- Assumes nothing.
 use borrow.Author.Needs.{needs}
-use mathlib.Core.Path.{_≡_, refl, sym, ap, subst, _∙_}
-use mathlib.Core.List.{List, []}
+use mathlib.Core.Bool.{false}
+use mathlib.Core.List.{List}
+use Prim.Native.Nat.{ℕ}
 use denote.Ref.{now}
-use lib.ListN.{length, take}
-use lib.Seq.{length-take-le}
+use lib.ListN.{length}
 use Rattle.fields.specs.Lines.{linesAt}
-use Rattle.csv.specs.declared.Made.{Made}
-use Rattle.csv.specs.declared.Made.the-variants as Made
-use Rattle.csv.specs.Read.{sheetMade, sheetFrom}
-use Rattle.csv.specs.Steps.{Fills, soundIn}
-use Rattle.csv.proofs.Telling.{refuses, converts-same, lines-refused, lines-made}
+use Rattle.filling.specs.Filling.{linesLeft}
+use Rattle.csv.specs.declared.Converted.{Converted}
+use Rattle.csv.specs.Read.{sheetOf, sheetFrom, Converts}
 use Rattle.csv.proofs.read_sheet.Statement.{statement}
 use Rattle.csv.proofs.read_sheet.Tie as tie
 
--- what the lines filled, by how they were answered
-module _ (p : tie.After-put-lines) (m : Made) (e : p .put-lines .result ≡ m) where
-  filled : Fills (sheetMade (linesAt (now (p .before .before .before .before .args .text)) 0)) [] m (p .put-lines .last .1 .0)
-  filled = subst (λ (x : Made). Fills (sheetMade (linesAt (now (p .before .before .before .before .args .text)) 0)) [] x (p .put-lines .last .1 .0)) e (p .put-lines .ensures)
+as-it-is : (s : List ℕ) (room : ℕ) (o : List ℕ) (r : Converted) (after : List ℕ) → Converts (sheetOf (linesLeft false s 0) room) o r after → Converts (sheetFrom s room) o r after
+unfolding linesLeft linesAt sheetFrom
+as-it-is s room o r after h = h
 
-returns : tie.Need-returns
-returns c =
-    let e = c .before in
-    let p = e .before .before .before in
-    let a = p .before .before .before .before .args in
-    refuses (sheetFrom (now (a .text)) (length (now (a .out)))) (now (a .out)) _ (lines-refused (now (a .text)) (length (now (a .out))) (p .put-lines .last .1 .0) _ (filled p (Made.Refused _) (e .made .given .1)))
-
-returns-2 : tie.Need-returns-2
-returns-2 c =
-    let t = c .before .before in
-    let e = t .before .before .before .before in
-    let p = e .before .before .before in
-    let a = p .before .before .before .before .args in
-    converts-same _ (sheetFrom (now (a .text)) (length (now (a .out)))) (now (a .out)) _ _
-    (lines-made (now (a .text)) (length (now (a .out))) (p .put-lines .last .1 .0) _ (filled p (Made.Length _) (e .made2 .given .1)) .1)
-    (t .tell-sheet .ensures)
+read : tie.Need-returns
+read c =
+    let r = c .before .before in
+    let a = r .before .before .before .before .args in
+    let o = now (a .out) in
+    let h : Converts (sheetOf (linesLeft false (now (a .text)) 0) (length o)) o (r .read-lines .result) (r .read-lines .last .1 .1 .0) = r .read-lines .ensures in
+    as-it-is (now (a .text)) (length o) o _ _ h
 
 pub read-sheet-spec : {M : Type 1} → statement M
-read-sheet-spec =
-    tie.close
-    (tie.spec
-    (λ c. search needs)
-    (λ c κs. search needs)
-    (λ c. search needs)
-    (λ c. search needs)
-    (λ c. let e = c .before in let p = e .before .before .before in lines-made (now (p .before .before .before .before .args .text)) 0 (p .put-lines .last .1 .0) _ (filled p (Made.Length _) (e .made2 .given .1)) .0)
-    (λ c. let e = c .before .before in let p = e .before .before .before in sym (length-take-le _ _ (lines-made (now (p .before .before .before .before .args .text)) 0 (p .put-lines .last .1 .0) _ (filled p (Made.Length _) (e .made2 .given .1)) .0)))
-    (λ c κs. search needs)
-    returns
-    (λ c. search needs)
-    returns-2)
+read-sheet-spec = tie.close (tie.spec (λ c κs. search needs) (λ c. search needs) read)

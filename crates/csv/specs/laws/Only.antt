@@ -8,6 +8,7 @@ use Rattle.sheet.specs.laws.RefusalLaws.{refusal-only, given-refused, given-sam
 use Rattle.csv.specs.declared.Converted.{Converted}
 use Rattle.csv.specs.declared.Converted.the-variants.{Length, Refused as notConverted}
 use Rattle.csv.specs.Read.{toldConverted, sheetFrom, Converts}
+use Rattle.csv.specs.Table.{tableFrom}
 use Rattle.csv.specs.Write.{textFrom}
 
 converted-only : (a : Answer ℕ) (q r : Converted) → toldConverted q ≡ a → toldConverted r ≡ a → q ≡ r
@@ -21,6 +22,9 @@ converts-only a o q r x y e f = (converted-only _ q r (e .answer) (f .answer), e
 
 pub read-sheet-only : (s : List ℕ) (room : ℕ) (o : List ℕ) (q r : Converted) (x y : List ℕ) → Converts (sheetFrom s room) o q x → Converts (sheetFrom s room) o r y → (q ≡ r) × (x ≡ y)
 read-sheet-only s room o q r x y e f = converts-only (sheetFrom s room) o q r x y e f
+
+pub read-table-only : (s : List ℕ) (room : ℕ) (o : List ℕ) (q r : Converted) (x y : List ℕ) → Converts (tableFrom s room) o q x → Converts (tableFrom s room) o r y → (q ≡ r) × (x ≡ y)
+read-table-only s room o q r x y e f = converts-only (tableFrom s room) o q r x y e f
 
 pub write-text-only : (s : List ℕ) (room : ℕ) (o : List ℕ) (q r : Converted) (x y : List ℕ) → Converts (textFrom s room) o q x → Converts (textFrom s room) o r y → (q ≡ r) × (x ≡ y)
 write-text-only s room o q r x y e f = converts-only (textFrom s room) o q r x y e f

@@ -17,11 +17,13 @@ use Rattle.sheet.specs.Lines.{firstWidths, ownWidths}
 use Rattle.sheet.specs.Header.{ownBytes}
 use Rattle.sheet.specs.Refusals.{Answer, given, refused, told}
 use Rattle.sheet.specs.laws.RefusalLaws.{given-refused, given-same, refused-number, refused-place}
-use Rattle.fields.specs.Lines.{Lines, none, bad, row, linesAt}
+use Rattle.fields.specs.Lines.{Lines, none, bad, row}
 use Rattle.text.specs.declared.LineEnd.{LineEnd}
 use Rattle.text.specs.declared.LineEnd.the-variants as LineEnd
-use Rattle.text.specs.Line.{Numbers, lineAt}
-use Rattle.text.specs.laws.LinesLaws.{valueIn, RowAt, more, last, broken, row-at}
+use Rattle.text.specs.Line.{Numbers}
+use Rattle.text.specs.laws.LinesLaws.{valueIn}
+use Rattle.filling.specs.Filling.{lineLeft, linesLeft}
+use Rattle.filling.specs.laws.RowLaws.{RowLeft, more, last, broken, row-left}
 use Rattle.rows.specs.declared.Row.{Row}
 use Rattle.rows.specs.declared.RowEnd.{RowEnd}
 use Rattle.rows.specs.declared.RowEnd.the-variants as RowEnd
@@ -56,55 +58,55 @@ refused-in-front x a k p e = rw e
 -- ---- by the first line
 
 -- what the answer to the first line says of all of them: `whole` is what they make, and R what those behind the first do
-abbrev SaysEnd : (R : Lines → Answer (List ℕ)) (whole : Answer (List ℕ)) (s : List ℕ) (at : ℕ) (b : List ℕ) → LineEnd → Type 0
-SaysEnd R whole s at b (LineEnd.More n) = (at < n) × (n ≤ length s) × (whole ≡ (R (linesAt s n) then λ bs. given (b ++ bs)))
-SaysEnd R whole s at b LineEnd.Last = whole ≡ given b
-SaysEnd R whole s at b LineEnd.Fault = ⊥
+abbrev SaysEnd : (R : Lines → Answer (List ℕ)) (whole : Answer (List ℕ)) (filled : Bool) (s : List ℕ) (at : ℕ) (b : List ℕ) → LineEnd → Type 0
+SaysEnd R whole filled s at b (LineEnd.More n) = (at < n) × (n ≤ length s) × (whole ≡ (R (linesLeft filled s n) then λ bs. given (b ++ bs)))
+SaysEnd R whole filled s at b LineEnd.Last = whole ≡ given b
+SaysEnd R whole filled s at b LineEnd.Fault = ⊥
 
-abbrev pub Says : (R : Lines → Answer (List ℕ)) (whole : Answer (List ℕ)) (s : List ℕ) (at : ℕ) → Answer Made → Type 0
-Says R whole s at (refused k q) = whole ≡ refused k q
-Says R whole s at (given m) = SaysEnd R whole s at (m .bytes) (m .end)
+abbrev pub Says : (R : Lines → Answer (List ℕ)) (whole : Answer (List ℕ)) (filled : Bool) (s : List ℕ) (at : ℕ) → Answer Made → Type 0
+Says R whole filled s at (refused k q) = whole ≡ refused k q
+Says R whole filled s at (given m) = SaysEnd R whole filled s at (m .bytes) (m .end)
 
 module _ (p : ℕ) (f : ℕ → List ℕ → Answer (List ℕ)) (G R : Lines → Answer (List ℕ)) (g-bad : G bad ≡ refused 14 p)
     (g-row : (fs : List (List ℕ)) (ls : Lines) → G (row fs ls) ≡ (f (length fs) (map valueIn fs) then λ b. R ls then λ bs. given (b ++ bs))) (r-none : R none ≡ given []) where
   abbrev rowed : Numbers → Answer Made
   rowed l = rowBy p (l .end) (f (length (l .values)) (l .values))
 
-  by-row : (s : List ℕ) (at : ℕ) → Says R (G (linesAt s at)) s at (rowed (lineAt s at))
+  by-row : (filled : Bool) (s : List ℕ) (at : ℕ) → Says R (G (linesLeft filled s at)) filled s at (rowed (lineLeft filled s at))
   unfolding _then_
-  by-row s at = go (row-at s at)
+  by-row filled s at = go (row-left filled s at)
     where
       counted : (fs : List (List ℕ)) → f (length (map valueIn fs)) (map valueIn fs) ≡ f (length fs) (map valueIn fs)
       counted fs = ap (λ (n : ℕ). f n (map valueIn fs)) (length-map fs valueIn)
 
       -- with another line behind it
-      by-more : (x : Answer (List ℕ)) (n : ℕ) → at < n → n ≤ length s → (whole : Answer (List ℕ)) → whole ≡ (x then λ b. R (linesAt s n) then λ bs. given (b ++ bs))
-          → Says R whole s at (endedBy (LineEnd.More n) x)
+      by-more : (x : Answer (List ℕ)) (n : ℕ) → at < n → n ≤ length s → (whole : Answer (List ℕ)) → whole ≡ (x then λ b. R (linesLeft filled s n) then λ bs. given (b ++ bs))
+          → Says R whole filled s at (endedBy (LineEnd.More n) x)
       by-more (given b) n o l whole e = (o, l, e)
       by-more (refused k q) n o l whole e = e
 
       -- with none
-      by-last : (x : Answer (List ℕ)) (whole : Answer (List ℕ)) → whole ≡ (x then λ b. R none then λ bs. given (b ++ bs)) → Says R whole s at (endedBy LineEnd.Last x)
+      by-last : (x : Answer (List ℕ)) (whole : Answer (List ℕ)) → whole ≡ (x then λ b. R none then λ bs. given (b ++ bs)) → Says R whole filled s at (endedBy LineEnd.Last x)
       by-last (given b) whole e = e ∙ ap (λ (y : Answer (List ℕ)). y then λ bs. given (b ++ bs)) r-none ∙ ap given (append-nil b)
       by-last (refused k q) whole e = e
 
-      go : RowAt s at → Says R (G (linesAt s at)) s at (rowed (lineAt s at))
+      go : RowLeft filled s at → Says R (G (linesLeft filled s at)) filled s at (rowed (lineLeft filled s at))
       go (more fs n o l e g) =
-          subst (λ (t : Numbers). Says R (G (linesAt s at)) s at (rowed t)) (sym g)
-          (by-more (f (length (map valueIn fs)) (map valueIn fs)) n o l (G (linesAt s at)) (ap G e ∙ g-row fs (linesAt s n) ∙ ap (λ (x : Answer (List ℕ)). x then λ b. R (linesAt s n) then λ bs. given (b ++ bs)) (sym (counted fs))))
+          subst (λ (t : Numbers). Says R (G (linesLeft filled s at)) filled s at (rowed t)) (sym g)
+          (by-more (f (length (map valueIn fs)) (map valueIn fs)) n o l (G (linesLeft filled s at)) (ap G e ∙ g-row fs (linesLeft filled s n) ∙ ap (λ (x : Answer (List ℕ)). x then λ b. R (linesLeft filled s n) then λ bs. given (b ++ bs)) (sym (counted fs))))
       go (last fs e g) =
-          subst (λ (t : Numbers). Says R (G (linesAt s at)) s at (rowed t)) (sym g)
-          (by-last (f (length (map valueIn fs)) (map valueIn fs)) (G (linesAt s at)) (ap G e ∙ g-row fs none ∙ ap (λ (x : Answer (List ℕ)). x then λ b. R none then λ bs. given (b ++ bs)) (sym (counted fs))))
-      go (broken vs e g) = subst (λ (t : Numbers). Says R (G (linesAt s at)) s at (rowed t)) (sym g) (ap G e ∙ g-bad)
+          subst (λ (t : Numbers). Says R (G (linesLeft filled s at)) filled s at (rowed t)) (sym g)
+          (by-last (f (length (map valueIn fs)) (map valueIn fs)) (G (linesLeft filled s at)) (ap G e ∙ g-row fs none ∙ ap (λ (x : Answer (List ℕ)). x then λ b. R none then λ bs. given (b ++ bs)) (sym (counted fs))))
+      go (broken vs e g) = subst (λ (t : Numbers). Says R (G (linesLeft filled s at)) filled s at (rowed t)) (sym g) (ap G e ∙ g-bad)
 
 -- a record's line, and the header's
-pub records-by-row : (p : ℕ) (s : List ℕ) (at : ℕ) → Says (recordsMade (nextLine p)) (recordsMade p (linesAt s at)) s at (recordRow p (lineAt s at))
+pub records-by-row : (p : ℕ) (filled : Bool) (s : List ℕ) (at : ℕ) → Says (recordsMade (nextLine p)) (recordsMade p (linesLeft filled s at)) filled s at (recordRow p (lineLeft filled s at))
 unfolding recordRow recordsMade
-records-by-row p s at = by-row p (recordLine p) (recordsMade p) (recordsMade (nextLine p)) refl (λ fs ls. refl) refl s at
+records-by-row p filled s at = by-row p (recordLine p) (recordsMade p) (recordsMade (nextLine p)) refl (λ fs ls. refl) refl filled s at
 
-pub sheet-by-row : (s : List ℕ) → Says (recordsMade 2) (sheetMade (linesAt s 0)) s 0 (headerRow 1 (lineAt s 0))
+pub sheet-by-row : (filled : Bool) (s : List ℕ) → Says (recordsMade 2) (sheetMade (linesLeft filled s 0)) filled s 0 (headerRow 1 (lineLeft filled s 0))
 unfolding headerRow sheetMade recordsMade
-sheet-by-row s = by-row 1 (headerLine 1) sheetMade (recordsMade 2) refl (λ fs ls. refl) refl s 0
+sheet-by-row filled s = by-row 1 (headerLine 1) sheetMade (recordsMade 2) refl (λ fs ls. refl) refl filled s 0
 
 -- ---- what the code's row says
 
@@ -132,7 +134,7 @@ row-says r (given m) e =
 row-says r (refused k q) e = ap (λ (w : Shown). w .answer) e
 
 -- so what all lines make, by how the code's row ends
-module _ (R : Lines → Answer (List ℕ)) (whole : Answer (List ℕ)) (s : List ℕ) (at : ℕ) (r : Row) (a : Answer Made) (shows : toldRow r ≡ shown a) (says : Says R whole s at a) where
+module _ (R : Lines → Answer (List ℕ)) (whole : Answer (List ℕ)) (filled : Bool) (s : List ℕ) (at : ℕ) (r : Row) (a : Answer Made) (shows : toldRow r ≡ shown a) (says : Says R whole filled s at a) where
   -- the bytes of the line, and where the next one starts
   pub record Goes (n : ℕ) : Type 0 where
     pub made : List ℕ
@@ -140,15 +142,15 @@ module _ (R : Lines → Answer (List ℕ)) (whole : Answer (List ℕ)) (s : List
     pub line : a ≡ given (record { bytes = made; end = LineEnd.More n })
     pub on : at < n
     pub within : n ≤ length s
-    pub rest : whole ≡ (R (linesAt s n) then λ bs. given (made ++ bs))
+    pub rest : whole ≡ (R (linesLeft filled s n) then λ bs. given (made ++ bs))
 
   pub row-more : (n : ℕ) → r .end ≡ RowEnd.More n → Goes n
   row-more n e = go a refl says (row-says r a shows)
     where
-      go : (x : Answer Made) → a ≡ x → Says R whole s at x → RowSays r x → Goes n
+      go : (x : Answer Made) → a ≡ x → Says R whole filled s at x → RowSays r x → Goes n
       go (given m) f g h =
           let end : m .end ≡ LineEnd.More n = given-same (sym (h .0) ∙ ap toldEnd e) in
-          let t = subst (λ (z : LineEnd). SaysEnd R whole s at (m .bytes) z) end g in
+          let t = subst (λ (z : LineEnd). SaysEnd R whole filled s at (m .bytes) z) end g in
           record { made = m .bytes; bytes = h .1; line = f ∙ ap (λ (z : LineEnd). given (record { bytes = m .bytes; end = z })) end; on = t .0; within = t .1; rest = t .2 }
       go (refused k q) f g h = given-refused (sym (ap toldEnd e) ∙ h)
 
@@ -162,17 +164,17 @@ module _ (R : Lines → Answer (List ℕ)) (whole : Answer (List ℕ)) (s : List
   pub row-last : r .end ≡ RowEnd.Last → Stops
   row-last e = go a refl says (row-says r a shows)
     where
-      go : (x : Answer Made) → a ≡ x → Says R whole s at x → RowSays r x → Stops
+      go : (x : Answer Made) → a ≡ x → Says R whole filled s at x → RowSays r x → Stops
       go (given m) f g h =
           let end : m .end ≡ LineEnd.Last = given-same (sym (h .0) ∙ ap toldEnd e) in
-          record { made = m .bytes; bytes = h .1; line = f ∙ ap (λ (z : LineEnd). given (record { bytes = m .bytes; end = z })) end; rest = subst (λ (z : LineEnd). SaysEnd R whole s at (m .bytes) z) end g }
+          record { made = m .bytes; bytes = h .1; line = f ∙ ap (λ (z : LineEnd). given (record { bytes = m .bytes; end = z })) end; rest = subst (λ (z : LineEnd). SaysEnd R whole filled s at (m .bytes) z) end g }
       go (refused k q) f g h = given-refused (sym (ap toldEnd e) ∙ h)
 
   -- a line that is turned away
   pub row-refused : (x : Refusal) → r .end ≡ RowEnd.Refused x → whole ≡ told x
   row-refused x e = go a says (row-says r a shows)
     where
-      go : (y : Answer Made) → Says R whole s at y → RowSays r y → whole ≡ told x
+      go : (y : Answer Made) → Says R whole filled s at y → RowSays r y → whole ≡ told x
       go (given m) g h = given-refused (sym (h .0) ∙ ap toldEnd e)
       go (refused k q) g h = let t = sym h ∙ ap toldEnd e in g ∙ ap₂ refused (refused-number t) (refused-place t)
 

@@ -24,7 +24,7 @@ use Rattle.csv_laws.specs.Form.{fieldsText, formOf, writtenForm}
 use Rattle.csv_laws.specs.Variants.{Line, doubled as twice, cellsText, spelling, Variant}
 
 -- all that reading a text computes with, under one name for an `unfolding` line
-converting : Type 0
+unfoldable pub converting : Type 0
 unfolding sheetFrom sheetMade recordsMade linesAt linesOf marksAt outside digitsOf digitOf longerOf headerLine recordLine below soundSheet reading rawFault plateFault memberFault
 converting = Unit {0}
 

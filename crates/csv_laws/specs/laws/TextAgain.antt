@@ -132,7 +132,7 @@ lined fs ls s e =
     let y = then-given (recordsMade 2 ls) _ s (x .2) in
     record { first = x .0; rest = y .0; line-is = x .1; rest-is = y .1; bytes-are = given-same (y .2) }
 
-sheet-made-bytes : (ls : Lines) (s : List ℕ) → sheetMade ls ≡ given s → Bytes s
+pub sheet-made-bytes : (ls : Lines) (s : List ℕ) → sheetMade ls ≡ given s → Bytes s
 unfolding sheetMade
 sheet-made-bytes none s e = given-refused (sym e)
 sheet-made-bytes bad s e = given-refused (sym e)

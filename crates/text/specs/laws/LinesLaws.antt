@@ -26,12 +26,12 @@ pub data RowAt (s : List ℕ) (at : ℕ) : Type 0 where
   broken : (vs : List ℕ) → linesAt s at ≡ bad → lineAt s at ≡ record { values = vs; end = Fault } → RowAt s at
 
 -- the bytes of a field in front of an empty one
-lines-prefix : (bs : List ℕ) (m : Marks) (fs : List (List ℕ)) (ls : Lines) → linesOf m ≡ row ([] ∷ fs) ls → linesOf (prefix bs m) ≡ row (bs ∷ fs) ls
+pub lines-prefix : (bs : List ℕ) (m : Marks) (fs : List (List ℕ)) (ls : Lines) → linesOf m ≡ row ([] ∷ fs) ls → linesOf (prefix bs m) ≡ row (bs ∷ fs) ls
 unfolding linesOf
 lines-prefix [] m fs ls e = e
 lines-prefix (b ∷ bs) m fs ls e = ap (ontoLine b) (lines-prefix bs m fs ls e)
 
-bad-prefix : (bs : List ℕ) (m : Marks) → linesOf m ≡ bad → linesOf (prefix bs m) ≡ bad
+pub bad-prefix : (bs : List ℕ) (m : Marks) → linesOf m ≡ bad → linesOf (prefix bs m) ≡ bad
 unfolding linesOf
 bad-prefix [] m e = e
 bad-prefix (b ∷ bs) m e = ap (ontoLine b) (bad-prefix bs m e)
