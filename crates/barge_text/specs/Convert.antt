@@ -1,4 +1,4 @@
--- What is known of the input and of what is made of it, and what is printed of a text.
+-- What is known of what is made of an input, and what is printed of a text.
 use Prim.Native.Nat.{ℕ, _≤_}
 use mathlib.Core.Path.{_≡_}
 use mathlib.Core.Bool.{cond}
@@ -15,14 +15,7 @@ use Rattle.csv.specs.declared.Converted.{Converted}
 use Rattle.csv.specs.declared.Converted.the-variants.{Length, Refused as notConverted}
 use Rattle.csv.specs.Read.{lengthOf}
 use Rattle.csv.specs.Table.{tableFrom}
-use Rattle.barge_text.specs.declared.Read.{Read}
-use Rattle.barge_text.specs.declared.Read.the-variants.{Got, Failed}
 use Rattle.barge_text.specs.declared.Reply.{Reply}
-
--- the first bytes of the input were read, no more than the space has
-abbrev pub Loaded : Read → List ℕ → Type 0
-Loaded (Got n) space = n ≤ length space
-Loaded Failed space = Unit {0}
 
 -- what was made is in an output of so many bytes
 abbrev pub MadeInside : Converted → (size : ℕ) → Type 0

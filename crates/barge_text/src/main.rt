@@ -1,11 +1,11 @@
 // The drawing office's converter. Its word says what standard input is turned into: `sheet` a text into the sheet that it is, `csv` a sheet into its text,
 // `check` a text into what `barge` prints of that sheet. A refusal of the first two goes to standard error, with nothing on standard output, and of a text
 // that is turned away by a line the line goes there too. So does whatever else is wrong.
-mod say;
 mod show;
 
+use console::Read;
 use csv::Converted;
-use libc::STDIN_FILENO;
+use libc::STDERR_FILENO;
 use libc::STDOUT_FILENO;
 use report::Page;
 use report::Told;
@@ -19,7 +19,7 @@ ghost use Rattle.sheet.specs.Versions.{enough};
 ghost use Rattle.report.specs.Pieces.{refusalText};
 ghost use Rattle.csv.specs.Read.{toldConverted, Converts};
 ghost use Rattle.csv.specs.Write.{textFrom};
-ghost use Rattle.barge_text.specs.Convert.{Loaded, MadeInside, lineIn, printedBy, Shows, Replies};
+ghost use Rattle.barge_text.specs.Convert.{MadeInside, lineIn, printedBy, Shows, Replies};
 
 // Where the word stands.
 const COMMAND: usize = 1;
@@ -36,39 +36,15 @@ enum Task {
     None,
 }
 
-// How many bytes were read, or that it could not be done.
-enum Read {
-    Got(usize),
-    Failed,
-}
-
 // What is printed of a text, and the line that it is turned away by, 0 where there is none.
 struct Reply {
     page: Page,
     line: u32,
 }
 
-// Whether nothing comes any more: a read that fails looks like the end to `read_full`.
-fn ended() -> bool {
-    let mut one = [0u8; 1];
-    libc::read(STDIN_FILENO, &mut one) == 0
-}
-
-// As much of standard input as the space holds.
-fn load(space: &mut [u8]) -> Read
-    ensures { λ r. ⌜ Loaded r (now (space .exit)) ⌝ }
-{
-    let got = io::read_full(STDIN_FILENO, space);
-    if got < space.len() && !ended() {
-        say::failed(b"cannot read ", b"standard input");
-        return Read::Failed;
-    }
-    Read::Got(got)
-}
-
 fn print(bytes: &[u8]) {
     if !io::write_all(STDOUT_FILENO, bytes) {
-        say::failed(b"cannot write ", b"standard output");
+        console::failed(b"cannot write ", b"standard output");
     }
 }
 
@@ -142,7 +118,7 @@ fn deliver(c: Converted, made: &[u8])
 {
     match c {
         Converted::Length(n) => print(&made[..n]),
-        Converted::Refused(r) => say::refusal(r),
+        Converted::Refused(r) => report::print_refusal(STDERR_FILENO, r),
     }
 }
 
@@ -178,9 +154,16 @@ fn take(text: &[u8], checks: bool) {
     }
 }
 
+fn too_long() {
+    console::begin();
+    io::write_all(STDERR_FILENO, b"the text has more than ");
+    io::print_decimal(STDERR_FILENO, LONGEST as u64);
+    io::write_all(STDERR_FILENO, b" bytes, and no sheet's text has so many\n");
+}
+
 fn from_text(text: &[u8], checks: bool) {
     if LONGEST < text.len() {
-        say::too_long(LONGEST as u64);
+        too_long();
     } else {
         take(text, checks);
     }
@@ -188,7 +171,7 @@ fn from_text(text: &[u8], checks: bool) {
 
 fn take_text(checks: bool) {
     let mut space = [0u8; TEXT_READ];
-    let read = load(&mut space);
+    let read = console::load(&mut space);
     match read {
         Read::Failed => {}
         Read::Got(got) => from_text(&space[..got], checks),
@@ -197,7 +180,7 @@ fn take_text(checks: bool) {
 
 fn take_sheet() {
     let mut space = [0u8; sheet::ENOUGH];
-    let read = load(&mut space);
+    let read = console::load(&mut space);
     match read {
         Read::Failed => {}
         Read::Got(got) => make_text(&space, got),
@@ -226,6 +209,6 @@ fn main() {
         Task::Sheet => take_text(false),
         Task::Csv => take_sheet(),
         Task::Check => take_text(true),
-        Task::None => say::text(b"the command is sheet, csv or check"),
+        Task::None => console::say(b"the command is sheet, csv or check"),
     }
 }

@@ -3,8 +3,8 @@
 use borrow.Author.Needs.{needs}
 use mathlib.Core.Path.{subst}
 use native.Mathlib.Omega.{arith}
-use Rattle.barge_text.specs.declared.Read.{Read}
-use Rattle.barge_text.specs.Convert.{Loaded}
+use Rattle.console.specs.declared.Read.{Read}
+use Rattle.console.specs.Console.{Loaded}
 use Rattle.barge_text.proofs.take_sheet.Statement.{statement}
 use Rattle.barge_text.proofs.take_sheet.Tie as tie
 

@@ -5,8 +5,8 @@ use Prim.Native.Nat.{_≤_}
 use mathlib.Core.Path.{sym, subst}
 use lib.ListN.{length}
 use lib.Seq.{length-take-le}
-use Rattle.barge_text.specs.declared.Read.{Read}
-use Rattle.barge_text.specs.Convert.{Loaded}
+use Rattle.console.specs.declared.Read.{Read}
+use Rattle.console.specs.Console.{Loaded}
 use Rattle.barge_text.proofs.take_text.Statement.{statement}
 use Rattle.barge_text.proofs.take_text.Tie as tie
 
