@@ -475,7 +475,11 @@ verdict: fails rule 3, no number of the gauge meets it";
 fn panels() {
     let K2 = |b1, b2, line| {
         let lines = format!("  b1 {b1} cm, b2 {b2} cm\n  K2 = 1000(b1² + b2²)/b1² = {line}");
-        has(&vessel_v(), &with(&plate(1), &[("b1", b1), ("b2", b2)]), &lines);
+        has(
+            &vessel_v(),
+            &with(&plate(1), &[("b1", b1), ("b2", b2)]),
+            &lines,
+        );
     };
     K2(10, 60, "37000, remainder 0; at most 26000");
     K2(10, 50, "26000, remainder 0; rounded down: 26000");
@@ -514,7 +518,9 @@ fn no_stress_left() {
     for (kind, limit) in [(5, 214), (8, 197)] {
         let at = |sigma1| of(&vessel_v(), &with(&member(kind), &[("sigma1", sigma1)]));
         let line = |sigma1| {
-            format!("  tested: σ1 {sigma1} is not below {limit}, so no W meets the rule\n  no number ")
+            format!(
+                "  tested: σ1 {sigma1} is not below {limit}, so no W meets the rule\n  no number "
+            )
         };
         assert!(!at(limit - 1).contains("is not below"));
         assert!(at(limit).contains(&line(limit)) && at(255).contains(&line(255)));

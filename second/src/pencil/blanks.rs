@@ -32,7 +32,9 @@ pub type Line<'a> = (&'a str, &'a [i128]);
 
 pub fn written(lines: &[Line]) -> String {
     let lines = lines.iter();
-    lines.map(|(line, numbers)| filled(line, 0, numbers)).collect()
+    lines
+        .map(|(line, numbers)| filled(line, 0, numbers))
+        .collect()
 }
 
 /// Whether a text, without its end, is the line with some numbers in its blanks.

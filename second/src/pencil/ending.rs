@@ -33,7 +33,10 @@ fn last_step(demand: &Demand, right: &Right, least: Option<i128>) -> String {
         (Some(_), Right::Square(square)) => short(square, first),
         (None, Right::Square(square)) => {
             let [tested, _] = w::SHORT[place(square)];
-            written(&[(tested, &sides(square, first)), (w::NO_MORE, &[demand.gauge])])
+            written(&[
+                (tested, &sides(square, first)),
+                (w::NO_MORE, &[demand.gauge]),
+            ])
         }
         _ => String::new(),
     }

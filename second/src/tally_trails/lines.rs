@@ -112,7 +112,11 @@ fn working(rule: i128) -> Vec<&'static str> {
             let lines = [&p::T1.concat()[..], &[p::LENGTH_STEEL_SPACING]].concat();
             [&once(lines)[..], &[steps::X_ROOT, steps::T_ROUNDED]].concat()
         }
-        2 => [&p::T2.concat()[..], &[p::SPACING_STEEL_PRESSURE, steps::T_ROOT]].concat(),
+        2 => [
+            &p::T2.concat()[..],
+            &[p::SPACING_STEEL_PRESSURE, steps::T_ROOT],
+        ]
+        .concat(),
         3 => stress(),
         4 => {
             let lines = m::WEB.concat();
