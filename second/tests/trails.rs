@@ -54,7 +54,7 @@ rule 1: Ch 4 Table 2.6.1, t1 = 1.1 + 0.03·L·√k + 3.6·s
   rounded up: T 530
   tested: T 530, X 24000: X² = 576000000 ≥ 576000000, met
   one less: T 529, X 23900: X² = 571210000 < 576000000, not met
-  least 530 (5.30 mm), has 600 (6.00 mm): met, margin 70 (0.70 mm)
+  least 530 (5.30 mm), has 600 (6.00 mm): met, margin 70
 rule 2: Ch 4 Table 2.6.1, t2 = 1.2·s·√(k·p)
   625000000000T² ≥ 9S²KP
   S 500 mm, K 1000, P 27526860 mPa
@@ -62,7 +62,7 @@ rule 2: Ch 4 Table 2.6.1, t2 = 1.2·s·√(k·p)
   rounded up: T² ≥ 99097; root, rounded down: 314
   tested: T 314: T² = 98596 < 99097, not met
   one more: T 315: T² = 99225 ≥ 99097, met
-  least 315 (3.15 mm), has 600 (6.00 mm): met, margin 285 (2.85 mm)
+  least 315 (3.15 mm), has 600 (6.00 mm): met, margin 285
 rule 3: Ch 4 Table 2.6.1, t3 = 39·s·√(MH/ZB);
   where t3/s > 12.5/√k: t3 = 4.1·√k·s/√(0.21 − MH/ZB)
   M 20000 kNm, ZB 200000 cm³
@@ -73,7 +73,7 @@ rule 3: Ch 4 Table 2.6.1, t3 = 39·s·√(MH/ZB);
   rounded up: T² ≥ 380250; root, rounded down: 616
   tested: T 616: T² = 379456 < 380250, not met
   one more: T 617: T² = 380689 ≥ 380250, met
-  least 617 (6.17 mm), has 600 (6.00 mm): fails, short by 17 (0.17 mm)
+  least 617 (6.17 mm), has 600 (6.00 mm): fails, short by 17
 verdict: fails rule 3, required 617 (6.17 mm)
 ";
 
@@ -160,7 +160,7 @@ fn case_5_by_its_numbers() {
   rounded up: T² ≥ 1068787; root, rounded down: 1033
   tested: T 1033: T² = 1067089 < 1068787, not met
   one more: T 1034: T² = 1069156 ≥ 1068787, met
-  least 1034 (10.34 mm), has 1034 (10.34 mm): met, margin 0 (0.00 mm)
+  least 1034 (10.34 mm), has 1034 (10.34 mm): met, margin 0
 verdict: passes";
     has(&vessel_v(), &with(&plate(1), &[("T", 1034)]), lines);
 }
@@ -213,7 +213,7 @@ rule 5: Ch 4 Table 2.8.1, w = 83.3/(214 − σ1)·βb·η·pE·s·l²
   10¹¹W(214 − σ1) ≥ 833βbηql²; βb 100, η 90, l 300 cm, σ1 50
   W ≥ 833βbηql²/(10¹¹(214 − σ1)) = 566, remainder 4583720000000
   rounded up: W ≥ 567
-  least 567 (56.7 cm³), has 1 (0.1 cm³): fails, short by 566 (56.6 cm³)
+  least 567 (56.7 cm³), has 1 (0.1 cm³): fails, short by 566
 rule 6: Ch 4 Table 2.8.1, Ash = 0.045·βs·η·pE·s·l
   2·10⁹A ≥ 9βsηql; βs 100, η 90, q 13764 N/m, l 300 cm
   A ≥ 9βsηql/(2·10⁹) = 167, remainder 465200000
@@ -242,7 +242,7 @@ rule 4: Ch 4 Sec 2 [2.7.1], t = 3.8 + 0.016·L·√k
   rounded up: T 508
   tested: T 508, X 12800: X² = 163840000 ≥ 163840000, met
   one less: T 507, X 12700: X² = 161290000 < 163840000, not met
-  least 508 (5.08 mm), has 508 (5.08 mm): met, margin 0 (0.00 mm)
+  least 508 (5.08 mm), has 508 (5.08 mm): met, margin 0
 rule 5: Ch 4 Table 2.8.1, w = 0.58·βb·pγE·s·l²
   P 27526860 mPa, S 500 mm
   q = PS/1000000 = 13763, remainder 430000; rounded up: 13764 N/m
@@ -271,7 +271,7 @@ rule 4: Ch 4 Sec 2 [2.7.1], t = 1.63 + 0.004·L·√k + 4.5·s, L < 120 m
   rounded up: T 481
   tested: T 481, X 4800: X² = 23040000 ≥ 23036161, met
   one less: T 480, X 4700: X² = 22090000 < 23036161, not met
-  least 481 (4.81 mm), has 481 (4.81 mm): met, margin 0 (0.00 mm)";
+  least 481 (4.81 mm), has 481 (4.81 mm): met, margin 0";
     has(&short, &wide, lines);
     let long = with(&vessel_v(), &[("L", 12_000)]);
     let lines = "\
@@ -283,7 +283,7 @@ rule 4: Ch 4 Sec 2 [2.7.1], t = 3.9·√k + s, L ≥ 120 m
   rounded up: T 450
   tested: T 450, X 3900: X² = 15210000 ≥ 15210000, met
   one less: T 449, X 3890: X² = 15132100 < 15210000, not met
-  least 450 (4.50 mm), has 481 (4.81 mm): met, margin 31 (0.31 mm)";
+  least 450 (4.50 mm), has 481 (4.81 mm): met, margin 31";
     has(&long, &wide, lines);
 }
 
@@ -393,13 +393,13 @@ fn without_load_the_gauge_begins_there() {
   T² ≥ S²KP/39062500000 = 0, remainder 0
   rounded up: T² ≥ 0; root, rounded down: 0
   T 1 meets the rule, and the gauge begins there
-  least 1 (0.01 mm), has 1 (0.01 mm): met, margin 0 (0.00 mm)";
+  least 1 (0.01 mm), has 1 (0.01 mm): met, margin 0";
     has(&v, &plate(3), lines);
     let still = with(&vessel_v(), &[("H", 0)]);
     let lines = "  W ≥ 833βbηql²/(10¹¹(214 − σ1)) = 0, remainder 0
   rounded up: W ≥ 0
   W 1 meets the rule, and the gauge begins there
-  least 1 (0.1 cm³), has 1 (0.1 cm³): met, margin 0 (0.0 cm³)";
+  least 1 (0.1 cm³), has 1 (0.1 cm³): met, margin 0";
     has(&still, &with(&member(5), &[("z", 250)]), lines);
 }
 
@@ -501,14 +501,14 @@ fn the_first_form_past_the_gauge() {
   one more: T 4000: T² = 16000000 ≥ 15999947, met";
     has(&v(262_984), &wide, lines);
     let lines = "  100000000T² ≥ 1521S²R; S 2000 mm, R 262985
-  at T 4000, the gauge's last, R ≤ 100000000T²/(1521S²) = 262984, remainder 5344000000
+  at T 4000, the last: R ≤ 100000000T²/(1521S²) = 262984, remainder 5344000000
   tested: R 262985 is above it, so no T of the gauge meets the rule
   no number of the gauge meets it, has 1 (0.01 mm): fails";
     has(&v(262_985), &wide, lines);
     let square = with(&plate(3), &[("S", 2000), ("b1", 1000), ("b2", 10)]);
     let lines = "  T² ≥ 1156S²R/(25K2²) = 15999964, remainder 20000000";
     has(&v(86_505), &square, lines);
-    let lines = "  at T 4000, the gauge's last, R ≤ 25T²K2²/(1156S²) = 86505, remainder 880000000
+    let lines = "  at T 4000, the last: R ≤ 25T²K2²/(1156S²) = 86505, remainder 880000000
   tested: R 86506 is above it, so no T of the gauge meets the rule";
     has(&v(86_506), &square, lines);
 }

@@ -95,12 +95,12 @@ pub const FIRST_FORM: [[&str; 3]; 2] = [
     [
         "  25T²K2² ≥ 1156S²R; S # mm, K2 #, R #",
         "  T² ≥ 1156S²R/(25K2²) = #, remainder #",
-        "  at T 4000, the gauge's last, R ≤ 25T²K2²/(1156S²) = #, remainder #",
+        "  at T 4000, the last: R ≤ 25T²K2²/(1156S²) = #, remainder #",
     ],
     [
         "  100000000T² ≥ 1521S²R; S # mm, R #",
         "  T² ≥ 1521S²R/100000000 = #, remainder #",
-        "  at T 4000, the gauge's last, R ≤ 100000000T²/(1521S²) = #, remainder #",
+        "  at T 4000, the last: R ≤ 100000000T²/(1521S²) = #, remainder #",
     ],
 ];
 pub const R_PAST_THE_GAUGE: &str = "  tested: R # is above it, so no T of the gauge meets the rule";

@@ -42,8 +42,8 @@ pub const PAST: [&str; 3] = [
     "  A # is past the gauge's last, #",
 ];
 
-pub const RESULT_MET: &str = "  least @, has @: met, margin @";
-pub const RESULT_SHORT: &str = "  least @, has @: fails, short by @";
+pub const RESULT_MET: &str = "  least @, has @: met, margin #";
+pub const RESULT_SHORT: &str = "  least @, has @: fails, short by #";
 pub const RESULT_NONE: &str = "  no number of the gauge meets it, has @: fails";
 
 pub const VERDICT_PASSES: &str = "verdict: passes";
