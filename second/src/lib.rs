@@ -23,6 +23,7 @@ pub mod loads;
 pub mod make;
 pub mod pencil;
 pub mod print;
+pub mod quotient;
 pub mod refusal;
 pub mod rest;
 pub mod rows;

@@ -1,6 +1,7 @@
 //! Pressures (mPa) with what each comes from, line load q (N/m), and the two
 //! quantities R and K2 that rule 3 is written with.
 
+use crate::quotient::Quotient;
 use crate::sheet::{Header, Member, Plate, Record};
 use std::cmp::Reverse;
 
@@ -24,39 +25,78 @@ impl Pressure {
     }
 }
 
-/// Quotient rounded up, for a numerator of 0 or more.
-pub fn rounded_up(numerator: i128, denominator: i128) -> i128 {
-    (numerator + denominator - 1) / denominator
+/// Water so many cm high.
+pub fn water(height: i128) -> i128 {
+    98_100 * height
+}
+
+/// What waves add at or below the draught.
+pub fn waves(header: &Header) -> i128 {
+    50_031 * header.H
+}
+
+/// What they come to above it, and the least that is taken for that.
+pub fn crest(header: &Header) -> i128 {
+    50_150 * header.H
+}
+pub const LEAST_CREST: i128 = 3_000_000;
+
+/// pWD, the wind.
+pub fn wind(header: &Header) -> i128 {
+    if blows(header) {
+        3400 * header.H
+    } else {
+        250_000
+    }
+}
+
+/// Whether the wind goes by the waves.
+pub fn blows(header: &Header) -> bool {
+    header.H == 120
 }
 
 /// Sea pressure at height z above the base line.
 pub fn sea(header: &Header, z: i128) -> Pressure {
-    let Header { D0, H, .. } = *header;
+    let D0 = header.D0;
     if z <= D0 {
-        Pressure::new(98_100 * (D0 - z) + 50_031 * H, SEA)
+        Pressure::new(water(D0 - z) + waves(header), SEA)
     } else {
-        let wind = if H == 120 { 3400 * H } else { 250_000 };
-        Pressure::new((50_150 * H).max(3_000_000) + wind, SEA_ABOVE)
+        let crest = crest(header).max(LEAST_CREST);
+        Pressure::new(crest + wind(header), SEA_ABOVE)
     }
+}
+
+/// pB: the water in a tank up to its top, and a metre more.
+pub fn ballast(plate: &Plate) -> i128 {
+    water(plate.zL - plate.z + 100)
+}
+
+/// The least sea outside a tank, in still water.
+pub fn least_sea(header: &Header) -> i128 {
+    14_715 * header.D0
 }
 
 /// Relief pM: what the water outside takes off the ballast inside. Never negative.
 pub fn relief(header: &Header) -> i128 {
-    (14_715 * header.D0 - 50_031 * header.H).max(0)
+    (least_sea(header) - waves(header)).max(0)
+}
+
+pub fn cargo(plate: &Plate) -> i128 {
+    1000 * plate.cargo
 }
 
 /// Every load that a plate carries, one or two of them.
 pub fn plate_loads(header: &Header, plate: &Plate) -> Vec<Pressure> {
-    let pB = 98_100 * (plate.zL - plate.z + 100);
+    let pB = ballast(plate);
     let bottom = plate.kind == 1 || plate.kind == 2;
     let sea = sea(header, plate.z);
-    let cargo = Pressure::new(1000 * plate.cargo, CARGO);
-    let ballast = |P| Pressure::new(P, BALLAST);
+    let cargo = Pressure::new(cargo(plate), CARGO);
+    let of_ballast = |P| Pressure::new(P, BALLAST);
     match (bottom, plate.ballast) {
         (true, false) => vec![sea],
-        (true, true) => vec![sea, ballast(pB - relief(header))],
+        (true, true) => vec![sea, of_ballast(pB - relief(header))],
         (false, false) => vec![cargo],
-        (false, true) => vec![cargo, ballast(pB)],
+        (false, true) => vec![cargo, of_ballast(pB)],
     }
 }
 
@@ -67,18 +107,23 @@ pub fn plate_pressure(header: &Header, plate: &Plate) -> Pressure {
     greatest.expect("a plate carries a load")
 }
 
+/// 56407.5 D0: the water over a floor in two runs, before the half is rounded up.
+pub fn water_in_two_runs(header: &Header) -> Quotient {
+    Quotient::of(564_075 * header.D0, 10)
+}
+
 /// Floors, transverses and girders have no height: the sea presses on them as below
 /// the draught.
 pub fn member_pressure(header: &Header, member: &Member) -> Pressure {
-    let Header { D0, H, .. } = *header;
     if member.kind == 5 {
-        sea(header, member.z)
-    } else if header.two_runs {
-        // 56407.5 D0, the half rounded up.
-        Pressure::new(rounded_up(564_075 * D0, 10) + 50_031 * H, SEA)
-    } else {
-        Pressure::new(98_100 * D0 + 50_031 * H, SEA)
+        return sea(header, member.z);
     }
+    let water = if header.two_runs {
+        water_in_two_runs(header).up()
+    } else {
+        water(header.D0)
+    };
+    Pressure::new(water + waves(header), SEA)
 }
 
 /// The pressure that a record answers to, whatever its kind.
@@ -89,19 +134,33 @@ pub fn pressure(header: &Header, record: &Record) -> Pressure {
     }
 }
 
+/// q before it is rounded up, and q.
+pub fn line_load_exactly(P: i128, S: i128) -> Quotient {
+    Quotient::of(P * S, 1_000_000)
+}
+
 pub fn line_load(P: i128, S: i128) -> i128 {
-    rounded_up(P * S, 1_000_000)
+    line_load_exactly(P, S).up()
 }
 
-/// R, from the hull girder moment and the modulus where a plate of this kind lies:
-/// the bottom's, or for kinds 3 and 4 the inner bottom's.
-pub fn hull_stress(header: &Header, kind: i128) -> i128 {
+/// R before it is rounded up, and R, from the hull girder moment and the modulus where a
+/// plate of this kind lies: the bottom's, or for kinds 3 and 4 the inner bottom's.
+pub fn hull_stress_exactly(header: &Header, kind: i128) -> Quotient {
     let modulus = if kind <= 2 { header.ZB } else { header.ZDB() };
-    rounded_up(1_000_000 * header.M, modulus)
+    Quotient::of(1_000_000 * header.M, modulus)
 }
 
-/// K2, for transversely framed plates: only they carry b1 and b2.
-pub fn panel_factor(plate: &Plate) -> i128 {
+pub fn hull_stress(header: &Header, kind: i128) -> i128 {
+    hull_stress_exactly(header, kind).up()
+}
+
+/// K2 before it is rounded down and capped, and K2, for transversely framed plates: only
+/// they carry b1 and b2.
+pub fn panel_factor_exactly(plate: &Plate) -> Quotient {
     let Plate { b1, b2, .. } = *plate;
-    (1000 * (b1 * b1 + b2 * b2) / (b1 * b1)).min(26_000)
+    Quotient::of(1000 * (b1 * b1 + b2 * b2), b1 * b1)
+}
+
+pub fn panel_factor(plate: &Plate) -> i128 {
+    panel_factor_exactly(plate).whole.min(26_000)
 }

@@ -9,6 +9,7 @@ mod load;
 mod members;
 mod plates;
 mod root;
+mod stress;
 pub mod words;
 mod working;
 
@@ -16,6 +17,7 @@ use crate::check::read_all;
 use crate::rules::demands;
 use crate::sheet::{Header, Record};
 use blanks::filled;
+use words::head::{HEADINGS, LETTERS};
 use working::Working;
 
 fn heading(record: &Record) -> String {
@@ -23,7 +25,7 @@ fn heading(record: &Record) -> String {
         Record::Plate(plate) => plate.kind,
         Record::Member(member) => member.kind,
     };
-    filled(words::HEADINGS[kind as usize - 1], 0, &[record.id()])
+    filled(HEADINGS[kind as usize - 1], 0, &[record.id()])
 }
 
 /// The three rules that a record answers to, in order.
@@ -36,23 +38,24 @@ fn workings(header: &Header, record: &Record) -> [Working; 3] {
 
 /// The scantling that each rule's working comes to, before the test.
 pub fn worked_out(header: &Header, record: &Record) -> [Option<i128>; 3] {
-    workings(header, record).map(|working| working.comes_to)
+    workings(header, record).map(|working| working.right.first())
 }
 
 /// The trail of one member of this hull.
 pub fn trail(header: &Header, record: &Record) -> String {
     let demands = demands(header, record);
     let least = [0, 1, 2].map(|index| demands[index].least());
-    let mut text = heading(record) + &load::load(header, record);
+    let mut text = heading(record) + &load::loads(header, record);
     for (index, working) in workings(header, record).into_iter().enumerate() {
         text += &working.text;
-        text += &ending::ending(&demands[index], working.comes_to, least[index]);
+        text += &ending::ending(&demands[index], &working.right, least[index]);
     }
     text + &ending::verdict(&demands, &least)
 }
 
-/// The trails of all members of a sheet, an empty line between two of them, or that of the
-/// one with this id, if it is there; of a sheet that is turned away the refusal.
+/// The letters, then the trails of all members of a sheet, an empty line before each of
+/// them, or that of the one with this id; nothing where there is none; of a sheet that is
+/// turned away the refusal.
 pub fn explained(sheet: &[u8], id: Option<i128>) -> String {
     let (header, records) = match read_all(sheet, usize::MAX) {
         Ok(whole) => whole,
@@ -61,5 +64,8 @@ pub fn explained(sheet: &[u8], id: Option<i128>) -> String {
     let asked = records.iter();
     let asked = asked.filter(|record| id.is_none_or(|id| record.id() == id));
     let trails: Vec<String> = asked.map(|record| trail(&header, record)).collect();
-    trails.join("\n")
+    if trails.is_empty() {
+        return String::new();
+    }
+    format!("{LETTERS}\n{}", trails.join("\n"))
 }

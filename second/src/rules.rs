@@ -29,13 +29,19 @@ fn rule_2(kind: i128, K: i128, S: i128, P: i128, T: i128) -> bool {
     }
 }
 
-/// Whether rule 3 has its second form, which only the bottom has.
-pub fn has_second_form(kind: i128, K: i128, R: i128) -> bool {
+/// What the bottom's form of rule 3 goes by, and what it must be above for the second one;
+/// the inner bottom has only the first.
+pub fn fork(kind: i128, K: i128, R: i128) -> Option<(i128, i128)> {
     match kind {
-        1 => 1156 * K * R > 121_000_000_000,
-        2 => 6084 * K * R > 625_000_000_000,
-        _ => false,
+        1 => Some((1156 * K * R, 121_000_000_000)),
+        2 => Some((6084 * K * R, 625_000_000_000)),
+        _ => None,
     }
+}
+
+/// Whether rule 3 has its second form.
+pub fn has_second_form(kind: i128, K: i128, R: i128) -> bool {
+    fork(kind, K, R).is_some_and(|(product, limit)| product > limit)
 }
 
 /// Rule 3, thickness t3 under hull girder stress. At R of 210,000 or more the

@@ -7,7 +7,7 @@ use super::draft::Draft;
 use super::whole::rising_ids;
 use super::{record, vessel};
 use crate::form::{entered, Form};
-use crate::limits::{in_record, ID_HIGHEST, WAVE_HEIGHTS};
+use crate::limits::{in_record, ID_HIGHEST, T_HIGHEST, WAVE_HEIGHTS};
 use crate::pencil::worked_out;
 use crate::rules::demands;
 use crate::sheet::{Header, Record};
@@ -122,6 +122,7 @@ fn laden(chance: &mut Chance, header: &Form, kind: i128, id: i128) -> Form {
         2 | 3 => heavy(chance, &mut form),
         4 | 5 => field_to_an_end(chance, &mut form),
         6 => root_at_a_step(chance, &header, &mut form),
+        7 => last_of_the_gauge(chance, &header, &mut form),
         _ => {}
     }
     record::fit(chance, &header, &mut form);
@@ -179,6 +180,50 @@ fn root_at_a_step(chance: &mut Chance, header: &Header, form: &mut Form) {
             return;
         }
     }
+}
+
+/// Where rule 3 of the bottom, or rule 2 of the inner bottom under much cargo, comes to the
+/// last of the gauge, which falls just short of it: the widest spacing that is not past it,
+/// with one steel or another.
+fn last_of_the_gauge(chance: &mut Chance, header: &Header, form: &mut Form) {
+    let rule = match form.get("kind") {
+        1 | 2 => 2,
+        3 | 4 => 1,
+        _ => return,
+    };
+    if rule == 1 {
+        form.set("cargo", chance.between(160_000, 200_000));
+    }
+    if form.get("b1") != 0 {
+        form.fill(&[("b1", 1000), ("b2", chance.between(10, 100))]);
+    }
+    for _ in 0..TRIES {
+        form.set("K", chance.between(500, 1000));
+        widest(header, form, rule);
+        let record = Record::of(form);
+        let comes_to_it = worked_out(header, &record)[rule] == Some(T_HIGHEST);
+        if comes_to_it && !demands(header, &record)[rule].is_met_by(T_HIGHEST) {
+            return;
+        }
+    }
+}
+
+/// Fills in the widest spacing with which the rule comes to a number of the gauge, or the
+/// narrowest of all.
+fn widest(header: &Header, form: &mut Form, rule: usize) {
+    let spacings = in_record(form, "S");
+    let (mut narrow, mut too_wide) = (spacings.lowest(), spacings.highest() + 1);
+    while too_wide - narrow > 1 {
+        let S = (narrow + too_wide) / 2;
+        form.set("S", S);
+        let comes_to = worked_out(header, &Record::of(form))[rule];
+        if comes_to.is_some_and(|T| T <= T_HIGHEST) {
+            narrow = S;
+        } else {
+            too_wide = S;
+        }
+    }
+    form.set("S", narrow);
 }
 
 /// A field at an end of its values; a tank's top, which rests on z, goes along.

@@ -27,6 +27,16 @@ pub fn filled(line: &str, rule: i128, numbers: &[i128]) -> String {
     text + "\n"
 }
 
+/// A line and the numbers for its blanks, none of them a scantling.
+pub type Line<'a> = (&'a str, &'a [i128]);
+
+pub fn written(lines: &[Line]) -> String {
+    let lines = lines.iter();
+    lines
+        .map(|(line, numbers)| filled(line, 0, numbers))
+        .collect()
+}
+
 /// Whether a text, without its end, is the line with some numbers in its blanks.
 pub fn fits(line: &str, rule: i128, text: &str) -> bool {
     let mut rest = text;

@@ -1,43 +1,61 @@
-//! The working of one rule: its lines down to the right side, and what that comes to.
+//! The working of one rule: its lines down to the last step, and what they come to.
 
-use super::blanks::filled;
 use super::root::root;
-use super::words::ROOT;
-use crate::loads::rounded_up;
-
-/// What the right side comes to, rounded up.
-pub enum Right {
-    /// There is no number: nothing in the gauge will do.
-    Nothing,
-    /// X² is at least n, X being so many times T (`step`) less what is short.
-    Square { n: i128, step: i128, short: i128 },
-    /// The scantling is at least n.
-    Plain { n: i128 },
-}
+use crate::quotient::Quotient;
 
 pub struct Working {
     pub text: String,
-    /// The scantling that it comes to, before the test.
-    pub comes_to: Option<i128>,
+    pub right: Right,
 }
 
-impl Working {
-    /// The lines with the numbers of each, then the root where there is one.
-    pub fn new(lines: &[(&str, &[i128])], right: Right) -> Working {
-        // No scantling stands in a line before the test, whatever the rule.
-        let fill = |(line, numbers): &(&str, &[i128])| filled(line, 0, numbers);
-        let mut text: String = lines.iter().map(fill).collect();
-        let comes_to = match right {
+/// What the right side comes to, rounded up.
+pub enum Right {
+    /// There is no number of the gauge, and the lines say why.
+    Nothing,
+    Square(Square),
+    /// The scantling is at least so much.
+    Plain(i128),
+}
+
+impl Right {
+    /// The scantling that it comes to, before the test.
+    pub fn first(&self) -> Option<i128> {
+        match self {
             Right::Nothing => None,
-            Right::Plain { n } => Some(n),
-            Right::Square { n, step, short } => {
-                let root = root(n);
-                let T = rounded_up(root + short, step);
-                text += &fill(&(ROOT[0], &[root]));
-                text += &fill(&(ROOT[1], &[root, short, step, T]));
-                Some(T)
-            }
-        };
-        Working { text, comes_to }
+            Right::Square(square) => Some(square.sum().up()),
+            Right::Plain(n) => Some(*n),
+        }
+    }
+}
+
+/// X² is at least n, X being so many times T (`step`) less what is short.
+pub struct Square {
+    pub n: i128,
+    pub step: i128,
+    pub short: i128,
+}
+
+impl Square {
+    /// T² is at least n.
+    pub fn of_T(n: i128) -> Square {
+        let (step, short) = (1, 0);
+        Square { n, step, short }
+    }
+
+    pub fn is_of_T(&self) -> bool {
+        self.step == 1
+    }
+
+    pub fn X(&self, T: i128) -> i128 {
+        self.step * T - self.short
+    }
+
+    pub fn root(&self) -> i128 {
+        root(self.n)
+    }
+
+    /// The root and what is short over the step.
+    pub fn sum(&self) -> Quotient {
+        Quotient::of(self.root() + self.short, self.step)
     }
 }
