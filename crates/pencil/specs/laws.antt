@@ -1,5 +1,5 @@
 -- What is proved of the definitions.
-pub mod Cases
-pub mod Only
+pub mod TableLaws
+pub mod Table
+pub mod LineLaws
 pub mod TrailLaws
-pub mod True
