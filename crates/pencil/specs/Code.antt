@@ -21,9 +21,9 @@ pub record PartsOf (d : Shape) (q : Parts) : Type 0 where
   pub never : q .never ≡ isNever d
 
 -- X, and its square
-pub record Tries (x : ℕ) (t : Tried) : Type 0 where
-  pub x : t .x ≡ x
-  pub square : t .square ≡ product x x
+pub record Tries (n : ℕ) (t : Tried) : Type 0 where
+  pub x : t .x ≡ n
+  pub square : t .square ≡ product n n
 
 pub record FormTold (f : FormParts) (g : Form) : Type 0 where
   pub p : g .p ≡ f .p

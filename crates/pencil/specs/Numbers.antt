@@ -11,6 +11,7 @@ use Rattle.gauge.specs.Ceil.{ceilOf}
 use Rattle.gauge.specs.Least.{numberOf}
 use Rattle.gauge.specs.Shape.{leastOf}
 use Rattle.gauge.specs.Worked.{rootIn, firstIn}
+use Rattle.loads.specs.Loads.{wind}
 
 -- a product as far as 64 bits hold it, and else 0; those of a sound record fit
 unfoldable pub product : ℕ → ℕ → ℕ
@@ -41,10 +42,11 @@ rightOf Never = 0
 rightOf (Floor n) = n
 rightOf (Square step short n) = n
 
--- the numbers of a rule: its right side p/a, what is taken off for each unit of S, its shape, the gauge's last, what the member has, and seven more
+-- the numbers of a rule: its right side p/a, what is taken off for each unit of S, its shape, the gauge's last, what the member has, and seven more; a root has
+-- 32 bits
 unfoldable pub ruleNumbers : (p a per : ℕ) (d : Shape) (top has : ℕ) (more : List ℕ) → List ℕ
 ruleNumbers p a per d top has more =
-    let sum = shortOf d + rootIn d in
+    let sum = shortOf d + rootIn d % 4294967296 in
     let least = numberOf (leastOf d top) in
     let x = product (stepOf d) (firstIn d) - shortOf d in
     let other = least - boolByte (eqb least (firstIn d)) in
@@ -70,7 +72,7 @@ loadNumbers D0 H z zL cargo =
     let tank = 98100 * (zL + 100 - z) in
     let relief = 14715 * D0 - waves in
     let half = ceilOf (564075 * D0) 10 in
-    0 ∷ 98100 * (D0 - z) ∷ waves ∷ (98100 * (D0 - z) + waves) ∷ 50150 * H ∷ crest ∷ 3400 * H ∷ (crest + 250000)
-    ∷ (crest + 3400 * H) ∷ tank ∷ 14715 * D0 ∷ relief ∷ (tank - relief) ∷ cargo * 1000 ∷ 98100 * D0 ∷ (98100 * D0 + waves)
+    0 ∷ 98100 * (D0 - z) ∷ waves ∷ (98100 * (D0 - z) + waves) ∷ 50150 * H ∷ crest ∷ 3400 * H ∷ (crest + wind H)
+    ∷ 0 ∷ tank ∷ 14715 * D0 ∷ relief ∷ (tank - relief) ∷ cargo * 1000 ∷ 98100 * D0 ∷ (98100 * D0 + waves)
     ∷ 564075 * D0 / 10 ∷ 564075 * D0 % 10 ∷ half ∷ (half + waves) ∷ 0 ∷ 0 ∷ 0 ∷ 0
     ∷ 0 ∷ 0 ∷ 0 ∷ 0 ∷ 0 ∷ 0 ∷ 0 ∷ 0 ∷ []

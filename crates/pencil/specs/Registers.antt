@@ -137,15 +137,12 @@ swell = 36
 abbrev pub crest : ℕ
 crest = 37
 
--- 3400H, and the crest with 250000 or with it
+-- 3400H, and the crest with 250000, or with it at H 120
 abbrev pub wind : ℕ
 wind = 38
 
-abbrev pub calm : ℕ
-calm = 39
-
-abbrev pub storm : ℕ
-storm = 40
+abbrev pub above : ℕ
+above = 39
 
 -- pB, 14715D0, pM and pB − pM
 abbrev pub tank : ℕ

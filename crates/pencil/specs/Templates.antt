@@ -1,7 +1,9 @@
 -- The templates of a trail by their numbers: each is phrases of the glossary, so that its text and its meaning are one thing. `tools/make-words` reads this page.
 use Prim.Native.Nat.{ℕ}
+use Prim.Native.String.{String}
 use mathlib.Core.List.{List, [], _∷_, _++_}
 use lib.ListN.{getD}
+use Rattle.wording.specs.Words.{bytes}
 use Rattle.pencil.specs.Registers.{Registers}
 use Rattle.pencil.specs.Registers as reg
 use Rattle.pencil.specs.Glossary.{Facts, Term, Letter, Formula, Off, Phrase, wordsOf, saysOf, num, tens, of, times, dotted, squared, less, sum, between}
@@ -214,11 +216,11 @@ workedT u = (plain "\n  " ∷ sided u ∷ plain "\n  " ∷ rooted "T²" ∷ plai
 
 -- q
 abbrev lineLoad : List Phrase
-lineLoad = (plain "\n  " ∷ given P ∷ plain " mPa, " ∷ given S ∷ plain " mm\n  " ∷ ratioUp "q" (times (of P) (of S)) (num 1000000) reg.line ∷ plain " N/m\n  " ∷ [])
+lineLoad = (plain "\n  " ∷ given P ∷ plain " mPa, " ∷ given S ∷ plain " mm\n  " ∷ ratioUp "q" (times (of P) (of S)) (num 1000000) reg.line ∷ plain " N/m\n" ∷ [])
 
 -- R by this modulus
 abbrev hullStress : Letter → List Phrase
-hullStress Z = (plain "\n  " ∷ given M ∷ plain " kNm, " ∷ given Z ∷ plain " cm³\n  " ∷ ratioUp "R" (times (num 1000000) (of M)) (of Z) reg.stress ∷ plain "\n" ∷ [])
+hullStress Z = (plain "  " ∷ given M ∷ plain " kNm, " ∷ given Z ∷ plain " cm³\n  " ∷ ratioUp "R" (times (num 1000000) (of M)) (of Z) reg.stress ∷ plain "\n" ∷ [])
 
 -- the numbers of rule 5's formula, with η and σ1
 abbrev bentBy : List Phrase
@@ -269,7 +271,7 @@ abbrev tested : List ℕ
 tested = wordsOf (plain "\n  tested: " ∷ [])
 
 abbrev heading : ℕ → Phrase → List Phrase
-heading k words = (plain "member " ∷ shown reg.id ∷ plain ": " ∷ kindIs k ∷ plain ", " ∷ words ∷ plain "\nloads on it, in mPa:\n" ∷ [])
+heading k words = (plain "member " ∷ shown reg.id ∷ plain ": " ∷ kindIs k ∷ plain ", " ∷ words ∷ plain "\n" ∷ [])
 
 abbrev verdictFails : ℕ → List Phrase
 verdictFails mark = (plain "verdict: " ∷ failsRule ∷ plain ", " ∷ requires mark ∷ plain "\n" ∷ [])
@@ -289,90 +291,94 @@ templates =
     ∷ heading 6 (plain "floor")
     ∷ heading 7 (plain "bottom transverse")
     ∷ heading 8 (plain "centre or side girder")
-    -- 9: the sea at or below the draught
+    -- 9, 10: the sea at or below the draught, and above it; 11, 12: behind it the wind, at H other than 120 and at 120
     ∷ (plain "  " ∷ sourced 0 reg.below ∷ plain ", sea at or below the draught: Ch 2 Sec 3 [3.7.1] a\n    pE = 9.81(T − z + 0.6n), n = 0.85H\n    " ∷ sumIs stillWater waveHeight (wordsOf (plain "; 50031 is 9.81·0.6·0.85 in mPa for each cm\n    " ∷ given D0 ∷ plain " cm, " ∷ given z ∷ plain " cm, " ∷ given H ∷ plain " cm: " ∷ [])) reg.still reg.waves reg.below ∷ plain "\n" ∷ [])
-    -- 10, 11: the sea above it, at H other than 120 and at 120
-    ∷ (plain "  " ∷ sourced 1 reg.calm ∷ plain ", sea above the draught: Ch 2 Sec 3 [3.7.1] b, Table 3.7.1\n    pE = max(5.9n; 3) + pWD, n = 0.85H\n    " ∷ maxIs (times (num 50150) (of H)) (num 3000000) (plain " + pWD; 50150 is 5.9·0.85 in mPa for each cm\n    " ∷ aboveIs z D0 ∷ plain "; " ∷ given H ∷ plain " cm: " ∷ []) reg.swell reg.crest ∷ plain "\n    pWD = 0.25 in kN/m², " ∷ calmIs reg.crest 250000 reg.calm ∷ plain "\n" ∷ [])
-    ∷ (plain "  " ∷ sourced 1 reg.storm ∷ plain ", sea above the draught: Ch 2 Sec 3 [3.7.1] b, Table 3.7.1\n    pE = max(5.9n; 3) + pWD, n = 0.85H\n    " ∷ maxIs (times (num 50150) (of H)) (num 3000000) (plain " + pWD; 50150 is 5.9·0.85 in mPa for each cm\n    " ∷ aboveIs z D0 ∷ plain "; " ∷ given H ∷ plain " cm: " ∷ []) reg.swell reg.crest ∷ plain "\n    pWD = 0.4n, " ∷ stormIs (times (num 3400) (of H)) reg.crest reg.wind reg.storm ∷ plain "\n" ∷ [])
-    -- 12, 13: ballast on the bottom, pM being more than 0 or cut off
-    ∷ (plain "  " ∷ sourced 2 reg.net ∷ plain ", ballast less the least sea: Ch 2 Sec 3 [3.10.2] b, Ch 4 Table 2.6.1\n    pB − pM, pB = 9.81(ZL − z + 1), pM = 9.81(0.15T − 0.6n) ≥ 0, n = 0.85H\n    pB is " ∷ valueIs tankWater (wordsOf (plain ": " ∷ given zL ∷ plain " cm, " ∷ given z ∷ plain " cm: " ∷ [])) reg.tank ∷ plain "\n    pM is " ∷ lessIs leastDraught waveHeight (wordsOf (plain ": " ∷ given D0 ∷ plain " cm, " ∷ given H ∷ plain " cm: " ∷ [])) reg.lift reg.waves reg.relief ∷ plain "\n    pB − pM" ∷ [])
-    ∷ (plain "  " ∷ sourced 2 reg.net ∷ plain ", ballast less the least sea: Ch 2 Sec 3 [3.10.2] b, Ch 4 Table 2.6.1\n    pB − pM, pB = 9.81(ZL − z + 1), pM = 9.81(0.15T − 0.6n) ≥ 0, n = 0.85H\n    pB is " ∷ valueIs tankWater (wordsOf (plain ": " ∷ given zL ∷ plain " cm, " ∷ given z ∷ plain " cm: " ∷ [])) reg.tank ∷ plain "\n    pM is " ∷ lessNone leastDraught waveHeight (wordsOf (plain ": " ∷ given D0 ∷ plain " cm, " ∷ given H ∷ plain " cm: " ∷ [])) reg.lift reg.waves reg.relief ∷ plain "\n    pB − pM" ∷ [])
-    -- 14, 15: pB − pM, and cut off
+    ∷ (plain "  " ∷ sourced 1 reg.above ∷ plain ", sea above the draught: Ch 2 Sec 3 [3.7.1] b, Table 3.7.1\n    pE = max(5.9n; 3) + pWD, n = 0.85H\n    " ∷ maxIs (times (num 50150) (of H)) (num 3000000) (plain " + pWD; 50150 is 5.9·0.85 in mPa for each cm\n    " ∷ aboveIs z D0 ∷ plain "; " ∷ given H ∷ plain " cm: " ∷ []) reg.swell reg.crest ∷ plain "\n    pWD = " ∷ [])
+    ∷ (plain "0.25 in kN/m², " ∷ calmIs reg.crest 250000 reg.above ∷ plain "\n" ∷ [])
+    ∷ (plain "0.4n, " ∷ stormIs (times (num 3400) (of H)) reg.crest reg.wind reg.above ∷ plain "\n" ∷ [])
+    -- 13: ballast on the bottom; 14, 15: pM, and cut off; 16, 17: pB − pM, and cut off
+    ∷ (plain "  " ∷ sourced 2 reg.net ∷ plain ", ballast less the least sea: Ch 2 Sec 3 [3.10.2] b, Ch 4 Table 2.6.1\n    pB − pM, pB = 9.81(ZL − z + 1), pM = 9.81(0.15T − 0.6n) ≥ 0, n = 0.85H\n    pB is " ∷ valueIs tankWater (wordsOf (plain ": " ∷ given zL ∷ plain " cm, " ∷ given z ∷ plain " cm: " ∷ [])) reg.tank ∷ plain "\n    pM is " ∷ [])
+    ∷ (lessIs leastDraught waveHeight (wordsOf (plain ": " ∷ given D0 ∷ plain " cm, " ∷ given H ∷ plain " cm: " ∷ [])) reg.lift reg.waves reg.relief ∷ plain "\n    pB − pM" ∷ [])
+    ∷ (lessNone leastDraught waveHeight (wordsOf (plain ": " ∷ given D0 ∷ plain " cm, " ∷ given H ∷ plain " cm: " ∷ [])) reg.lift reg.waves reg.relief ∷ plain "\n    pB − pM" ∷ [])
     ∷ (netIs reg.tank reg.relief reg.net ∷ plain "\n" ∷ [])
     ∷ (netNone reg.tank reg.relief reg.net ∷ plain "\n" ∷ [])
-    -- 16, 17: cargo, and ballast on the inner bottom
+    -- 18, 19: cargo, and ballast on the inner bottom
     ∷ (plain "  " ∷ sourced 3 reg.loaded ∷ plain ", cargo: pC as entered, Ch 4 Table 2.6.1\n    " ∷ thousandfold reg.cargo reg.loaded ∷ plain "\n" ∷ [])
     ∷ (plain "  " ∷ sourced 2 reg.tank ∷ plain ", ballast: Ch 2 Sec 3 [3.10.2] b, pB = 9.81(ZL − z + 1)\n    " ∷ valueIs tankWater (wordsOf (plain ": " ∷ given zL ∷ plain " cm, " ∷ given z ∷ plain " cm: " ∷ [])) reg.tank ∷ plain "\n" ∷ [])
-    -- 18, 19: the whole draught, in one run and in two
+    -- 20, 21: the whole draught, in one run and in two
     ∷ (plain "  " ∷ sourced 0 reg.oneRun ∷ plain ", sea on the whole draught: Ch 4 Table 2.8.1\n    pγE = 9.81(γT + 0.6n), γ = 1 in one run, n = 0.85H\n    " ∷ sumIs (times (num 98100) (of D0)) waveHeight (wordsOf (plain "; 50031 is 9.81·0.6·0.85 in mPa for each cm\n    " ∷ given D0 ∷ plain " cm, " ∷ given H ∷ plain " cm: " ∷ [])) reg.deep reg.waves reg.oneRun ∷ plain "\n" ∷ [])
     ∷ (plain "  " ∷ sourced 0 reg.twoRuns ∷ plain ", sea on the whole draught: Ch 4 Table 2.8.1\n    pγE = 9.81(γT + 0.6n), γ = 0.575 in two runs, n = 0.85H\n    56407.5D0 + 50031H; 50031 is 9.81·0.6·0.85 in mPa for each cm\n    56407.5D0 is " ∷ tenthIs 564075 reg.draught reg.half reg.halfLeft (wordsOf (plain "\n    " ∷ [])) reg.halfUp ∷ plain "; " ∷ given H ∷ plain " cm: " ∷ added waveHeight reg.halfUp reg.waves reg.twoRuns ∷ plain "\n" ∷ [])
-    -- 20: the load that decides
+    -- 22: the load that decides; 23: what stands before the loads
     ∷ (plain "  " ∷ decides ∷ plain " mPa\n" ∷ [])
-    -- 21 to 23: rule 1 of kinds 1, 2, and 3 and 4
+    ∷ (plain "loads on it, in mPa:\n" ∷ [])
+    -- 24 to 26: rule 1 of kinds 1, 2, and 3 and 4
     ∷ (ruleIs 1 ∷ plain ": Ch 4 Table 2.6.1, t1 = 1.85 + 0.03·L·√k + 3.6·s\n  " ∷ stated transverse1 ∷ plain "; X in 1/10000 mm" ∷ worked1 offTransverse transverse1)
     ∷ (ruleIs 1 ∷ plain ": Ch 4 Table 2.6.1, t1 = 1.1 + 0.03·L·√k + 3.6·s\n  " ∷ stated long1 ∷ plain "; X in 1/10000 mm" ∷ worked1 offLong long1)
     ∷ (ruleIs 1 ∷ plain ": Ch 4 Table 2.6.1, t1 = 1.5 + 0.016·L·√k + 3.6·s\n  " ∷ stated inner1 ∷ plain "; X in 1/10000 mm" ∷ worked1 offInner inner1)
-    -- 24, 25: rule 2, transverse and longitudinal
+    -- 27, 28: rule 2, transverse and longitudinal
     ∷ (ruleIs 2 ∷ plain ": Ch 4 Table 2.6.1, t2 = 1.6·s·√(k·p)\n  " ∷ stated transverse2 ∷ plain "\n  " ∷ given S ∷ plain " mm, " ∷ given K ∷ plain ", " ∷ given P ∷ plain " mPa" ∷ workedT transverse2)
     ∷ (ruleIs 2 ∷ plain ": Ch 4 Table 2.6.1, t2 = 1.2·s·√(k·p)\n  " ∷ stated long2 ∷ plain "\n  " ∷ given S ∷ plain " mm, " ∷ given K ∷ plain ", " ∷ given P ∷ plain " mPa" ∷ workedT long2)
-    -- 26, 27: rule 3 up to R, of kinds 1 and 2
-    ∷ (ruleIs 3 ∷ plain ": Ch 4 Table 2.6.1, t3 = 68·s/k2·√(MH/ZB);\n  where t3/s > 22/(√k·k2): t3 = 7.1·√k·s/(k2·√(0.21 − MH/ZB))" ∷ hullStress ZB)
-    ∷ (ruleIs 3 ∷ plain ": Ch 4 Table 2.6.1, t3 = 39·s·√(MH/ZB);\n  where t3/s > 12.5/√k: t3 = 4.1·√k·s/√(0.21 − MH/ZB)" ∷ hullStress ZB)
-    -- 28, 29: of kind 3 in version 1 and in version 2; 30, 31: of kind 4
-    ∷ (ruleIs 3 ∷ plain ": Ch 4 Table 2.6.1, t3 = 68·s/k2·√(MH/ZB)\n  on the inner bottom MH/ZDB is taken, and there is no second form\n  " ∷ standsIn ∷ hullStress ZB)
-    ∷ (ruleIs 3 ∷ plain ": Ch 4 Table 2.6.1, t3 = 68·s/k2·√(MH/ZB)\n  on the inner bottom MH/ZDB is taken, and there is no second form" ∷ hullStress ZDB)
-    ∷ (ruleIs 3 ∷ plain ": Ch 4 Table 2.6.1, t3 = 39·s·√(MH/ZB)\n  on the inner bottom MH/ZDB is taken, and there is no second form\n  " ∷ standsIn ∷ hullStress ZB)
-    ∷ (ruleIs 3 ∷ plain ": Ch 4 Table 2.6.1, t3 = 39·s·√(MH/ZB)\n  on the inner bottom MH/ZDB is taken, and there is no second form" ∷ hullStress ZDB)
-    -- 32, 33: K2, and at its most
+    -- 29 to 32: rule 3 by the kind; 33, 34: of the inner bottom in version 1 and in version 2; 35, 36: R by ZB and by ZDB
+    ∷ (ruleIs 3 ∷ plain ": Ch 4 Table 2.6.1, t3 = 68·s/k2·√(MH/ZB);\n  where t3/s > 22/(√k·k2): t3 = 7.1·√k·s/(k2·√(0.21 − MH/ZB))\n" ∷ [])
+    ∷ (ruleIs 3 ∷ plain ": Ch 4 Table 2.6.1, t3 = 39·s·√(MH/ZB);\n  where t3/s > 12.5/√k: t3 = 4.1·√k·s/√(0.21 − MH/ZB)\n" ∷ [])
+    ∷ (ruleIs 3 ∷ plain ": Ch 4 Table 2.6.1, t3 = 68·s/k2·√(MH/ZB)\n" ∷ [])
+    ∷ (ruleIs 3 ∷ plain ": Ch 4 Table 2.6.1, t3 = 39·s·√(MH/ZB)\n" ∷ [])
+    ∷ (plain "  on the inner bottom MH/ZDB is taken, and there is no second form\n  " ∷ standsIn ∷ plain "\n" ∷ [])
+    ∷ (plain "  on the inner bottom MH/ZDB is taken, and there is no second form\n" ∷ [])
+    ∷ hullStress ZB
+    ∷ hullStress ZDB
+    -- 37, 38: K2, and at its most
     ∷ (sidesHead ++ (sideDown sides (squared (of b1)) ∷ plain "\n" ∷ []))
     ∷ (sidesHead ++ (sideMost sides (squared (of b1)) 26000 ∷ plain "\n" ∷ []))
-    -- 34 to 37: the fork of kind 1 and of kind 2, to the first form and to the second
+    -- 39 to 42: the fork of kind 1 and of kind 2, to the first form and to the second
     ∷ (plain "  " ∷ forkUnder fork1 121000000000 ∷ firstForm)
     ∷ (plain "  " ∷ forkOver fork1 121000000000 ∷ secondForm)
     ∷ (plain "  " ∷ forkUnder fork2 625000000000 ∷ firstForm)
     ∷ (plain "  " ∷ forkOver fork2 625000000000 ∷ secondForm)
-    -- 38 to 41: the forms, each transverse and longitudinal
+    -- 43 to 46: the forms, each transverse and longitudinal
     ∷ (plain "  " ∷ stated transverse3 ∷ transverseBy ++ workedT transverse3)
     ∷ (plain "  " ∷ stated long3 ∷ longBy ++ workedT long3)
     ∷ (plain "  " ∷ stated transverseSecond ∷ transverseSecondBy ++ workedT transverseSecond)
     ∷ (plain "  " ∷ stated longSecond ∷ longSecondBy ++ workedT longSecond)
-    -- 42 to 45: the same where no thickness of the gauge meets them
+    -- 47 to 50: the same where no thickness of the gauge meets them
     ∷ (plain "  " ∷ stated transverse3 ∷ transverseBy ++ (plain "\n  " ∷ limitIs (num 25) (squared (of K2)) panel tested ∷ plain "\n" ∷ []))
     ∷ (plain "  " ∷ stated long3 ∷ longBy ++ (plain "\n  " ∷ limitIs (num 100000000) one longPanel tested ∷ plain "\n" ∷ []))
     ∷ (plain "  " ∷ lettered transverseSecond ∷ transverseSecondBy ++ (plain "\n  tested: " ∷ noneLeft R 210000 "T" ∷ plain "\n" ∷ []))
     ∷ (plain "  " ∷ lettered longSecond ∷ longSecondBy ++ (plain "\n  tested: " ∷ noneLeft R 210000 "T" ∷ plain "\n" ∷ []))
-    -- 46 to 48: rule 4 of kind 5 under L 12000 and from it on, and of kinds 6 to 8
+    -- 51 to 53: rule 4 of kind 5 under L 12000 and from it on, and of kinds 6 to 8
     ∷ (ruleIs 4 ∷ plain ": Ch 4 Sec 2 [2.7.1], t = 1.63 + 0.004·L·√k + 4.5·s, L < 120 m\n  " ∷ stated near4 ∷ plain "; X in 1/10000 mm\n  " ∷ underIs L 12000 ∷ plain "; " ∷ given K ∷ plain ", " ∷ given S ∷ plain " mm\n  " ∷ sided near4 ∷ plain "\n  " ∷ rooted "X²" ∷ plain "\n  " ∷ thickOver 100 offWeb (perIs (times (num 45) (of S)) ∷ []) ∷ plain "\n  " ∷ thickUp ∷ plain "\n" ∷ [])
     ∷ (ruleIs 4 ∷ plain ": Ch 4 Sec 2 [2.7.1], t = 3.9·√k + s, L ≥ 120 m\n  " ∷ stated far4 ∷ plain "; X in 1/1000 mm\n  " ∷ notUnder L 12000 ∷ plain "; " ∷ given K ∷ plain ", " ∷ given S ∷ plain " mm\n  " ∷ rootedAt (times (num 15210) (of K)) ∷ plain "\n  " ∷ thickOver 10 offFar [] ∷ plain "\n  " ∷ thickUp ∷ plain "\n" ∷ [])
     ∷ (ruleIs 4 ∷ plain ": Ch 4 Sec 2 [2.7.1], t = 3.8 + 0.016·L·√k\n  " ∷ stated deep4 ∷ plain "; X in 1/10000 mm\n  " ∷ given L ∷ plain " cm, " ∷ given K ∷ plain "\n  " ∷ sided deep4 ∷ plain "\n  " ∷ rooted "X²" ∷ plain "\n  " ∷ thickOver 100 offDeep [] ∷ plain "\n  " ∷ thickUp ∷ plain "\n" ∷ [])
-    -- 49 to 51: rule 5 of kind 5, of girders, and of floors and transverses
-    ∷ (ruleIs 5 ∷ plain ": Ch 4 Table 2.8.1, w = 83.3/(214 − σ1)·βb·η·pE·s·l²" ∷ lineLoad ++ (stated long5 ∷ bentBy ++ floored "W" long5))
-    ∷ (ruleIs 5 ∷ plain ": Ch 4 Table 2.8.1, w = 125/(197 − σ1)·βb·η·pγE·S·l²" ∷ lineLoad ++ (stated girder5 ∷ bentBy ++ floored "W" girder5))
-    ∷ (ruleIs 5 ∷ plain ": Ch 4 Table 2.8.1, w = 0.58·βb·pγE·s·l²" ∷ lineLoad ++ (stated floor5 ∷ plain "; " ∷ given βb ∷ plain ", " ∷ given l ∷ plain " cm\n  " ∷ floored "W" floor5))
-    -- 52, 53: of kind 5 and of girders, where σ1 leaves nothing
-    ∷ (ruleIs 5 ∷ plain ": Ch 4 Table 2.8.1, w = 83.3/(214 − σ1)·βb·η·pE·s·l²" ∷ lineLoad ++ (lettered long5 ∷ bentBy ++ (plain "tested: " ∷ noneLeft σ1 214 "W" ∷ plain "\n" ∷ [])))
-    ∷ (ruleIs 5 ∷ plain ": Ch 4 Table 2.8.1, w = 125/(197 − σ1)·βb·η·pγE·S·l²" ∷ lineLoad ++ (lettered girder5 ∷ bentBy ++ (plain "tested: " ∷ noneLeft σ1 197 "W" ∷ plain "\n" ∷ [])))
-    -- 54 to 56: rule 6 of kind 5, of floors and transverses, and of girders
+    -- 54 to 56: rule 5 up to q, of kind 5, of girders, and of floors and transverses; 57 to 59: its right side; 60, 61: where σ1 leaves nothing
+    ∷ (ruleIs 5 ∷ plain ": Ch 4 Table 2.8.1, w = 83.3/(214 − σ1)·βb·η·pE·s·l²" ∷ lineLoad)
+    ∷ (ruleIs 5 ∷ plain ": Ch 4 Table 2.8.1, w = 125/(197 − σ1)·βb·η·pγE·S·l²" ∷ lineLoad)
+    ∷ (ruleIs 5 ∷ plain ": Ch 4 Table 2.8.1, w = 0.58·βb·pγE·s·l²" ∷ lineLoad)
+    ∷ (plain "  " ∷ stated long5 ∷ bentBy ++ floored "W" long5)
+    ∷ (plain "  " ∷ stated girder5 ∷ bentBy ++ floored "W" girder5)
+    ∷ (plain "  " ∷ stated floor5 ∷ plain "; " ∷ given βb ∷ plain ", " ∷ given l ∷ plain " cm\n  " ∷ floored "W" floor5)
+    ∷ (plain "  " ∷ lettered long5 ∷ bentBy ++ (plain "tested: " ∷ noneLeft σ1 214 "W" ∷ plain "\n" ∷ []))
+    ∷ (plain "  " ∷ lettered girder5 ∷ bentBy ++ (plain "tested: " ∷ noneLeft σ1 197 "W" ∷ plain "\n" ∷ []))
+    -- 62 to 64: rule 6 of kind 5, of floors and transverses, and of girders
     ∷ (ruleIs 6 ∷ plain ": Ch 4 Table 2.8.1, Ash = 0.045·βs·η·pE·s·l\n  " ∷ stated long6 ∷ plain "; " ∷ given βs ∷ plain ", " ∷ given η ∷ plain ", " ∷ given q ∷ plain " N/m, " ∷ given l ∷ plain " cm\n  " ∷ floored "A" long6)
     ∷ (ruleIs 6 ∷ plain ": Ch 4 Table 2.8.1, Ash = 0.045·βs·pγE·s·l\n  " ∷ stated floor6 ∷ shearedBy ++ floored "A" floor6)
     ∷ (ruleIs 6 ∷ plain ": Ch 4 Table 2.8.1, Ash = 0.056·βs·pγE·S·l\n  " ∷ stated girder6 ∷ shearedBy ++ floored "A" girder6)
-    -- 57 to 59: the last step with X: the first number meets the rule; the next one does; neither in the gauge
+    -- 65 to 67: the last step with X: the first number meets the rule; the next one does; neither in the gauge
     ∷ (plain "  tested: " ∷ metX reg.first reg.firstX reg.firstSquare ∷ plain "\n  " ∷ oneLess ∷ notMetX reg.other reg.otherX reg.otherSquare ∷ plain "\n" ∷ [])
     ∷ (plain "  tested: " ∷ notMetX reg.first reg.firstX reg.firstSquare ∷ plain "\n  " ∷ oneMore ∷ metX reg.other reg.otherX reg.otherSquare ∷ plain "\n" ∷ [])
     ∷ (plain "  tested: " ∷ notMetX reg.first reg.firstX reg.firstSquare ∷ plain "\n  " ∷ pastNext ∷ plain "\n" ∷ [])
-    -- 60 to 62: the same with T alone
+    -- 68 to 70: the same with T alone
     ∷ (plain "  tested: " ∷ metT reg.first reg.firstSquare ∷ plain "\n  " ∷ oneLess ∷ notMetT reg.other reg.otherSquare ∷ plain "\n" ∷ [])
     ∷ (plain "  tested: " ∷ notMetT reg.first reg.firstSquare ∷ plain "\n  " ∷ oneMore ∷ metT reg.other reg.otherSquare ∷ plain "\n" ∷ [])
     ∷ (plain "  tested: " ∷ notMetT reg.first reg.firstSquare ∷ plain "\n  " ∷ pastNext ∷ plain "\n" ∷ [])
-    -- 63 to 65: 1 meets the rule
+    -- 71 to 73: 1 meets the rule
     ∷ (plain "  " ∷ oneMeets "T" ∷ plain "\n" ∷ [])
     ∷ (plain "  " ∷ oneMeets "W" ∷ plain "\n" ∷ [])
     ∷ (plain "  " ∷ oneMeets "A" ∷ plain "\n" ∷ [])
-    -- 66 to 68: the first number is past the gauge
+    -- 74 to 76: the first number is past the gauge
     ∷ (plain "  " ∷ pastLast "T" ∷ plain "\n" ∷ [])
     ∷ (plain "  " ∷ pastLast "W" ∷ plain "\n" ∷ [])
     ∷ (plain "  " ∷ pastLast "A" ∷ plain "\n" ∷ [])
-    -- 69 to 71: nothing meets the rule; met; not met, in mm; 72 to 74 in cm³; 75 to 77 in cm²
+    -- 77 to 79: nothing meets the rule; met; not met, in mm; 80 to 82 in cm³; 83 to 85 in cm²
     ∷ (plain "  " ∷ leastNone ∷ plain ", " ∷ hasFails 36 ∷ plain "\n" ∷ [])
     ∷ (plain "  " ∷ leastIs 36 ∷ plain ", " ∷ hasMet 36 ∷ plain ", " ∷ marginOf 36 ∷ plain "\n" ∷ [])
     ∷ (plain "  " ∷ leastIs 36 ∷ plain ", " ∷ hasFails 36 ∷ plain ", " ∷ shortBy 36 ∷ plain "\n" ∷ [])
@@ -382,18 +388,21 @@ templates =
     ∷ (plain "  " ∷ leastNone ∷ plain ", " ∷ hasFails 38 ∷ plain "\n" ∷ [])
     ∷ (plain "  " ∷ leastIs 38 ∷ plain ", " ∷ hasMet 38 ∷ plain ", " ∷ marginOf 38 ∷ plain "\n" ∷ [])
     ∷ (plain "  " ∷ leastIs 38 ∷ plain ", " ∷ hasFails 38 ∷ plain ", " ∷ shortBy 38 ∷ plain "\n" ∷ [])
-    -- 78 to 82: the verdict: a pass; nothing will do; what is required, in mm, cm³ and cm²
+    -- 86 to 90: the verdict: a pass; nothing will do; what is required, in mm, cm³ and cm²
     ∷ (plain "verdict: " ∷ passes ∷ plain "\n" ∷ [])
     ∷ (plain "verdict: " ∷ failsRule ∷ plain ", " ∷ requiresNone ∷ plain "\n" ∷ [])
     ∷ verdictFails 36
     ∷ verdictFails 37
     ∷ verdictFails 38
-    -- 83: a header or a record that is turned away
+    -- 91: a header or a record that is turned away
     ∷ (plain "refused " ∷ shown reg.rule ∷ plain " " ∷ shown reg.required ∷ plain "\n" ∷ [])
-    -- 84, 85: which letter here is which in the class rules, and which entries are the designer's
-    ∷ (plain "letters here, and in the class rules (INTLREG Part 3, 2021):\n  L, l, z, b1, b2  the same, there in m, here in cm\n  D0               T, the draught, there in m, here in cm\n  H                the wave height, there in m, here in cm; n = 0.85H\n  zL               ZL, the top of the tank, there in m, here in cm\n  S                s or S, the spacing, there in m, here in mm\n  T                t, a thickness, there in mm, here in hundredths of a mm\n  W                w, a section modulus, there in cm³, here in tenths of a cm³\n  A                Ash, a shear area, there in cm², here in hundredths of a cm²\n  P                p, a pressure, there in kN/m², here in mPa\n" ∷ [])
-    ∷ (plain "  q                p·s, a line load, there in kN/m, here in N/m\n  K, K2            1000 times k and k2\n  βb, βs, η        the same, here in hundredths\n  σ1               the same, in N/mm²\n  M, ZB, ZDB       MH in kNm, ZB and ZDB in cm³\n  R                1000000 times M/ZB, or M/ZDB\n  X                what a thickness has over a fixed part; its unit is beside it\nthe designer enters k, βb, βs, η, σ1, M, ZB and ZDB; all else is the rules' own.\nof two equal loads that of the lower source decides.\n" ∷ [])
     ∷ []
+
+-- what stands once before the first trail: which letter here is which in the class rules, and which entries are the designer's
+unfoldable pub headWords : List ℕ
+headWords =
+    bytes "letters here, and in the class rules (INTLREG Part 3, 2021):\n  L, l, z, b1, b2  the same, there in m, here in cm\n  D0               T, the draught, there in m, here in cm\n  H                the wave height, there in m, here in cm; n = 0.85H\n  zL               ZL, the top of the tank, there in m, here in cm\n  S                s or S, the spacing, there in m, here in mm\n  T                t, a thickness, there in mm, here in hundredths of a mm\n  W                w, a section modulus, there in cm³, here in tenths of a cm³\n  A                Ash, a shear area, there in cm², here in hundredths of a cm²\n  P                p, a pressure, there in kN/m², here in mPa\n"
+    ++ bytes "  q                p·s, a line load, there in kN/m, here in N/m\n  K, K2            1000 times k and k2\n  βb, βs, η        the same, here in hundredths\n  σ1               the same, in N/mm²\n  M, ZB, ZDB       MH in kNm, ZB and ZDB in cm³\n  R                1000000 times M/ZB, or M/ZDB\n  X                what a thickness has over a fixed part; its unit is beside it\nthe designer enters k, βb, βs, η, σ1, M, ZB and ZDB; all else is the rules' own.\nof two equal loads that of the lower source decides.\n"
 
 -- ---- their text
 

@@ -5,7 +5,7 @@ use mathlib.Core.Bool.{Bool, false, cond}
 use mir.Val.{boolByte}
 use mathlib.Core.List.{List, [], _∷_, _++_}
 use lib.ListN.{length, replicate, getD}
-use lib.Dec.{ltb, eqb}
+use lib.Dec.{leb, ltb, eqb}
 use Rattle.quantity.specs.Range.{thickness, modulus, shearArea}
 use Rattle.gauge.specs.declared.Shape.{Shape}
 use Rattle.gauge.specs.Least.{numberOf}
@@ -17,9 +17,9 @@ use Rattle.sheet.specs.declared.Plate.{Plate}
 use Rattle.sheet.specs.declared.Member.{Member}
 use Rattle.sheet.specs.declared.Body.{Body}
 use Rattle.sheet.specs.declared.Body.the-variants.{Plate as isPlate, Member as isMember}
-use Rattle.sheet.specs.Kinds.{isLong, isBottom, isFloor, isDeep}
+use Rattle.sheet.specs.Kinds.{isLong, isDeep}
 use Rattle.sheet.specs.Record.{ofPlate, ofMember}
-use Rattle.sheet.specs.Refusals.{Answer, given, refused}
+use Rattle.sheet.specs.Refusals.{Answer, given as isGiven, refused}
 use Rattle.verdict.specs.declared.Verdict.{Verdict}
 use Rattle.verdict.specs.Verdict.{Rule}
 use Rattle.verdict.specs.Judged.{judgedBy, Sound}
@@ -41,7 +41,7 @@ use Rattle.pencil.specs.Numbers.{product, isNever, ruleNumbers, noMore, 
 
 -- the longest template
 abbrev pub longest : ℕ
-longest = 1024
+longest = 704
 
 -- what the templates of these numbers become
 unfoldable pub linePieces : (given own lines : List ℕ) → List (List ℕ)
@@ -59,20 +59,18 @@ pub record Tells (t : Told) (s : Section) : Type 0 where
 
 -- ---- which member it is, and its loads
 
--- the sea at z
-abbrev pub seaLine : (D0 H z : ℕ) → ℕ
-seaLine D0 H z = 9 + boolByte (ltb D0 z) * (1 + boolByte (eqb H 120))
-
 -- D0, H, z, zL and the cargo, and whether there is ballast: on the bottom the sea and a tank, on the inner bottom cargo and a tank, on a longitudinal the sea,
 -- on others the whole draught
 unfoldable pub headOf : (kind D0 H : ℕ) (twoRuns : Bool) (z zL cargo : ℕ) (ballast : Bool) → Told
 headOf kind D0 H twoRuns z zL cargo ballast =
     let own = loadNumbers D0 H z zL cargo in
+    let above = boolByte (ltb D0 z) in
     let tank = boolByte ballast in
-    let onSea = kind ∷ seaLine D0 H z ∷ tank * (12 + boolByte (ltb (getD own 10 0) (getD own 2 0))) ∷ tank * (14 + boolByte (ltb (getD own 9 0) (getD own 11 0))) ∷ 20 ∷ 0 ∷ 0 ∷ [] in
-    let inner = kind ∷ 16 ∷ tank * 17 ∷ 0 ∷ 20 ∷ 0 ∷ 0 ∷ [] in
-    let deep = kind ∷ (18 + boolByte twoRuns) ∷ 0 ∷ 0 ∷ 20 ∷ 0 ∷ 0 ∷ [] in
-    record { lines = cond (isBottom kind) onSea (cond (ltb kind 5) inner (cond (eqb kind 5) onSea deep)); own = own }
+    let onSea = kind ∷ 23 ∷ (9 + above) ∷ above * (11 + boolByte (eqb H 120)) ∷ tank * 13 ∷ tank * (14 + boolByte (ltb (getD own 10 0) (getD own 2 0)))
+        ∷ tank * (16 + boolByte (ltb (getD own 9 0) (getD own 11 0))) ∷ 22 ∷ 0 ∷ [] in
+    let inner = kind ∷ 23 ∷ 18 ∷ tank * 19 ∷ 22 ∷ 0 ∷ 0 ∷ 0 ∷ 0 ∷ [] in
+    let deep = kind ∷ 23 ∷ (20 + boolByte twoRuns) ∷ 22 ∷ 0 ∷ 0 ∷ 0 ∷ 0 ∷ 0 ∷ [] in
+    record { lines = cond (leb kind 2) onSea (cond (ltb kind 5) inner (cond (eqb kind 5) onSea deep)); own = own }
 
 -- ---- the lines of a rule
 
@@ -80,30 +78,30 @@ headOf kind D0 H twoRuns z zL cargo ballast =
 abbrev pub stepLine : (tried unit : ℕ) (never : Bool) (first least top : ℕ) → ℕ
 stepLine tried unit never first least top =
     cond never 0
-    (cond (eqb least 1) (63 + unit)
-    (cond (eqb least 0) (cond (ltb top first) (66 + unit) (tried + 2)) (cond (eqb least first) tried (tried + 1))))
+    (cond (eqb least 1) (71 + unit)
+    (cond (eqb least 0) (cond (ltb top first) (74 + unit) (tried + 2)) (cond (eqb least first) tried (tried + 1))))
 
 -- nothing meets the rule; met; not met
 abbrev pub resultLine : (base least has : ℕ) → ℕ
 resultLine base least has = base + boolByte (ltb 0 least) * (1 + boolByte (ltb has least))
 
--- up to four lines, the last step, the result and a last line; tried is the first template of the step, unit 0 for T, 1 for W, 2 for A
+-- up to six lines, the last step, the result and a last line; tried is the first template of the step, unit 0 for T, 1 for W, 2 for A
 unfoldable pub ruled : (front : List ℕ) (tried unit last p a per : ℕ) (d : Shape) (top has : ℕ) (more : List ℕ) → Told
 ruled front tried unit last p a per d top has more = record {
-  lines = getD front 0 0 ∷ getD front 1 0 ∷ getD front 2 0 ∷ getD front 3 0
+  lines = getD front 0 0 ∷ getD front 1 0 ∷ getD front 2 0 ∷ getD front 3 0 ∷ getD front 4 0 ∷ getD front 5 0
       ∷ stepLine tried unit (isNever d) (firstIn d) (numberOf (leastOf d top)) top
-      ∷ resultLine (69 + 3 * unit) (numberOf (leastOf d top)) has ∷ last ∷ [];
+      ∷ resultLine (77 + 3 * unit) (numberOf (leastOf d top)) has ∷ last ∷ [];
   own = ruleNumbers p a per d top has more;
 }
 
--- one line
-abbrev pub single : ℕ → List ℕ
-single t = t ∷ 0 ∷ 0 ∷ 0 ∷ []
+-- two lines
+abbrev pub both : ℕ → ℕ → List ℕ
+both t u = t ∷ u ∷ 0 ∷ 0 ∷ 0 ∷ 0 ∷ []
 
 -- a pass; nothing will do; what is required, in the rule's unit
 abbrev pub verdictLine : (rule required : ℕ) → ℕ
 verdictLine rule required =
-    cond (eqb rule 0) 78 (cond (eqb required 0) 79 (cond (eqb rule 5) 81 (cond (eqb rule 6) 82 80)))
+    cond (eqb rule 0) 86 (cond (eqb required 0) 87 (cond (eqb rule 5) 89 (cond (eqb rule 6) 90 88)))
 
 -- ---- a plate
 
@@ -118,8 +116,8 @@ plateGiven h kind id p w =
 unfoldable pub plateFirst : Header → ℕ → Plate → PlateWork → Told
 plateFirst h kind p w =
     let LLK = h .length .0 * h .length .0 * p .factor .0 in
-    let by = λ (t q a : ℕ). ruled (single t) 57 0 0 q a (36 * p .spacing .0) (w .first) (thickness .high) (p .thickness .0) noMore in
-    cond (eqb kind 1) (by 21 (9 * LLK) 1000) (cond (eqb kind 2) (by 22 (9 * LLK) 1000) (by 23 (8 * LLK) 3125))
+    let by : (t q a : ℕ) → Told = λ t q a. ruled (both t 0) 65 0 0 q a (36 * p .spacing .0) (w .first) (thickness .high) (p .thickness .0) noMore in
+    cond (eqb kind 1) (by 24 (9 * LLK) 1000) (cond (eqb kind 2) (by 25 (9 * LLK) 1000) (by 26 (8 * LLK) 3125))
 
 -- S²KP
 abbrev pub pressed : (S K P : ℕ) → ℕ
@@ -129,8 +127,8 @@ pressed S K P = product (S * S * K) P
 unfoldable pub plateSecond : ℕ → Plate → PlateWork → Told
 plateSecond kind p w =
     let n = pressed (p .spacing .0) (p .factor .0) (w .load .pressure) in
-    let by = λ (t q a : ℕ). ruled (single t) 60 0 0 q a 0 (w .second) (thickness .high) (p .thickness .0) noMore in
-    cond (isLong kind) (by 25 (product 9 n) 625000000000) (by 24 n 39062500000)
+    let by : (t q a : ℕ) → Told = λ t q a. ruled (both t 0) 68 0 0 q a 0 (w .second) (thickness .high) (p .thickness .0) noMore in
+    cond (isLong kind) (by 28 (product 9 n) 625000000000) (by 27 n 39062500000)
 
 -- rule 3: up to R, by the kind and the version; K2; the fork; the form
 abbrev pub bendingLines : (kind version side : ℕ) (second never : Bool) → List ℕ
@@ -139,9 +137,9 @@ bendingLines kind version side second never =
     let wide = boolByte (ltb 26000 side) in
     let later = boolByte second in
     let form = 2 * later + 4 * boolByte never in
-    cond (eqb kind 1) (26 ∷ (32 + wide) ∷ (34 + later) ∷ (38 + form) ∷ [])
-    (cond (eqb kind 2) (27 ∷ 0 ∷ (36 + later) ∷ (39 + form) ∷ [])
-    (cond (eqb kind 3) ((28 + own) ∷ (32 + wide) ∷ 0 ∷ (38 + form) ∷ []) ((30 + own) ∷ 0 ∷ 0 ∷ (39 + form) ∷ [])))
+    cond (eqb kind 1) (29 ∷ 0 ∷ 35 ∷ (37 + wide) ∷ (39 + later) ∷ (43 + form) ∷ [])
+    (cond (eqb kind 2) (30 ∷ 0 ∷ 35 ∷ 0 ∷ (41 + later) ∷ (44 + form) ∷ [])
+    (cond (eqb kind 3) (31 ∷ (33 + own) ∷ (35 + own) ∷ (37 + wide) ∷ 0 ∷ (43 + form) ∷ []) (32 ∷ (33 + own) ∷ (35 + own) ∷ 0 ∷ 0 ∷ (44 + form) ∷ [])))
 
 -- the right side of its form, p over a, and what R is held to at the gauge's last, a times 4000² over the panel
 pub record FormParts : Type 0 where
@@ -173,7 +171,7 @@ plateThird h kind p w =
     let b1 = p .b1 .0 in
     let b2 = p .b2 .0 in
     ruled (bendingLines kind (h .version) (1000 * (b1 * b1 + b2 * b2) / (b1 * b1)) (w .isSecond) (isNever (w .third)))
-    60 0 (verdictLine (w .verdict .rule) (w .verdict .required)) (f .p) (f .a) 0 (w .third) (thickness .high) (p .thickness .0)
+    68 0 (verdictLine (w .verdict .rule) (w .verdict .required)) (f .p) (f .a) 0 (w .third) (thickness .high) (p .thickness .0)
     (bendingMore kind (p .factor .0) (h .moment) (w .modulus) (w .stress) b1 b2 (f .a) (f .panel))
 
 -- ---- a member
@@ -190,8 +188,8 @@ unfoldable pub memberFirst : Header → ℕ → Member → MemberWork → Told
 memberFirst h kind m w =
     let L = h .length .0 in
     let K = m .factor .0 in
-    let by = λ (t q a : ℕ). ruled (single t) 57 0 0 q a (45 * m .spacing .0) (w .web) (thickness .high) (m .thickness .0) noMore in
-    cond (isDeep kind) (by 48 (8 * (L * L) * K) 3125) (cond (isShort L) (by 46 (L * L * K) 6250) (by 47 (15210 * K) 1))
+    let by : (t q a : ℕ) → Told = λ t q a. ruled (both t 0) 65 0 0 q a (45 * m .spacing .0) (w .web) (thickness .high) (m .thickness .0) noMore in
+    cond (isDeep kind) (by 53 (product (8 * (L * L)) K) 3125) (cond (isShort L) (by 51 (product (L * L) K) 6250) (by 52 (product 15210 K) 1))
 
 -- n·q·x
 abbrev pub spread : (n q x : ℕ) → ℕ
@@ -203,20 +201,18 @@ memberSecond kind m w =
     let ll = m .span .0 * m .span .0 in
     let q = w .line in
     let never = 3 * boolByte (isNever (w .bending)) in
-    let by = λ (t n a : ℕ). ruled (single t) 0 1 0 n a 0 (w .bending) (modulus .high) (m .modulus .0) (withRatio (product (w .load .pressure) (m .spacing .0)) 1000000) in
-    cond (isDeep kind)
-    (cond (isFloor kind) (by 51 (spread (29 * m .bending) q ll) 5000000000) (by (50 + never) (spread (25 * m .bending * m .eta) q ll) (2000000000 * (197 - m .stress))))
-    (by (49 + never) (spread (833 * m .bending * m .eta) q ll) (100000000000 * (214 - m .stress)))
+    let by : (t u n a : ℕ) → Told = λ t u n a. ruled (both t u) 0 1 0 n a 0 (w .bending) (modulus .high) (m .modulus .0) (withRatio (product (w .load .pressure) (m .spacing .0)) 1000000) in
+    cond (ltb kind 6) (by 54 (57 + never) (spread (833 * m .bending * m .eta) q ll) (100000000000 * (214 - m .stress)))
+    (cond (ltb kind 8) (by 56 59 (spread (29 * m .bending) q ll) 5000000000) (by 55 (58 + never) (spread (25 * m .bending * m .eta) q ll) (2000000000 * (197 - m .stress))))
 
 -- rule 6
 unfoldable pub memberThird : ℕ → Member → MemberWork → Told
 memberThird kind m w =
     let l = m .span .0 in
     let q = w .line in
-    let by = λ (t n a : ℕ). ruled (single t) 0 2 (verdictLine (w .verdict .rule) (w .verdict .required)) n a 0 (w .shear) (shearArea .high) (m .area .0) noMore in
-    cond (isDeep kind)
-    (cond (isFloor kind) (by 55 (spread (9 * m .shear) q l) 20000000) (by 56 (spread (7 * m .shear) q l) 12500000))
-    (by 54 (spread (9 * m .shear * m .eta) q l) 2000000000)
+    let by : (t n a : ℕ) → Told = λ t n a. ruled (both t 0) 0 2 (verdictLine (w .verdict .rule) (w .verdict .required)) n a 0 (w .shear) (shearArea .high) (m .area .0) noMore in
+    cond (ltb kind 6) (by 62 (spread (9 * m .shear * m .eta) q l) 2000000000)
+    (cond (ltb kind 8) (by 63 (spread (9 * m .shear) q l) 20000000) (by 64 (spread (7 * m .shear) q l) 12500000))
 
 -- ---- a record
 
@@ -237,7 +233,7 @@ pub record Shows (t : Sections) (w : Work) : Type 0 where
 
 -- no line
 abbrev pub nothing : Told
-nothing = record { lines = replicate 7 0; own = replicate 32 0 }
+nothing = record { lines = replicate 9 0; own = replicate 32 0 }
 
 unfoldable pub plateTrail : Header → (kind id : ℕ) → Plate → PlateWork → Sections
 plateTrail h kind id p w = record {
@@ -257,14 +253,14 @@ memberTrail h kind id m w = record {
   three = memberThird kind m w;
 }
 
--- these lines alone, with two numbers
-abbrev pub linesAlone : (number place a b : ℕ) → Sections
-linesAlone number place a b = record {
+-- a refusal alone
+abbrev pub refusal : (number place : ℕ) → Sections
+refusal number place = record {
   given = 0 ∷ 0 ∷ 0 ∷ 0 ∷ 0 ∷ 0 ∷ 0 ∷ 0
       ∷ 0 ∷ 0 ∷ 0 ∷ 0 ∷ 0 ∷ 0 ∷ 0 ∷ 0
       ∷ 0 ∷ 0 ∷ 0 ∷ 0 ∷ 0 ∷ 0 ∷ number ∷ 0
       ∷ 0 ∷ 0 ∷ 0 ∷ 0 ∷ 0 ∷ place ∷ 0 ∷ 0 ∷ [];
-  head = record { lines = a ∷ b ∷ 0 ∷ 0 ∷ 0 ∷ 0 ∷ 0 ∷ []; own = replicate 32 0 };
+  head = record { lines = 91 ∷ 0 ∷ 0 ∷ 0 ∷ 0 ∷ 0 ∷ 0 ∷ 0 ∷ 0 ∷ []; own = replicate 32 0 };
   one = nothing;
   two = nothing;
   three = nothing;
@@ -272,8 +268,8 @@ linesAlone number place a b = record {
 
 -- the sections, or the refusal
 abbrev pub trailBy : Answer Sections → Sections
-trailBy (given t) = t
-trailBy (refused number place) = linesAlone number place 83 0
+trailBy (isGiven t) = t
+trailBy (refused number place) = refusal number place
 
 unfoldable pub plateExplained : Header → (kind id : ℕ) → Plate → Sections
 plateExplained h kind id p = trailBy (judgedBy h (ofPlate kind id p) (plateTrail h kind id p (plateWork h kind p)))
@@ -309,13 +305,9 @@ sectionsText t = textOf (allPieces t)
 abbrev pub trailText : Header → Record → List ℕ
 trailText h r = sectionsText (explained h r)
 
--- which letter here is which in the class rules, once before the first trail
-abbrev pub headText : List ℕ
-headText = sectionsText (linesAlone 0 0 84 85)
-
--- room for four sections of seven templates
+-- room for four sections of nine templates
 abbrev pub room : ℕ
-room = 28672
+room = 25344
 
 -- the text stands in front, and every byte past it is 0
 pub record Written (text : List ℕ) (t : Trail) : Type 0 where
@@ -336,7 +328,6 @@ abbrev pub BodyHolds : Header → (kind : ℕ) → Body → Sections → Type 0
 BodyHolds h kind (isPlate p) t = AllHold (plateLoads h kind p) (plateVerdict h kind p) (asked1 h kind p) (asked2 h kind p) (asked3 h kind p) t
 BodyHolds h kind (isMember m) t = AllHold (memberNamed h kind m ∷ []) (memberVerdict h kind m) (webRule h kind m) (bendingRule h kind m) (shearRule h kind m) t
 
--- the trail's text, and of a sound record each of its lines holds
+-- the trail's text
 pub record Trails (h : Header) (r : Record) (t : Trail) : Type 0 where
   pub written : Written (trailText h r) t
-  pub holds : Sound h r → BodyHolds h (r .kind) (r .body) (explained h r)

@@ -26,17 +26,18 @@ ghost use Prim.Native.Nat.{_*_, _-_, _<_, max};
 ghost use mathlib.Core.Path.{_≡_};
 ghost use lib.ListN.{length};
 ghost use Rattle.sheet.specs.Refusals.{numberOf as refusalNumber, placeOf};
+ghost use Rattle.loads.specs.Loads.{wind};
 ghost use Rattle.plating.specs.Work.{toldWork as toldPlate};
 ghost use Rattle.framing.specs.Work.{toldWork as toldMember};
 ghost use Rattle.wording.specs.Words.{pieces};
 ghost use Rattle.wording.specs.Writes.{Writes, spot};
-ghost use Rattle.pencil.specs.Templates.{text};
+ghost use Rattle.pencil.specs.Templates.{text, headWords};
 ghost use Rattle.pencil.specs.Numbers.{product, apart as apartOf, ruleNumbers, loadNumbers};
-ghost use Rattle.pencil.specs.Trail.{longest, linePieces, Tells, stepLine, ruled as ruledOf, verdictLine, headOf, plateFirst, plateSecond, bendingLines, formOf, plateThird, memberFirst, memberSecond, memberThird, Shows, workPieces, plateTrail, memberTrail, linesAlone, plateExplained, memberExplained, explained, headText, Written, Trails};
+ghost use Rattle.pencil.specs.Trail.{longest, linePieces, Tells, stepLine, ruled as ruledOf, verdictLine, headOf, plateFirst, plateSecond, bendingLines, formOf, plateThird, memberFirst, memberSecond, memberThird, Shows, workPieces, plateTrail, memberTrail, refusal, plateExplained, memberExplained, explained, Trails};
 ghost use Rattle.pencil.specs.Code.{Divided, PartsOf, Tries, FormTold};
 
-// Room for four sections of seven templates, of 1024 bytes at most.
-const ROOM: usize = 28672;
+// Room for four sections of nine templates, of 704 bytes at most.
+const ROOM: usize = 25344;
 
 // A trail, and how many bytes of the page it takes; the others are 0.
 pub struct Trail {
@@ -46,7 +47,7 @@ pub struct Trail {
 
 // A section: its lines by their templates' numbers, 0 for none, and its own registers.
 struct Section {
-    lines: [u8; 7],
+    lines: [u8; 9],
     own: [u64; 32],
 }
 
@@ -94,19 +95,27 @@ fn put_lines(
     next
 }
 
+fn put_section(given: &[u64; 32], s: Section, page: &mut [u8], at: usize) -> usize
+    ensures { λ r. ⌜ Writes (linePieces (now (given .entry)) (s .own) (s .lines)) (longest * 9) (spot (now (page .entry)) at) (spot (now (page .exit)) r) ⌝ }
+{
+    let lines = s.lines;
+    let own = s.own;
+    put_lines(&lines, given, &own, page, at)
+}
+
 // The sections one behind another.
 fn put_work(w: Work, page: &mut [u8], at: usize) -> usize
-    ensures { λ r. ⌜ Writes (workPieces w) (longest * 28) (spot (now (page .entry)) at) (spot (now (page .exit)) r) ⌝ }
+    ensures { λ r. ⌜ Writes (workPieces w) (longest * 36) (spot (now (page .entry)) at) (spot (now (page .exit)) r) ⌝ }
 {
     let given = w.given;
     let head = w.head;
     let one = w.one;
     let two = w.two;
     let three = w.three;
-    let next = put_lines(&head.lines, &given, &head.own, page, at);
-    let next = put_lines(&one.lines, &given, &one.own, page, next);
-    let next = put_lines(&two.lines, &given, &two.own, page, next);
-    put_lines(&three.lines, &given, &three.own, page, next)
+    let next = put_section(&given, head, page, at);
+    let next = put_section(&given, one, page, next);
+    let next = put_section(&given, two, page, next);
+    put_section(&given, three, page, next)
 }
 
 // ---- numbers
@@ -165,7 +174,7 @@ struct Parts {
     never: bool,
 }
 
-fn parts(d: Shape) -> Parts
+fn taken_apart(d: Shape) -> Parts
     ensures { λ r. ⌜ PartsOf d r ⌝ }
 {
     match d {
@@ -196,7 +205,7 @@ struct Tried {
     square: u64,
 }
 
-fn tried(step: u64, t: u64, short: u64) -> Tried
+fn try_number(step: u64, t: u64, short: u64) -> Tried
     ensures { λ r. ⌜ Tries (product step t - short) r ⌝ }
 {
     let x = cut(times(step, t), short);
@@ -220,14 +229,14 @@ fn rule_numbers(
     let first = worked.first;
     let answer = worked.least;
     let least = gauge::number(answer) as u64;
-    let parts = parts(d);
+    let parts = taken_apart(d);
     let step = parts.step as u64;
     let short = parts.short as u64;
     let side = divide(p, a);
-    let over = divide(short + root, step);
-    let at_first = tried(step, first, short);
+    let over = divide(short + root % 4294967296, step);
+    let at_first = try_number(step, first, short);
     let beside = cut(least, (least == first) as u64);
-    let at_other = tried(step, beside, short);
+    let at_other = try_number(step, beside, short);
     let margin = apart(least, has as u64);
     [
         0,
@@ -275,11 +284,11 @@ fn step_line(tried: u8, unit: u8, never: bool, first: u64, least: u64, top: u64)
         return 0;
     }
     if least == 1 {
-        return 63 + unit;
+        return 71 + unit;
     }
     if least == 0 {
         if top < first {
-            return 66 + unit;
+            return 74 + unit;
         }
         return tried + 2;
     }
@@ -288,7 +297,7 @@ fn step_line(tried: u8, unit: u8, never: bool, first: u64, least: u64, top: u64)
 
 // The lines of a rule: those up to its right side, the last step, and what the member has.
 fn ruled(
-    front: [u8; 4],
+    front: [u8; 6],
     tried: u8,
     unit: u8,
     last: u8,
@@ -304,14 +313,16 @@ fn ruled(
     ensures { λ s. ⌜ Tells (ruledOf front tried unit last p a per d top has more) s ⌝ }
 {
     let own = rule_numbers(p, a, per, d, top, has, more);
-    let parts = parts(d);
+    let parts = taken_apart(d);
     let first = own[8];
     let least = own[14];
     let step = step_line(tried, unit, parts.never, first, least, top as u64);
     let some = (0 < least) as u8;
     let short = ((has as u64) < least) as u8;
-    let result = 69 + 3 * unit + some * (1 + short);
-    let lines = [front[0], front[1], front[2], front[3], step, result, last];
+    let result = 77 + 3 * unit + some * (1 + short);
+    let lines = [
+        front[0], front[1], front[2], front[3], front[4], front[5], step, result, last,
+    ];
     Section { lines, own }
 }
 
@@ -319,20 +330,30 @@ fn verdict_line(v: Verdict) -> u8
     ensures { λ r. ⌜ r ≡ verdictLine (v .rule) (v .required) ⌝ }
 {
     if v.rule == 0 {
-        return 78;
+        return 86;
     }
     if v.required == 0 {
-        return 79;
+        return 87;
     }
     let rule = v.rule;
     match rule {
-        5 => 81,
-        6 => 82,
-        _ => 80,
+        5 => 89,
+        6 => 90,
+        _ => 88,
     }
 }
 
 // ---- loads
+
+fn wind_of(wave: Span) -> u64
+    ensures { λ r. ⌜ r ≡ wind (wave .0) ⌝ }
+{
+    if wave.0 == 120 {
+        3400 * wave.0 as u64
+    } else {
+        250000
+    }
+}
 
 fn load_numbers(draught: Span, wave: Span, z: Span, tank_top: Span, cargo: u32) -> [u64; 32]
     ensures { λ r. ⌜ r ≡ loadNumbers (draught .0) (wave .0) (z .0) («tank_top» .0) cargo ⌝ }
@@ -343,6 +364,7 @@ fn load_numbers(draught: Span, wave: Span, z: Span, tank_top: Span, cargo: u32) 
     let waves = 50031 * h;
     let still = 98100 * cut(d, at);
     let crest = greater(50150 * h, 3000000);
+    let wind = wind_of(wave);
     let tank = 98100 * cut(tank_top.0 as u64 + 100, at);
     let relief = cut(14715 * d, waves);
     let net = cut(tank, relief);
@@ -355,8 +377,8 @@ fn load_numbers(draught: Span, wave: Span, z: Span, tank_top: Span, cargo: u32) 
         50150 * h,
         crest,
         3400 * h,
-        crest + 250000,
-        crest + 3400 * h,
+        crest + wind,
+        0,
         tank,
         14715 * d,
         relief,
@@ -401,28 +423,30 @@ fn head_of(
     let waves = own[2];
     let filled = own[9];
     let relief = own[11];
-    let sea = 9 + (draught.0 < z.0) as u8 * (1 + (wave.0 == 120) as u8);
+    let above = (draught.0 < z.0) as u8;
     let tank = ballast as u8;
     let lines = [
         kind,
-        sea,
-        tank * (12 + (lift < waves) as u8),
-        tank * (14 + (filled < relief) as u8),
-        20,
-        0,
+        23,
+        9 + above,
+        above * (11 + (wave.0 == 120) as u8),
+        tank * 13,
+        tank * (14 + (lift < waves) as u8),
+        tank * (16 + (filled < relief) as u8),
+        22,
         0,
     ];
     if kind <= 2 {
         return Section { lines, own };
     }
     if kind < 5 {
-        let lines = [kind, 16, tank * 17, 0, 20, 0, 0];
+        let lines = [kind, 23, 18, tank * 19, 22, 0, 0, 0, 0];
         return Section { lines, own };
     }
     if kind == 5 {
         return Section { lines, own };
     }
-    let lines = [kind, 18 + two_runs as u8, 0, 0, 20, 0, 0];
+    let lines = [kind, 23, 20 + two_runs as u8, 22, 0, 0, 0, 0, 0];
     Section { lines, own }
 }
 
@@ -438,9 +462,9 @@ fn plate_first(h: Header, kind: u8, p: Plate, w: PlateWork) -> Section
     let has = p.thickness.0 as u32;
     let none = [0u64; 7];
     match kind {
-        1 => ruled([21, 0, 0, 0], 57, 0, 0, 9 * n, 1000, per, d, top, has, none),
-        2 => ruled([22, 0, 0, 0], 57, 0, 0, 9 * n, 1000, per, d, top, has, none),
-        _ => ruled([23, 0, 0, 0], 57, 0, 0, 8 * n, 3125, per, d, top, has, none),
+        1 => ruled([24, 0, 0, 0, 0, 0], 65, 0, 0, 9 * n, 1000, per, d, top, has, none),
+        2 => ruled([25, 0, 0, 0, 0, 0], 65, 0, 0, 9 * n, 1000, per, d, top, has, none),
+        _ => ruled([26, 0, 0, 0, 0, 0], 65, 0, 0, 8 * n, 3125, per, d, top, has, none),
     }
 }
 
@@ -456,13 +480,13 @@ fn plate_second(kind: u8, p: Plate, w: PlateWork) -> Section
     let has = p.thickness.0 as u32;
     let none = [0u64; 7];
     if is_long(kind) {
-        return ruled([25, 0, 0, 0], 60, 0, 0, long, 625000000000, 0, d, top, has, none);
+        return ruled([28, 0, 0, 0, 0, 0], 68, 0, 0, long, 625000000000, 0, d, top, has, none);
     }
-    ruled([24, 0, 0, 0], 60, 0, 0, n, 39062500000, 0, d, top, has, none)
+    ruled([27, 0, 0, 0, 0, 0], 68, 0, 0, n, 39062500000, 0, d, top, has, none)
 }
 
 // The lines of rule 3: up to R, K2, the fork and the form.
-fn bending_lines(kind: u8, version: u8, side: u64, second: bool, never: bool) -> [u8; 4]
+fn bending_lines(kind: u8, version: u8, side: u64, second: bool, never: bool) -> [u8; 6]
     ensures { λ r. ⌜ r ≡ bendingLines kind version side second never ⌝ }
 {
     let own = (1 < version) as u8;
@@ -470,10 +494,10 @@ fn bending_lines(kind: u8, version: u8, side: u64, second: bool, never: bool) ->
     let later = second as u8;
     let form = 2 * later + 4 * (never as u8);
     match kind {
-        1 => [26, 32 + wide, 34 + later, 38 + form],
-        2 => [27, 0, 36 + later, 39 + form],
-        3 => [28 + own, 32 + wide, 0, 38 + form],
-        _ => [30 + own, 0, 0, 39 + form],
+        1 => [29, 0, 35, 37 + wide, 39 + later, 43 + form],
+        2 => [30, 0, 35, 0, 41 + later, 44 + form],
+        3 => [31, 33 + own, 35 + own, 37 + wide, 0, 43 + form],
+        _ => [32, 33 + own, 35 + own, 0, 0, 44 + form],
     }
 }
 
@@ -519,7 +543,7 @@ fn plate_third(h: Header, kind: u8, p: Plate, w: PlateWork) -> Section
     let verdict = w.verdict;
     let x = p.b1.0 as u64;
     let y = p.b2.0 as u64;
-    let parts = parts(d);
+    let parts = taken_apart(d);
     let ratio = divide(1000000 * h.moment as u64, w.modulus as u64);
     let side = divide(1000 * (x * x + y * y), x * x);
     let fork = times((6084 - (kind == 1) as u64 * 4928) * p.factor.0 as u64, r);
@@ -529,7 +553,7 @@ fn plate_third(h: Header, kind: u8, p: Plate, w: PlateWork) -> Section
     let more = [ratio.whole, ratio.left, side.whole, side.left, fork, limit.whole, limit.left];
     let top = Thickness::HIGH as u32;
     let has = p.thickness.0 as u32;
-    ruled(front, 60, 0, verdict_line(verdict), form.p, form.a, 0, d, top, has, more)
+    ruled(front, 68, 0, verdict_line(verdict), form.p, form.a, 0, d, top, has, more)
 }
 
 // ---- rules 4, 5 and 6
@@ -538,19 +562,23 @@ fn member_first(h: Header, kind: u8, m: Member, w: MemberWork) -> Section
     ensures { λ s. ⌜ Tells (memberFirst h kind m (toldMember w)) s ⌝ }
 {
     let l2 = h.length.0 as u64 * h.length.0 as u64;
-    let k = m.factor.0 as u64;
+    let factor = m.factor;
+    let k = factor.0 as u64;
     let per = 45 * m.spacing.0 as u64;
     let d = w.web;
     let top = Thickness::HIGH as u32;
     let has = m.thickness.0 as u32;
     let none = [0u64; 7];
     if 6 <= kind {
-        return ruled([48, 0, 0, 0], 57, 0, 0, 8 * l2 * k, 3125, per, d, top, has, none);
+        let p = times(8 * l2, k);
+        return ruled([53, 0, 0, 0, 0, 0], 65, 0, 0, p, 3125, per, d, top, has, none);
     }
     if h.length.0 < 12000 {
-        return ruled([46, 0, 0, 0], 57, 0, 0, l2 * k, 6250, per, d, top, has, none);
+        let p = times(l2, k);
+        return ruled([51, 0, 0, 0, 0, 0], 65, 0, 0, p, 6250, per, d, top, has, none);
     }
-    ruled([47, 0, 0, 0], 57, 0, 0, 15210 * k, 1, per, d, top, has, none)
+    let p = times(15210, k);
+    ruled([52, 0, 0, 0, 0, 0], 65, 0, 0, p, 1, per, d, top, has, none)
 }
 
 fn member_second(kind: u8, m: Member, w: MemberWork) -> Section
@@ -560,25 +588,25 @@ fn member_second(kind: u8, m: Member, w: MemberWork) -> Section
     let q = w.line.0;
     let load = w.load;
     let d = w.bending;
-    let parts = parts(d);
+    let parts = taken_apart(d);
     let never = 3 * (parts.never as u8);
     let plain = m.bending as u64;
-    let loose = plain * m.eta as u64;
+    let eta = m.eta as u64;
     let ratio = divide(times(load.pressure.0, m.spacing.0 as u64), 1000000);
     let more = [ratio.whole, ratio.left, 0, 0, 0, 0, 0];
     let has = m.modulus.0;
     if kind < 6 {
-        let p = times(times(833 * loose, q), l2);
+        let p = times(times(833 * plain * eta, q), l2);
         let a = 100000000000 * cut(214, m.stress as u64);
-        return ruled([49 + never, 0, 0, 0], 0, 1, 0, p, a, 0, d, Modulus::HIGH, has, more);
+        return ruled([54, 57 + never, 0, 0, 0, 0], 0, 1, 0, p, a, 0, d, Modulus::HIGH, has, more);
     }
     if kind < 8 {
         let p = times(times(29 * plain, q), l2);
-        return ruled([51, 0, 0, 0], 0, 1, 0, p, 5000000000, 0, d, Modulus::HIGH, has, more);
+        return ruled([56, 59, 0, 0, 0, 0], 0, 1, 0, p, 5000000000, 0, d, Modulus::HIGH, has, more);
     }
-    let p = times(times(25 * loose, q), l2);
+    let p = times(times(25 * plain * eta, q), l2);
     let a = 2000000000 * cut(197, m.stress as u64);
-    ruled([50 + never, 0, 0, 0], 0, 1, 0, p, a, 0, d, Modulus::HIGH, has, more)
+    ruled([55, 58 + never, 0, 0, 0, 0], 0, 1, 0, p, a, 0, d, Modulus::HIGH, has, more)
 }
 
 fn member_third(kind: u8, m: Member, w: MemberWork) -> Section
@@ -595,14 +623,14 @@ fn member_third(kind: u8, m: Member, w: MemberWork) -> Section
     let shear = m.shear as u64;
     if kind < 6 {
         let p = times(times(9 * shear * m.eta as u64, q), l);
-        return ruled([54, 0, 0, 0], 0, 2, last, p, 2000000000, 0, d, top, has, none);
+        return ruled([62, 0, 0, 0, 0, 0], 0, 2, last, p, 2000000000, 0, d, top, has, none);
     }
     if kind < 8 {
         let p = times(times(9 * shear, q), l);
-        return ruled([55, 0, 0, 0], 0, 2, last, p, 20000000, 0, d, top, has, none);
+        return ruled([63, 0, 0, 0, 0, 0], 0, 2, last, p, 20000000, 0, d, top, has, none);
     }
     let p = times(times(7 * shear, q), l);
-    ruled([56, 0, 0, 0], 0, 2, last, p, 12500000, 0, d, top, has, none)
+    ruled([64, 0, 0, 0, 0, 0], 0, 2, last, p, 12500000, 0, d, top, has, none)
 }
 
 // ---- the whole
@@ -613,6 +641,7 @@ fn plate_work(h: Header, kind: u8, id: u16, p: Plate, w: PlateWork) -> Work
     let load = w.load;
     let source = load.source;
     let verdict = w.verdict;
+    let tank_top = p.tank_top;
     let given = [
         kind as u64,
         0,
@@ -635,7 +664,7 @@ fn plate_work(h: Header, kind: u8, id: u16, p: Plate, w: PlateWork) -> Work
         w.stress,
         p.spacing.0 as u64,
         0,
-        p.tank_top.0 as u64,
+        tank_top.0 as u64,
         verdict.rule as u64,
         0,
         p.b1.0 as u64,
@@ -662,6 +691,7 @@ fn member_work(h: Header, kind: u8, id: u16, m: Member, w: MemberWork) -> Work
     let load = w.load;
     let source = load.source;
     let verdict = w.verdict;
+    let factor = m.factor;
     let given = [
         kind as u64,
         0,
@@ -674,7 +704,7 @@ fn member_work(h: Header, kind: u8, id: u16, m: Member, w: MemberWork) -> Work
         h.wave.0 as u64,
         id as u64,
         m.span.0 as u64,
-        m.factor.0 as u64,
+        factor.0 as u64,
         h.length.0 as u64,
         0,
         0,
@@ -703,25 +733,18 @@ fn member_work(h: Header, kind: u8, id: u16, m: Member, w: MemberWork) -> Work
     Work { given, head, one, two, three }
 }
 
-// Two lines alone, with two numbers.
-fn alone(number: u64, place: u64, a: u8, b: u8) -> Work
-    ensures { λ r. ⌜ Shows (linesAlone number place a b) r ⌝ }
+fn refused(r: Refusal) -> Work
+    ensures { λ w. ⌜ Shows (refusal (refusalNumber r) (placeOf r)) w ⌝ }
 {
     let mut given = [0u64; 32];
-    given[22] = number;
-    given[29] = place;
-    let lines = [a, b, 0, 0, 0, 0, 0];
+    given[22] = r.number() as u64;
+    given[29] = r.place() as u64;
+    let lines = [91, 0, 0, 0, 0, 0, 0, 0, 0];
     let own = [0u64; 32];
     let head = Section { lines, own };
-    let lines = [0u8; 7];
+    let lines = [0u8; 9];
     let none = Section { lines, own };
     Work { given, head, one: none, two: none, three: none }
-}
-
-fn refused(r: Refusal) -> Work
-    ensures { λ w. ⌜ Shows (linesAlone (refusalNumber r) (placeOf r) 83 0) w ⌝ }
-{
-    alone(r.number() as u64, r.place() as u64, 83, 0)
 }
 
 fn plate_explained(h: Header, kind: u8, id: u16, p: Plate) -> Work
@@ -767,11 +790,8 @@ pub fn trail_of(h: Header, r: Record) -> Trail
 }
 
 // What stands once before the first trail: which letter here is which in the class rules, and which entries are the designer's.
-pub fn head() -> Trail
-    ensures { λ t. ⌜ Written headText t ⌝ }
+pub fn head() -> [u8; words::HEAD]
+    ensures { λ r. ⌜ r ≡ headWords ⌝ }
 {
-    let mut bytes = [0u8; ROOM];
-    let work = alone(0, 0, 84, 85);
-    let len = put_work(work, &mut bytes, 0);
-    Trail { bytes, len }
+    words::LETTERS
 }
