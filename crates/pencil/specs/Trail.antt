@@ -328,6 +328,7 @@ abbrev pub BodyHolds : Header → (kind : ℕ) → Body → Sections → Type 0
 BodyHolds h kind (isPlate p) t = AllHold (plateLoads h kind p) (plateVerdict h kind p) (asked1 h kind p) (asked2 h kind p) (asked3 h kind p) t
 BodyHolds h kind (isMember m) t = AllHold (memberNamed h kind m ∷ []) (memberVerdict h kind m) (webRule h kind m) (bendingRule h kind m) (shearRule h kind m) t
 
--- the trail's text
+-- the trail's text, and of a sound record each of its lines holds
 pub record Trails (h : Header) (r : Record) (t : Trail) : Type 0 where
   pub written : Written (trailText h r) t
+  pub holds : Sound h r → BodyHolds h (r .kind) (r .body) (explained h r)

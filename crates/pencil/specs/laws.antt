@@ -2,6 +2,7 @@
 pub mod Divided
 pub mod Heads
 pub mod LineLaws
+pub mod Members
 pub mod Only
 pub mod Plates
 pub mod Rules
@@ -10,3 +11,4 @@ pub mod Table
 pub mod TableLaws
 pub mod Told
 pub mod TrailLaws
+pub mod True

@@ -57,7 +57,7 @@ module _ (h : Header) (id : ℕ) (p : Plate) (hr : HeaderRanges h) (named : 1 �
   S = p .spacing .0
 
   -- what is so of a plate of this kind
-  abbrev facts : ℕ → Rule → Facts
+  abbrev pub facts : ℕ → Rule → Facts
   facts kind rule = record { rule = rule; loads = plateLoads h kind p; verdict = plateVerdict h kind p }
 
   abbrev given : ℕ → List ℕ
@@ -248,7 +248,7 @@ module _ (h : Header) (id : ℕ) (p : Plate) (hr : HeaderRanges h) (named : 1 �
         top : (product (1156 * (S * S)) (stress 1)) ≡ ((1156 * (S * S)) * (stress 1))
         top = product-is (1156 * (S * S)) (stress 1) (omega (arith, held, k2-high-1))
 
-        bottom : (product 25 (product (K2 (p .b1 .0) (p .b2 .0)) (K2 (p .b1 .0) (p .b2 .0)))) ≡ (25 * ((K2 (p .b1 .0) (p .b2 .0)) * (K2 (p .b1 .0) (p .b2 .0))))
+        bottom : _≡_ {A = ℕ} (product 25 (product (K2 (p .b1 .0) (p .b2 .0)) (K2 (p .b1 .0) (p .b2 .0)))) (25 * ((K2 (p .b1 .0) (p .b2 .0)) * (K2 (p .b1 .0) (p .b2 .0))))
         bottom = divisor-1
 
         some : 0 < (25 * ((K2 (p .b1 .0) (p .b2 .0)) * (K2 (p .b1 .0) (p .b2 .0))))
@@ -339,7 +339,7 @@ module _ (h : Header) (id : ℕ) (p : Plate) (hr : HeaderRanges h) (named : 1 �
     -- rule 3 of kind 1
     pub third-1 : Section 1 (asked3 h 1 p) (plateThird h 1 p (workOf h 1 p))
     unfolding plateThird shape3 firstShape secondShape
-    third-1 = by-form-1 (isSecond 1 K (stress 1)) refl (says3 (p .b2 .0) (stress 1) (record { spacing-low = pr .spacing-low; spacing-high = pr .spacing-high; b1-low = λ e. omega (arith, pr .b1-low e) }) K)
+    third-1 = by-form-1 (isSecond 1 K (stress 1)) refl (says3 {kind = 1} {S = S} {b1 = p .b1 .0} (p .b2 .0) (stress 1) (record { spacing-low = pr .spacing-low; spacing-high = pr .spacing-high; b1-low = λ e. omega (arith, pr .b1-low e) }) K)
 
   module _ (pr : PlateRanges 2 p) where
     -- what the numbers of rule 3 rest on
@@ -377,7 +377,7 @@ module _ (h : Header) (id : ℕ) (p : Plate) (hr : HeaderRanges h) (named : 1 �
         top : (product (1521 * (S * S)) (stress 2)) ≡ ((1521 * (S * S)) * (stress 2))
         top = product-is (1521 * (S * S)) (stress 2) (omega (arith, held))
 
-        bottom : 100000000 ≡ 100000000
+        bottom : _≡_ {A = ℕ} 100000000 100000000
         bottom = divisor-2
 
         some : 0 < 100000000
@@ -456,7 +456,7 @@ module _ (h : Header) (id : ℕ) (p : Plate) (hr : HeaderRanges h) (named : 1 �
     -- rule 3 of kind 2
     pub third-2 : Section 2 (asked3 h 2 p) (plateThird h 2 p (workOf h 2 p))
     unfolding plateThird shape3 firstShape secondShape
-    third-2 = by-form-2 (isSecond 2 K (stress 2)) refl (says3 (p .b2 .0) (stress 2) (record { spacing-low = pr .spacing-low; spacing-high = pr .spacing-high; b1-low = λ e. omega (arith, pr .b1-low e) }) K)
+    third-2 = by-form-2 (isSecond 2 K (stress 2)) refl (says3 {kind = 2} {S = S} {b1 = p .b1 .0} (p .b2 .0) (stress 2) (record { spacing-low = pr .spacing-low; spacing-high = pr .spacing-high; b1-low = λ e. omega (arith, pr .b1-low e) }) K)
 
   module _ (pr : PlateRanges 3 p) where
     -- what the numbers of rule 3 rest on
@@ -505,7 +505,7 @@ module _ (h : Header) (id : ℕ) (p : Plate) (hr : HeaderRanges h) (named : 1 �
         top : (product (1156 * (S * S)) (stress 3)) ≡ ((1156 * (S * S)) * (stress 3))
         top = product-is (1156 * (S * S)) (stress 3) (omega (arith, held, k2-high-3))
 
-        bottom : (product 25 (product (K2 (p .b1 .0) (p .b2 .0)) (K2 (p .b1 .0) (p .b2 .0)))) ≡ (25 * ((K2 (p .b1 .0) (p .b2 .0)) * (K2 (p .b1 .0) (p .b2 .0))))
+        bottom : _≡_ {A = ℕ} (product 25 (product (K2 (p .b1 .0) (p .b2 .0)) (K2 (p .b1 .0) (p .b2 .0)))) (25 * ((K2 (p .b1 .0) (p .b2 .0)) * (K2 (p .b1 .0) (p .b2 .0))))
         bottom = divisor-3
 
         some : 0 < (25 * ((K2 (p .b1 .0) (p .b2 .0)) * (K2 (p .b1 .0) (p .b2 .0))))
@@ -540,7 +540,7 @@ module _ (h : Header) (id : ℕ) (p : Plate) (hr : HeaderRanges h) (named : 1 �
     -- rule 3 of kind 3
     pub third-3 : Section 3 (asked3 h 3 p) (plateThird h 3 p (workOf h 3 p))
     unfolding plateThird shape3 firstShape
-    third-3 = by-first-3 (ltb ((25 * ((K2 (p .b1 .0) (p .b2 .0)) * (K2 (p .b1 .0) (p .b2 .0)))) * (thickness .high * thickness .high) / (1156 * (S * S))) (stress 3)) refl (says3 (p .b2 .0) (stress 3) (record { spacing-low = pr .spacing-low; spacing-high = pr .spacing-high; b1-low = λ e. omega (arith, pr .b1-low e) }) K)
+    third-3 = by-first-3 (ltb ((25 * ((K2 (p .b1 .0) (p .b2 .0)) * (K2 (p .b1 .0) (p .b2 .0)))) * (thickness .high * thickness .high) / (1156 * (S * S))) (stress 3)) refl (says3 {kind = 3} {S = S} {b1 = p .b1 .0} (p .b2 .0) (stress 3) (record { spacing-low = pr .spacing-low; spacing-high = pr .spacing-high; b1-low = λ e. omega (arith, pr .b1-low e) }) K)
 
   module _ (pr : PlateRanges 4 p) where
     -- what the numbers of rule 3 rest on
@@ -576,7 +576,7 @@ module _ (h : Header) (id : ℕ) (p : Plate) (hr : HeaderRanges h) (named : 1 �
         top : (product (1521 * (S * S)) (stress 4)) ≡ ((1521 * (S * S)) * (stress 4))
         top = product-is (1521 * (S * S)) (stress 4) (omega (arith, held))
 
-        bottom : 100000000 ≡ 100000000
+        bottom : _≡_ {A = ℕ} 100000000 100000000
         bottom = divisor-4
 
         some : 0 < 100000000
@@ -607,4 +607,4 @@ module _ (h : Header) (id : ℕ) (p : Plate) (hr : HeaderRanges h) (named : 1 �
     -- rule 3 of kind 4
     pub third-4 : Section 4 (asked3 h 4 p) (plateThird h 4 p (workOf h 4 p))
     unfolding plateThird shape3 firstShape
-    third-4 = by-first-4 (ltb (100000000 * (thickness .high * thickness .high) / (1521 * (S * S))) (stress 4)) refl (says3 (p .b2 .0) (stress 4) (record { spacing-low = pr .spacing-low; spacing-high = pr .spacing-high; b1-low = λ e. omega (arith, pr .b1-low e) }) K)
+    third-4 = by-first-4 (ltb (100000000 * (thickness .high * thickness .high) / (1521 * (S * S))) (stress 4)) refl (says3 {kind = 4} {S = S} {b1 = p .b1 .0} (p .b2 .0) (stress 4) (record { spacing-low = pr .spacing-low; spacing-high = pr .spacing-high; b1-low = λ e. omega (arith, pr .b1-low e) }) K)
