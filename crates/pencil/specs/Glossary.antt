@@ -403,7 +403,7 @@ None f = (x : ℕ) → 1 ≤ x → x ≤ f .rule .top → f .rule .asks x ≡ fa
 -- at T 4000, the gauge's last, R ≤ 25T²K2²/(1156S²) = 100, remainder 0; behind these words R 101 is above it, so no T of the gauge meets the rule
 abbrev pub limitIs : (a b panel : Term) (between : List ℕ) → Phrase
 limitIs a b panel between = record {
-  words = bytes "at T 4000, the gauge's last, R ≤ " ++ a .words ++ bytes "T²" ++ b .words ++ bytes "/(" ++ panel .words ++ bytes ") = " ++ number reg.limit ++ bytes ", remainder " ++ number reg.limitLeft ++ between ++ bytes "R " ++ number reg.stress ++ bytes " is above it, so no T of the gauge meets the rule";
+  words = bytes "at T 4000, the gauge's last, R ≤ " ++ a .words ++ bytes "T²" ++ b .words ++ bytes "/(" ++ panel .words ++ bytes ")\n  = " ++ number reg.limit ++ bytes ", remainder " ++ number reg.limitLeft ++ between ++ bytes "R " ++ number reg.stress ++ bytes " is above it, so no T of the gauge meets the rule";
   says = λ f r. (f .rule .top ≡ 4000) × Divides (a .value r * b .value r * (4000 * 4000)) (panel .value r) (at r reg.limit) (at r reg.limitLeft) × (at r reg.limit < at r reg.stress) × None f;
 }
 
