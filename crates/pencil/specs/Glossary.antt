@@ -400,10 +400,10 @@ floorUp x = record { words = bytes "rounded up: " ++ bytes x ++ bytes " ≥ " ++
 abbrev pub None : Facts → Type 0
 None f = (x : ℕ) → 1 ≤ x → x ≤ f .rule .top → f .rule .asks x ≡ false
 
--- at T 4000, the gauge's last, R ≤ 25T²K2²/(1156S²) = 100, remainder 0; behind these words R 101 is above it, so no T of the gauge meets the rule
+-- at T 4000, the last: R ≤ 25T²K2²/(1156S²) = 100, remainder 0; behind these words R 101 is above it, so no T of the gauge meets the rule
 abbrev pub limitIs : (a b panel : Term) (between : List ℕ) → Phrase
 limitIs a b panel between = record {
-  words = bytes "at T 4000, the gauge's last, R ≤ " ++ a .words ++ bytes "T²" ++ b .words ++ bytes "/(" ++ panel .words ++ bytes ")\n  = " ++ number reg.limit ++ bytes ", remainder " ++ number reg.limitLeft ++ between ++ bytes "R " ++ number reg.stress ++ bytes " is above it, so no T of the gauge meets the rule";
+  words = bytes "at T 4000, the last: R ≤ " ++ a .words ++ bytes "T²" ++ b .words ++ bytes "/(" ++ panel .words ++ bytes ") = " ++ number reg.limit ++ bytes ", remainder " ++ number reg.limitLeft ++ between ++ bytes "R " ++ number reg.stress ++ bytes " is above it, so no T of the gauge meets the rule";
   says = λ f r. (f .rule .top ≡ 4000) × Divides (a .value r * b .value r * (4000 * 4000)) (panel .value r) (at r reg.limit) (at r reg.limitLeft) × (at r reg.limit < at r reg.stress) × None f;
 }
 
@@ -489,11 +489,11 @@ hasMet mark = record { words = bytes "has " ++ marked mark reg.has ++ bytes ": m
 abbrev pub hasFails : (mark : ℕ) → Phrase
 hasFails mark = record { words = bytes "has " ++ marked mark reg.has ++ bytes ": fails"; says = λ f r. (at r reg.has ≡ f .rule .has) × (f .rule .asks (at r reg.has) ≡ false) }
 
-abbrev pub marginOf : (mark : ℕ) → Phrase
-marginOf mark = record { words = bytes "margin " ++ marked mark reg.margin; says = λ f r. at r reg.has ≡ at r reg.least + at r reg.margin }
+abbrev pub marginOf : Phrase
+marginOf = record { words = bytes "margin " ++ number reg.margin; says = λ f r. at r reg.has ≡ at r reg.least + at r reg.margin }
 
-abbrev pub shortBy : (mark : ℕ) → Phrase
-shortBy mark = record { words = bytes "short by " ++ marked mark reg.margin; says = λ f r. at r reg.least ≡ at r reg.has + at r reg.margin }
+abbrev pub shortBy : Phrase
+shortBy = record { words = bytes "short by " ++ number reg.margin; says = λ f r. at r reg.least ≡ at r reg.has + at r reg.margin }
 
 abbrev pub passes : Phrase
 passes = record { words = bytes "passes"; says = λ f r. f .verdict .rule ≡ 0 }
