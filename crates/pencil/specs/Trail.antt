@@ -67,7 +67,7 @@ headOf kind D0 H twoRuns z zL cargo ballast =
     let above = boolByte (ltb D0 z) in
     let tank = boolByte ballast in
     let onSea = kind ∷ 23 ∷ (9 + above) ∷ above * (11 + boolByte (eqb H 120)) ∷ tank * 13 ∷ tank * (14 + boolByte (ltb (getD own 10 0) (getD own 2 0)))
-        ∷ tank * (16 + boolByte (ltb (getD own 9 0) (getD own 11 0))) ∷ 22 ∷ 0 ∷ [] in
+    ∷ tank * (16 + boolByte (ltb (getD own 9 0) (getD own 11 0))) ∷ 22 ∷ 0 ∷ [] in
     let inner = kind ∷ 23 ∷ 18 ∷ tank * 19 ∷ 22 ∷ 0 ∷ 0 ∷ 0 ∷ 0 ∷ [] in
     let deep = kind ∷ 23 ∷ (20 + boolByte twoRuns) ∷ 22 ∷ 0 ∷ 0 ∷ 0 ∷ 0 ∷ 0 ∷ [] in
     record { lines = cond (leb kind 2) onSea (cond (ltb kind 5) inner (cond (eqb kind 5) onSea deep)); own = own }

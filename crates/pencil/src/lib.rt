@@ -76,13 +76,7 @@ fn put_line(t: u8, given: &[u64; 32], own: &[u64; 32], page: &mut [u8], at: usiz
     wording::fill(&words[start..end], given, own, page, at)
 }
 
-fn put_lines(
-    lines: &[u8],
-    given: &[u64; 32],
-    own: &[u64; 32],
-    page: &mut [u8],
-    at: usize,
-) -> usize
+fn put_lines(lines: &[u8], given: &[u64; 32], own: &[u64; 32], page: &mut [u8], at: usize) -> usize
     ensures { λ r. ⌜ Writes (linePieces (now (given .entry)) (now (own .entry)) (now (lines .entry))) (longest * length (now (lines .entry))) (spot (now (page .entry)) at) (spot (now (page .exit)) r) ⌝ }
 {
     let mut next = at;
@@ -213,15 +207,7 @@ fn try_number(step: u64, t: u64, short: u64) -> Tried
     Tried { x, square }
 }
 
-fn rule_numbers(
-    p: u64,
-    a: u64,
-    per: u64,
-    d: Shape,
-    top: u32,
-    has: u32,
-    more: [u64; 7],
-) -> [u64; 32]
+fn rule_numbers(p: u64, a: u64, per: u64, d: Shape, top: u32, has: u32, more: [u64; 7]) -> [u64; 32]
     ensures { λ r. ⌜ r ≡ ruleNumbers p a per d top has more ⌝ }
 {
     let worked = gauge::worked_in(d, top);
@@ -321,7 +307,15 @@ fn ruled(
     let short = ((has as u64) < least) as u8;
     let result = 77 + 3 * unit + some * (1 + short);
     let lines = [
-        front[0], front[1], front[2], front[3], front[4], front[5], step, result, last,
+        front[0],
+        front[1],
+        front[2],
+        front[3],
+        front[4],
+        front[5],
+        step,
+        result,
+        last,
     ];
     Section { lines, own }
 }
@@ -462,9 +456,45 @@ fn plate_first(h: Header, kind: u8, p: Plate, w: PlateWork) -> Section
     let has = p.thickness.0 as u32;
     let none = [0u64; 7];
     match kind {
-        1 => ruled([24, 0, 0, 0, 0, 0], 65, 0, 0, 9 * n, 1000, per, d, top, has, none),
-        2 => ruled([25, 0, 0, 0, 0, 0], 65, 0, 0, 9 * n, 1000, per, d, top, has, none),
-        _ => ruled([26, 0, 0, 0, 0, 0], 65, 0, 0, 8 * n, 3125, per, d, top, has, none),
+        1 => ruled(
+            [24, 0, 0, 0, 0, 0],
+            65,
+            0,
+            0,
+            9 * n,
+            1000,
+            per,
+            d,
+            top,
+            has,
+            none,
+        ),
+        2 => ruled(
+            [25, 0, 0, 0, 0, 0],
+            65,
+            0,
+            0,
+            9 * n,
+            1000,
+            per,
+            d,
+            top,
+            has,
+            none,
+        ),
+        _ => ruled(
+            [26, 0, 0, 0, 0, 0],
+            65,
+            0,
+            0,
+            8 * n,
+            3125,
+            per,
+            d,
+            top,
+            has,
+            none,
+        ),
     }
 }
 
@@ -480,9 +510,33 @@ fn plate_second(kind: u8, p: Plate, w: PlateWork) -> Section
     let has = p.thickness.0 as u32;
     let none = [0u64; 7];
     if is_long(kind) {
-        return ruled([28, 0, 0, 0, 0, 0], 68, 0, 0, long, 625000000000, 0, d, top, has, none);
+        return ruled(
+            [28, 0, 0, 0, 0, 0],
+            68,
+            0,
+            0,
+            long,
+            625000000000,
+            0,
+            d,
+            top,
+            has,
+            none,
+        );
     }
-    ruled([27, 0, 0, 0, 0, 0], 68, 0, 0, n, 39062500000, 0, d, top, has, none)
+    ruled(
+        [27, 0, 0, 0, 0, 0],
+        68,
+        0,
+        0,
+        n,
+        39062500000,
+        0,
+        d,
+        top,
+        has,
+        none,
+    )
 }
 
 // The lines of rule 3: up to R, K2, the fork and the form.
@@ -520,7 +574,11 @@ fn form_of(long: bool, second: bool, spacing: Spacing, factor: SteelFactor, k2: 
     if second {
         if long {
             let a = times(10, left);
-            return Form { p: 1681 * n, a, panel: long_panel };
+            return Form {
+                p: 1681 * n,
+                a,
+                panel: long_panel,
+            };
         }
         let p = times(504100000, n);
         let a = times(side, left);
@@ -528,7 +586,11 @@ fn form_of(long: bool, second: bool, spacing: Spacing, factor: SteelFactor, k2: 
     }
     if long {
         let p = times(long_panel, r);
-        return Form { p, a: 100000000, panel: long_panel };
+        return Form {
+            p,
+            a: 100000000,
+            panel: long_panel,
+        };
     }
     let p = times(panel, r);
     let a = times(25, side);
@@ -550,10 +612,30 @@ fn plate_third(h: Header, kind: u8, p: Plate, w: PlateWork) -> Section
     let form = form_of(is_long(kind), w.is_second, p.spacing, p.factor, w.k2, r);
     let limit = divide(times(form.a, 16000000), form.panel);
     let front = bending_lines(kind, h.version, side.whole, w.is_second, parts.never);
-    let more = [ratio.whole, ratio.left, side.whole, side.left, fork, limit.whole, limit.left];
+    let more = [
+        ratio.whole,
+        ratio.left,
+        side.whole,
+        side.left,
+        fork,
+        limit.whole,
+        limit.left,
+    ];
     let top = Thickness::HIGH as u32;
     let has = p.thickness.0 as u32;
-    ruled(front, 68, 0, verdict_line(verdict), form.p, form.a, 0, d, top, has, more)
+    ruled(
+        front,
+        68,
+        0,
+        verdict_line(verdict),
+        form.p,
+        form.a,
+        0,
+        d,
+        top,
+        has,
+        more,
+    )
 }
 
 // ---- rules 4, 5 and 6
@@ -571,11 +653,35 @@ fn member_first(h: Header, kind: u8, m: Member, w: MemberWork) -> Section
     let none = [0u64; 7];
     if 6 <= kind {
         let p = times(8 * l2, k);
-        return ruled([53, 0, 0, 0, 0, 0], 65, 0, 0, p, 3125, per, d, top, has, none);
+        return ruled(
+            [53, 0, 0, 0, 0, 0],
+            65,
+            0,
+            0,
+            p,
+            3125,
+            per,
+            d,
+            top,
+            has,
+            none,
+        );
     }
     if h.length.0 < 12000 {
         let p = times(l2, k);
-        return ruled([51, 0, 0, 0, 0, 0], 65, 0, 0, p, 6250, per, d, top, has, none);
+        return ruled(
+            [51, 0, 0, 0, 0, 0],
+            65,
+            0,
+            0,
+            p,
+            6250,
+            per,
+            d,
+            top,
+            has,
+            none,
+        );
     }
     let p = times(15210, k);
     ruled([52, 0, 0, 0, 0, 0], 65, 0, 0, p, 1, per, d, top, has, none)
@@ -598,15 +704,51 @@ fn member_second(kind: u8, m: Member, w: MemberWork) -> Section
     if kind < 6 {
         let p = times(times(833 * plain * eta, q), l2);
         let a = 100000000000 * cut(214, m.stress as u64);
-        return ruled([54, 57 + never, 0, 0, 0, 0], 0, 1, 0, p, a, 0, d, Modulus::HIGH, has, more);
+        return ruled(
+            [54, 57 + never, 0, 0, 0, 0],
+            0,
+            1,
+            0,
+            p,
+            a,
+            0,
+            d,
+            Modulus::HIGH,
+            has,
+            more,
+        );
     }
     if kind < 8 {
         let p = times(times(29 * plain, q), l2);
-        return ruled([56, 59, 0, 0, 0, 0], 0, 1, 0, p, 5000000000, 0, d, Modulus::HIGH, has, more);
+        return ruled(
+            [56, 59, 0, 0, 0, 0],
+            0,
+            1,
+            0,
+            p,
+            5000000000,
+            0,
+            d,
+            Modulus::HIGH,
+            has,
+            more,
+        );
     }
     let p = times(times(25 * plain * eta, q), l2);
     let a = 2000000000 * cut(197, m.stress as u64);
-    ruled([55, 58 + never, 0, 0, 0, 0], 0, 1, 0, p, a, 0, d, Modulus::HIGH, has, more)
+    ruled(
+        [55, 58 + never, 0, 0, 0, 0],
+        0,
+        1,
+        0,
+        p,
+        a,
+        0,
+        d,
+        Modulus::HIGH,
+        has,
+        more,
+    )
 }
 
 fn member_third(kind: u8, m: Member, w: MemberWork) -> Section
@@ -623,14 +765,50 @@ fn member_third(kind: u8, m: Member, w: MemberWork) -> Section
     let shear = m.shear as u64;
     if kind < 6 {
         let p = times(times(9 * shear * m.eta as u64, q), l);
-        return ruled([62, 0, 0, 0, 0, 0], 0, 2, last, p, 2000000000, 0, d, top, has, none);
+        return ruled(
+            [62, 0, 0, 0, 0, 0],
+            0,
+            2,
+            last,
+            p,
+            2000000000,
+            0,
+            d,
+            top,
+            has,
+            none,
+        );
     }
     if kind < 8 {
         let p = times(times(9 * shear, q), l);
-        return ruled([63, 0, 0, 0, 0, 0], 0, 2, last, p, 20000000, 0, d, top, has, none);
+        return ruled(
+            [63, 0, 0, 0, 0, 0],
+            0,
+            2,
+            last,
+            p,
+            20000000,
+            0,
+            d,
+            top,
+            has,
+            none,
+        );
     }
     let p = times(times(7 * shear, q), l);
-    ruled([64, 0, 0, 0, 0, 0], 0, 2, last, p, 12500000, 0, d, top, has, none)
+    ruled(
+        [64, 0, 0, 0, 0, 0],
+        0,
+        2,
+        last,
+        p,
+        12500000,
+        0,
+        d,
+        top,
+        has,
+        none,
+    )
 }
 
 // ---- the whole
@@ -677,12 +855,25 @@ fn plate_work(h: Header, kind: u8, id: u16, p: Plate, w: PlateWork) -> Work
         0,
     ];
     let head = head_of(
-        kind, h.draught, h.wave, h.two_runs, p.z, p.tank_top, p.cargo, p.ballast,
+        kind,
+        h.draught,
+        h.wave,
+        h.two_runs,
+        p.z,
+        p.tank_top,
+        p.cargo,
+        p.ballast,
     );
     let one = plate_first(h, kind, p, w);
     let two = plate_second(kind, p, w);
     let three = plate_third(h, kind, p, w);
-    Work { given, head, one, two, three }
+    Work {
+        given,
+        head,
+        one,
+        two,
+        three,
+    }
 }
 
 fn member_work(h: Header, kind: u8, id: u16, m: Member, w: MemberWork) -> Work
@@ -730,7 +921,13 @@ fn member_work(h: Header, kind: u8, id: u16, m: Member, w: MemberWork) -> Work
     let one = member_first(h, kind, m, w);
     let two = member_second(kind, m, w);
     let three = member_third(kind, m, w);
-    Work { given, head, one, two, three }
+    Work {
+        given,
+        head,
+        one,
+        two,
+        three,
+    }
 }
 
 fn refused(r: Refusal) -> Work
@@ -744,7 +941,13 @@ fn refused(r: Refusal) -> Work
     let head = Section { lines, own };
     let lines = [0u8; 9];
     let none = Section { lines, own };
-    Work { given, head, one: none, two: none, three: none }
+    Work {
+        given,
+        head,
+        one: none,
+        two: none,
+        three: none,
+    }
 }
 
 fn plate_explained(h: Header, kind: u8, id: u16, p: Plate) -> Work

@@ -103,13 +103,7 @@ fn mark_behind(mark: u8, byte: u8) -> u8
 }
 
 // The words with the registers that they name.
-pub fn fill(
-    words: &[u8],
-    given: &[u64; 32],
-    own: &[u64; 32],
-    page: &mut [u8],
-    at: usize,
-) -> usize
+pub fn fill(words: &[u8], given: &[u64; 32], own: &[u64; 32], page: &mut [u8], at: usize) -> usize
     ensures { λ r. ⌜ Writes (pieces (now (given .entry)) (now (own .entry)) 0 (now (words .entry))) (most 0 (now (words .entry))) (spot (now (page .entry)) at) (spot (now (page .exit)) r) ⌝ }
 {
     let mut next = at;

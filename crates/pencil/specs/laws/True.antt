@@ -41,7 +41,6 @@ use Rattle.pencil.specs.laws.Members as members
 -- ---- a plate
 
 module _ (h : Header) (id : ℕ) (p : Plate) (hr : HeaderRanges h) (named : 1 ≤ h .version) where
-
   plate-1 : PlateRanges 1 p → BodyHolds h 1 (isPlate p) (plateTrail h 1 id p (plateWork h 1 p))
   unfolding says templates loadNumbers headOf plateTrail
   plate-1 pr =
@@ -97,7 +96,6 @@ module _ (h : Header) (id : ℕ) (p : Plate) (hr : HeaderRanges h) (named : 1 �
 -- ---- a member
 
 module _ (h : Header) (id : ℕ) (m : Member) (hr : HeaderRanges h) (steel : 500 ≤ m .factor .0) where
-
   member-5 : MemberRanges 5 m → BodyHolds h 5 (isMember m) (memberTrail h 5 id m (memberWork h 5 m))
   unfolding says templates loadNumbers headOf memberTrail
   member-5 mr =
