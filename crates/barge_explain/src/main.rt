@@ -1,5 +1,5 @@
-// The surveyor's program: the trail of each member of the sheet on standard input, an empty line between two of them, or of the one whose id is the first
-// word. Of a sheet that is turned away it prints the refusal, and where no member has the id nothing.
+// The surveyor's program: which letters are which, and then, each behind an empty line, the trail of each member of the sheet on standard input, or of the one
+// whose id is the first word. Of a sheet that is turned away it prints the refusal, and where no member has the id nothing.
 use decimal::Number;
 use libc::STDIN_FILENO;
 use libc::STDOUT_FILENO;
@@ -68,9 +68,10 @@ fn print_record(h: Header, records: &[u8], i: u16, asked: u32, begun: bool) -> b
             if !is_wanted(asked, r.id) {
                 return begun;
             }
-            if begun {
-                io::write_all(STDOUT_FILENO, b"\n");
+            if !begun {
+                io::write_all(STDOUT_FILENO, &pencil::head());
             }
+            io::write_all(STDOUT_FILENO, b"\n");
             print_trail(h, r);
             true
         }

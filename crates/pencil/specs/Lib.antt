@@ -1,7 +1,7 @@
-pub mod Page
-pub mod Head
-pub mod Plates
-pub mod Members
-pub mod Steps
+pub mod Registers
+pub mod Glossary
+pub mod Templates
+pub mod Numbers
 pub mod Trail
+pub mod Code
 pub mod laws

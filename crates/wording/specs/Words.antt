@@ -2,9 +2,9 @@
 use Prim.Native.Nat.{ℕ, _+_, _/_, _%_}
 use Prim.Native.Char.{code}
 use Prim.Native.String.{String, [] as end, _∷_ as _and_}
-use mathlib.Core.Bool.{Bool, cond}
+use mathlib.Core.Bool.{Bool, _&&_, cond}
 use mathlib.Core.List.{List, [], _∷_, _++_}
-use lib.ListN.{drop}
+use lib.ListN.{getD}
 use lib.Dec.{leb, ltb, eqb}
 use Rattle.decimal.specs.Decimal.{decimalOf}
 
@@ -23,9 +23,9 @@ bytes (c and s) = utf8 (code c) ++ bytes s
 
 -- ---- marks
 
--- # a number, $ a thickness, % a modulus, & an area, @ a scantling, whose own mark is given beside the words
+-- # a number, $ a thickness, % a modulus, & an area; the letter behind it names the register
 abbrev pub isMark : ℕ → Bool
-isMark b = cond (leb b 38) (leb 35 b) (eqb b 64)
+isMark b = leb 35 b && leb b 38
 
 -- a number of hundredths, as it is and with the point, and then its unit
 abbrev pub hundredths : ℕ → List ℕ → List (List ℕ)
@@ -42,31 +42,34 @@ shown mark n =
     cond (eqb mark 36) (hundredths n (bytes " mm)"))
     (cond (eqb mark 37) (tenths n (bytes " cm³)")) (cond (eqb mark 38) (hundredths n (bytes " cm²)")) ((decimalOf n ++ []) ∷ [])))
 
--- what a byte of the words becomes, n being the number at hand: a mark the number, any other itself
-unfoldable pub pieceOf : (unit b n : ℕ) → List (List ℕ)
-pieceOf unit b n = cond (isMark b) (shown (cond (eqb b 64) unit b) n) ((b ∷ []) ∷ [])
+-- the register that a byte names, by its last five bits: below 96, where the capitals are, one of the given numbers, and else one of the section's own
+abbrev pub named : (given own : List ℕ) (b : ℕ) → ℕ
+named given own b = cond (ltb b 96) (getD given (b % 32) 0) (getD own (b % 32) 0)
 
--- the number at hand, 0 where there is none
-abbrev pub headOf : List ℕ → ℕ
-headOf [] = 0
-headOf (n ∷ ns) = n
+-- what a byte of the words becomes: behind a mark it names a register, a mark becomes nothing, any other byte itself
+unfoldable pub pieceOf : (given own : List ℕ) (mark b : ℕ) → List (List ℕ)
+pieceOf given own mark b = cond (eqb mark 0) (cond (isMark b) [] ((b ∷ []) ∷ [])) (shown mark (named given own b))
 
--- the numbers that are left behind a byte
-abbrev pub leftOf : ℕ → List ℕ → List ℕ
-leftOf b ns = cond (isMark b) (drop 1 ns) ns
+-- the mark that the next byte stands behind, 0 where it stands behind none
+abbrev pub behind : (mark b : ℕ) → ℕ
+behind mark b = cond (eqb mark 0) (cond (isMark b) b 0) 0
 
--- the words with a number for each mark, in their order
-unfoldable pub pieces : (unit : ℕ) (words numbers : List ℕ) → List (List ℕ)
-pieces unit [] ns = []
-pieces unit (b ∷ w) ns = pieceOf unit b (headOf ns) ++ pieces unit w (leftOf b ns)
+-- the words with the registers that they name
+unfoldable pub pieces : (given own : List ℕ) (mark : ℕ) (words : List ℕ) → List (List ℕ)
+pieces given own mark [] = []
+pieces given own mark (b ∷ w) = pieceOf given own mark b ++ pieces given own (behind mark b) w
 
 -- ---- how long it can be
 
--- the longest text of a mark: four numbers of twenty digits, and what stands between and behind them
-abbrev pub longestMark : ℕ
-longestMark = 96
+-- the longest text of a mark: a number of twenty digits, or four, and what stands between and behind them
+abbrev pub longestMark : ℕ → ℕ
+longestMark mark = cond (eqb mark 35) 20 96
+
+-- the longest text of a byte
+abbrev pub roomOf : ℕ → ℕ
+roomOf mark = cond (eqb mark 0) 1 (longestMark mark)
 
 -- the longest text of words
-unfoldable pub most : List ℕ → ℕ
-most [] = 0
-most (b ∷ w) = cond (isMark b) longestMark 1 + most w
+unfoldable pub most : (mark : ℕ) (words : List ℕ) → ℕ
+most mark [] = 0
+most mark (b ∷ w) = roomOf mark + most (behind mark b) w

@@ -2,12 +2,10 @@
 // look at the page first.
 ghost use Prim.Native.Nat.{_+_, _*_};
 ghost use mathlib.Core.Path.{_≡_};
-ghost use mathlib.Core.Bool.{cond};
 ghost use mathlib.Core.List.{[], _∷_, _++_};
-ghost use lib.ListN.{length, drop};
-ghost use lib.Dec.{eqb};
+ghost use lib.ListN.{length};
 ghost use Rattle.decimal.specs.Decimal.{decimalOf};
-ghost use Rattle.wording.specs.Words.{isMark as isMarkOf, headOf, hundredths as hundredthsOf, tenths as tenthsOf, shown, pieceOf, pieces, longestMark, most};
+ghost use Rattle.wording.specs.Words.{isMark as isMarkOf, hundredths as hundredthsOf, tenths as tenthsOf, shown, named, pieceOf, behind, pieces, longestMark, roomOf, most};
 ghost use Rattle.wording.specs.Writes.{Writes, spot, numberMost};
 
 // A text behind what the page has before `at`.
@@ -49,7 +47,7 @@ fn put_tenths(n: u64, unit: &[u8], page: &mut [u8], at: usize) -> usize
 
 // A number as its mark says.
 fn put_mark(mark: u8, n: u64, page: &mut [u8], at: usize) -> usize
-    ensures { λ r. ⌜ Writes (shown mark n) longestMark (spot (now (page .entry)) at) (spot (now (page .exit)) r) ⌝ }
+    ensures { λ r. ⌜ Writes (shown mark n) (longestMark mark) (spot (now (page .entry)) at) (spot (now (page .exit)) r) ⌝ }
 {
     match mark {
         36 => put_hundredths(n, b" mm)", page, at),
@@ -62,54 +60,59 @@ fn put_mark(mark: u8, n: u64, page: &mut [u8], at: usize) -> usize
 fn is_mark(byte: u8) -> bool
     ensures { λ r. ⌜ r ≡ isMarkOf byte ⌝ }
 {
-    if byte <= 38 {
-        return 35 <= byte;
+    35 <= byte && byte <= 38
+}
+
+// The register that a byte names, by its last five bits, so that every byte names one.
+fn register(byte: u8, given: &[u64; 32], own: &[u64; 32]) -> u64
+    ensures { λ r. ⌜ r ≡ named (now (given .entry)) (now (own .entry)) byte ⌝ }
+{
+    let k = (byte % 32) as usize;
+    if byte < 96 { given[k] } else { own[k] }
+}
+
+// A byte of the words. Behind a mark it names a register; a mark writes nothing itself.
+fn put_byte(
+    mark: u8,
+    byte: u8,
+    given: &[u64; 32],
+    own: &[u64; 32],
+    page: &mut [u8],
+    at: usize,
+) -> usize
+    ensures { λ r. ⌜ Writes (pieceOf (now (given .entry)) (now (own .entry)) mark byte) (roomOf mark) (spot (now (page .entry)) at) (spot (now (page .exit)) r) ⌝ }
+{
+    if mark != 0 {
+        let n = register(byte, given, own);
+        return put_mark(mark, n, page, at);
     }
-    byte == 64
-}
-
-// Of a scantling the mark of its unit.
-fn own_mark(mark: u8, unit: u8) -> u8
-    ensures { λ r. ⌜ r ≡ cond (eqb mark 64) unit mark ⌝ }
-{
-    if mark == 64 { unit } else { mark }
-}
-
-// A byte of the words, n being the number at hand.
-fn put_byte(byte: u8, n: u64, unit: u8, page: &mut [u8], at: usize) -> usize
-    ensures { λ r. ⌜ Writes (pieceOf unit byte n) (cond (isMarkOf byte) longestMark 1) (spot (now (page .entry)) at) (spot (now (page .exit)) r) ⌝ }
-{
     if is_mark(byte) {
-        return put_mark(own_mark(byte, unit), n, page, at);
+        return at;
     }
     put_text(&[byte], page, at)
 }
 
-// The number at hand, 0 where there is none.
-fn number_at(numbers: &[u64], k: usize) -> u64
-    ensures { λ r. ⌜ r ≡ headOf (drop k (now (numbers .entry))) ⌝ }
+// The mark that the next byte stands behind, 0 where it stands behind none.
+fn mark_behind(mark: u8, byte: u8) -> u8
+    ensures { λ r. ⌜ r ≡ behind mark byte ⌝ }
 {
-    if k < numbers.len() { numbers[k] } else { 0 }
+    if mark != 0 {
+        return 0;
+    }
+    if is_mark(byte) { byte } else { 0 }
 }
 
-// One number is used up by a mark, and none by any other byte.
-fn used(byte: u8) -> usize
-    ensures { λ r. ⌜ r ≡ cond (isMarkOf byte) 1 0 ⌝ }
-{
-    if is_mark(byte) { 1 } else { 0 }
-}
-
-// The words with a number for each mark, in their order.
-pub fn fill(words: &[u8], numbers: &[u64], unit: u8, page: &mut [u8], at: usize) -> usize
-    ensures { λ r. ⌜ Writes (pieces unit (now (words .entry)) (now (numbers .entry))) (most (now (words .entry))) (spot (now (page .entry)) at) (spot (now (page .exit)) r) ⌝ }
+// The words with the registers that they name.
+pub fn fill(words: &[u8], given: &[u64; 32], own: &[u64; 32], page: &mut [u8], at: usize) -> usize
+    ensures { λ r. ⌜ Writes (pieces (now (given .entry)) (now (own .entry)) 0 (now (words .entry))) (most 0 (now (words .entry))) (spot (now (page .entry)) at) (spot (now (page .exit)) r) ⌝ }
 {
     let mut next = at;
-    let mut k: usize = 0;
+    let mut mark: u8 = 0;
     let mut i: usize = 0;
     while i < words.len() {
         let byte = words[i];
-        next = put_byte(byte, number_at(numbers, k), unit, page, next);
-        k += used(byte);
+        next = put_byte(mark, byte, given, own, page, next);
+        mark = mark_behind(mark, byte);
         i += 1;
     }
     next

@@ -40,4 +40,4 @@ sized s (notRead r) e = tt
 pub trail-inside : (h : Header) (r : Record) (t : Trail) → Trails h r t → t .len ≤ length (t .bytes)
 trail-inside h r t w =
     let rest : List ℕ = replicate (roomOf - length (trailText h r)) 0 in
-    omega (arith, w .len, ap length (w .bytes), length-append (trailText h r) rest)
+    omega (arith, w .written .len, ap length (w .written .bytes), length-append (trailText h r) rest)

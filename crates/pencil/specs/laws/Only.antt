@@ -1,4 +1,4 @@
--- Two trails that meet the promise of `trail_of` are equal.
+-- Two trails that meet the promise of `trail_of` are equal; the head's promise is an equation.
 -- Assumes nothing.
 use Prim.Native.Nat.{ℕ}
 use mathlib.Core.Path.{_≡_, sym, ap₂, _∙_}
@@ -9,4 +9,5 @@ use Rattle.pencil.specs.declared.Trail.{Trail}
 use Rattle.pencil.specs.Trail.{Trails}
 
 pub trail-only : (h : Header) (r : Record) (t u : Trail) → Trails h r t → Trails h r u → t ≡ u
-trail-only h r t u f g = ap₂ {C = Trail} (λ (b : List ℕ) (n : ℕ). record { bytes = b; len = n }) (f .bytes ∙ sym (g .bytes)) (f .len ∙ sym (g .len))
+trail-only h r t u f g =
+    ap₂ {C = Trail} (λ (b : List ℕ) (n : ℕ). record { bytes = b; len = n }) (f .written .bytes ∙ sym (g .written .bytes)) (f .written .len ∙ sym (g .written .len))

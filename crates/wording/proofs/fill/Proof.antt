@@ -1,33 +1,23 @@
--- `wording::fill` meets its contract. The loop's invariant: what is left of the words, with the numbers that are left, gives the whole.
+-- `wording::fill` meets its contract. The loop's invariant: what is left of the words, behind the mark at hand, gives the whole.
 -- Assumes nothing.
 use borrow.Author.Needs.{needs}
-use Prim.Native.Nat.{_-_, _≤_}
-use native.Mathlib.Omega.{arith}
-use denote.Ref.{now}
-use lib.ListN.{length, getD}
-use Rattle.wording.specs.Words.{isMark}
-use Rattle.wording.specs.laws.PiecesLaws.{Filling, begin, turn, done, at-most-one}
+use Prim.Native.Nat.{_-_}
+use lib.ListN.{length}
+use Rattle.wording.specs.laws.PiecesLaws.{Filling, begin, turn, done}
 use Rattle.wording.proofs.fill.Statement.{statement}
 use Rattle.wording.proofs.fill.Tie as tie
 
 abbrev Inv-loop : tie.InvT-loop
-Inv-loop words numbers unit page₀ at next₀ k₀ i₀ page next k i = Filling unit words numbers page₀ at page next k i
+Inv-loop words given own page₀ at next₀ mark₀ i₀ page next mark i = Filling words given own page₀ at page next mark i
 
 abbrev μ-loop : tie.MeasureT-loop
-μ-loop words numbers unit page₀ at next₀ k₀ i₀ page next k i = length words - i
-
-add-k : tie.Need-add-k Inv-loop μ-loop
-add-k c =
-    let a = c .before .before .before .before .before .before .before .before in
-    let words = now (a .before .before .before .before .args .words) in
-    let one : c .used .result ≤ 1 = rw (c .used .ensures) (at-most-one (isMark (getD words (a .loop .i) 0))) in
-    omega (arith, a .loop .inv .few)
+μ-loop words given own page₀ at next₀ mark₀ i₀ page next mark i = length words - i
 
 loop-again : tie.Need-loop-again Inv-loop μ-loop
 loop-again c =
     let b = c .before .before .before in
-    let l = b .before .before .before .before in
-    turn (l .before .loop .inv) (l .loop-test .taken) (c .used .ensures) (rw (b .before .before .number-at .ensures) at (b .put-byte .ensures))
+    let l = b .before .before .before in
+    turn (l .before .loop .inv) (l .loop-test .taken) (c .mark-behind .ensures) (b .put-byte .ensures)
 
 pub fill-spec : {M : Type 1} → statement M
 fill-spec =
@@ -39,8 +29,6 @@ fill-spec =
     (λ c. search needs)
     (λ c κs. search needs)
     (λ c κs. search needs)
-    (λ c κs. search needs)
-    add-k
     (λ c. search needs)
     (λ c. search needs)
     loop-again
