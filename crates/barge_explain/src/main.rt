@@ -1,17 +1,15 @@
 // The surveyor's program: which letters are which, and then, each behind an empty line, the trail of each member of the sheet on standard input, or of the one
 // whose id is the first word. Of a sheet that is turned away it prints the refusal, and where no member has the id nothing.
+use console::Read;
 use decimal::Number;
-use libc::STDIN_FILENO;
 use libc::STDOUT_FILENO;
-use report::Told;
 use sheet::ENOUGH;
 use sheet::Header;
 use sheet::HeaderRead;
 use sheet::Record;
 use sheet::RecordRead;
-use sheet::Refusal;
 ghost use mathlib.Core.Path.{_≡_};
-ghost use mathlib.Core.List.{List};
+ghost use mathlib.Core.List.{List, [], _∷_};
 ghost use mathlib.Core.Bool.{_||_};
 ghost use Prim.Native.Nat.{ℕ, _+_, _*_, _≤_};
 ghost use lib.ListN.{length, take};
@@ -20,10 +18,15 @@ ghost use Rattle.sheet.specs.Refusals.{toldHeader, toldRecord};
 ghost use Rattle.checker.specs.Check.{recordOf, sheetSize};
 ghost use Rattle.checker.specs.Unjudged.{soundHeader};
 ghost use Rattle.sheet.specs.Versions.{enough};
-ghost use Rattle.barge_explain.specs.Explain.{Sized};
+ghost use Rattle.wording.specs.Writes.{Writes, spot};
+ghost use Rattle.pencil.specs.Trail.{trailText, room as trailRoom};
+ghost use Rattle.barge_explain.specs.Explain.{Sized, leadPieces, pieceOf, Prints};
 
 // Where the word stands.
 const ID: usize = 1;
+
+// Room for the head, an empty line and a trail.
+const ROOM: usize = 26528;
 
 // The header of an input, from the bytes that were read of it, or why it is turned away.
 fn header_of(buffer: &[u8], got: usize) -> HeaderRead
@@ -50,32 +53,76 @@ fn is_wanted(asked: u32, id: u16) -> bool
     asked == 0 || asked == id as u32
 }
 
-fn print_trail(h: Header, r: Record) {
+// What is printed of a record.
+struct Piece {
+    bytes: [u8; ROOM],
+    len: usize,
+    // whether anything has been printed then
+    begun: bool,
+}
+
+// What stands before a trail: the head and an empty line before the first, an empty line before each other.
+fn put_lead(begun: bool, page: &mut [u8]) -> usize
+    ensures { λ r. ⌜ Writes (leadPieces begun) 1184 (spot (now (page .entry)) 0) (spot (now (page .exit)) r) ⌝ }
+{
+    if begun {
+        return wording::put_text(b"\n", page, 0);
+    }
+    let head = pencil::head();
+    let at = wording::put_text(&head, page, 0);
+    wording::put_text(b"\n", page, at)
+}
+
+fn put_trail(h: Header, r: Record, page: &mut [u8], at: usize) -> usize
+    ensures { λ n. ⌜ Writes (trailText h r ∷ []) trailRoom (spot (now (page .entry)) at) (spot (now (page .exit)) n) ⌝ }
+{
     let trail = pencil::trail_of(h, r);
     let len = trail.len;
     let bytes = trail.bytes;
-    io::write_all(STDOUT_FILENO, &bytes[..len]);
+    wording::put_text(&bytes[..len], page, at)
 }
 
-// Record i, if it is wanted; whether anything has been printed.
+// What is to be printed of record i.
+fn piece_of(h: Header, records: &[u8], i: u16, asked: u32, begun: bool) -> Piece
+    requires { ⌜ 16 * i + 16 ≤ length (now records) ⌝ }
+    ensures { λ p. ⌜ Prints (pieceOf h asked begun (recordOf (now (records .entry)) i)) p ⌝ }
+{
+    let mut bytes = [0u8; ROOM];
+    let read = record_at(records, i);
+    match read {
+        RecordRead::Refused(_) => Piece {
+            bytes,
+            len: 0,
+            begun,
+        },
+        RecordRead::Good(r) => {
+            if !is_wanted(asked, r.id) {
+                return Piece {
+                    bytes,
+                    len: 0,
+                    begun,
+                };
+            }
+            let at = put_lead(begun, &mut bytes);
+            let len = put_trail(h, r, &mut bytes, at);
+            Piece {
+                bytes,
+                len,
+                begun: true,
+            }
+        }
+    }
+}
+
+// Prints it; whether anything has been printed.
 fn print_record(h: Header, records: &[u8], i: u16, asked: u32, begun: bool) -> bool
     requires { ⌜ 16 * i + 16 ≤ length (now records) ⌝ }
 {
-    let read = record_at(records, i);
-    match read {
-        RecordRead::Refused(_) => begun,
-        RecordRead::Good(r) => {
-            if !is_wanted(asked, r.id) {
-                return begun;
-            }
-            if !begun {
-                io::write_all(STDOUT_FILENO, &pencil::head());
-            }
-            io::write_all(STDOUT_FILENO, b"\n");
-            print_trail(h, r);
-            true
-        }
-    }
+    let piece = piece_of(h, records, i, asked, begun);
+    let len = piece.len;
+    let bytes = piece.bytes;
+    io::write_all(STDOUT_FILENO, &bytes[..len]);
+    piece.begun
 }
 
 fn print_trails(h: Header, records: &[u8], asked: u32)
@@ -87,17 +134,6 @@ fn print_trails(h: Header, records: &[u8], asked: u32)
     while i < n {
         begun = print_record(h, records, i, asked, begun);
         i += 1;
-    }
-}
-
-fn print_refusal(r: Refusal) {
-    let mut text = [0u8; 22];
-    let told = report::write_refusal(r, &mut text);
-    match told {
-        Told::Length(len) => {
-            io::write_all(STDOUT_FILENO, &text[..len]);
-        }
-        Told::Refused(_) => {}
     }
 }
 
@@ -131,12 +167,25 @@ fn explain(h: Header, sheet: &[u8])
     print_trails(h, &sheet[size..], asked_id());
 }
 
+// The trails, or the refusal, with a word on a text that was handed over for a sheet.
+fn tell(sheet: &[u8], got: usize)
+    requires { ⌜ (enough ≤ length (now sheet)) × (got ≤ length (now sheet)) ⌝ }
+{
+    let read = header_of(sheet, got);
+    match read {
+        HeaderRead::Good(h) => explain(h, &sheet[..got]),
+        HeaderRead::Refused(r) => {
+            report::print_refusal(STDOUT_FILENO, r);
+            console::hint(sheet);
+        }
+    }
+}
+
 fn main() {
     let mut sheet = [0u8; ENOUGH];
-    let got = io::read_full(STDIN_FILENO, &mut sheet);
-    let read = header_of(&sheet, got);
+    let read = console::load(&mut sheet);
     match read {
-        HeaderRead::Refused(r) => print_refusal(r),
-        HeaderRead::Good(h) => explain(h, &sheet[..got]),
+        Read::Failed => {}
+        Read::Got(got) => tell(&sheet, got),
     }
 }

@@ -1,4 +1,5 @@
 -- What is proved of the definitions.
+pub mod Cases
 pub mod Divided
 pub mod Heads
 pub mod LineLaws
