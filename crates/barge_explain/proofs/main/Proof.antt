@@ -1,19 +1,18 @@
--- `barge_explain::main` is safe and ends: a sheet that is not turned away has the bytes that its header says.
+-- `barge_explain::main` is safe and ends: as many bytes are looked at as were read.
 -- Assumes nothing.
 use borrow.Author.Needs.{needs}
-use mathlib.Core.Path.{sym, subst, _∙_}
-use lib.Seq.{length-take-le}
-use Rattle.sheet.specs.declared.HeaderRead.{HeaderRead}
-use Rattle.barge_explain.specs.Explain.{Sized}
+use Prim.Native.Nat.{_≤_}
+use mathlib.Core.Path.{subst}
+use native.Mathlib.Omega.{arith}
+use lib.ListN.{length}
+use Rattle.console.specs.declared.Read.{Read}
+use Rattle.console.specs.Console.{Loaded}
 use Rattle.barge_explain.proofs.main.Statement.{statement}
 use Rattle.barge_explain.proofs.main.Tie as tie
 
-explain-requires : tie.Need-explain-requires
-explain-requires c κs =
-    let found = c .before .before in
-    let h = found .before .before in
-    let got = h .before .before .before .read-full .result in
-    subst (λ (r : HeaderRead). Sized r got) (found .read2 .given .1) (h .header-of .ensures .1) ∙ sym (length-take-le _ _ (search needs))
+-- no more was read than the space has
+inside : (c : tie.After-read) → c .read .given .0 .0 ≤ length (c .before .before .before .load .last .0)
+inside c = let l = c .before .before .before in subst (λ (r : Read). Loaded r (l .load .last .0)) (c .read .given .1) (l .load .ensures)
 
 pub main-spec : {M : Type 1} → statement M
 main-spec =
@@ -22,12 +21,8 @@ main-spec =
     (λ c. search needs)
     (λ c κs. search needs)
     (λ c. search needs)
-    (λ c κs. search needs)
-    (λ c. search needs)
-    (λ c κs. search needs)
     (λ c. search needs)
     (λ c. search needs)
-    (λ c. search needs)
-    explain-requires
+    (λ c κs. (omega arith, omega (arith, inside (c .before .before))))
     (λ c. search needs)
     (λ c. search needs))
