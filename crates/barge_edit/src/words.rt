@@ -71,7 +71,7 @@ fn miscounted(kind: u32, given: usize) {
     if 8 < kind {
         return;
     }
-    if kind < 5 {
+    if kind <= 4 {
         console::say_number(
             b"a plate (kinds 1 to 4) takes 11 numbers, and here are ",
             given,
