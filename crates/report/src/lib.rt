@@ -154,7 +154,7 @@ pub fn write_refusal(r: Refusal, text: &mut [u8]) -> Told
 
 // The same written to a descriptor.
 pub fn print_refusal(fd: i32, r: Refusal) {
-    let mut bytes = [0u8; REFUSAL];
-    let len = put_refusal(&mut bytes, r);
-    io::write_all(fd, &bytes[..len]);
+    let mut line = [0u8; REFUSAL];
+    let end = put_refusal(&mut line, r);
+    io::write_all(fd, &line[..end]);
 }
