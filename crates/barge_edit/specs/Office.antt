@@ -3,15 +3,15 @@ use Rattle.std.specs.Prelude.{ℕ, ◌-◌, ◌/◌, ◌≤◌, ◌≡◌, cond,
 use Rattle.sheet.specs.Refusals.{Answer, refused}
 use Rattle.edit.specs.declared.Edited.{Edited}
 use Rattle.edit.specs.declared.Edited.TheVariants.{Length, Refused as notEdited}
-use Rattle.edit.specs.Edit.{headerOf, After, toldEdited, Edits}
+use Rattle.edit.specs.Edit.{header_of, After, told_edited, Edits}
 
 -- how many numbers a record is: 11 for a plate, whose kind is up to 4, and 13 for a member
 unfoldable pub fields_of : ℕ → ℕ
 fields_of kind = cond (ltb kind 5) 11 13
 
 -- how many records a sheet of so many bytes has: whatever its header takes past twelve bytes is less than a record, and the division leaves it over
-abbrev pub recordCount : ℕ → ℕ
-recordCount len = (len - 12) / 16
+abbrev pub record_count : ℕ → ℕ
+record_count len = (len - 12) / 16
 
 -- the new sheet is in a buffer of so many bytes
 abbrev pub EditInside : Edited → (size : ℕ) → Type 0
@@ -22,4 +22,4 @@ EditInside (notEdited r) size = Unit {0}
 -- it is turned away for.
 pub record OfFile (x : Answer After) (b : List ℕ) (got : ℕ) (e : Edited) (after : List ℕ) : Type 0 where
   pub edits : Edits x b e after
-  pub whole : (input : List ℕ) → take got b ≡ take (length b) input → (k p : ℕ) → headerOf input (length input) ≡ refused k p → toldEdited e ≡ refused k p
+  pub whole : (input : List ℕ) → take got b ≡ take (length b) input → (k p : ℕ) → header_of input (length input) ≡ refused k p → told_edited e ≡ refused k p

@@ -5,8 +5,8 @@ mod words;
 
 ghost use Rattle.std.specs.Prelude.{◌≡◌, ◌≤◌, length};
 ghost use Rattle.sheet.specs.Versions.{enough};
-ghost use Rattle.edit.specs.Edit.{putNumbersIn, removeIn};
-ghost use Rattle.barge_edit.specs.Office.{recordCount, EditInside, OfFile};
+ghost use Rattle.edit.specs.Edit.{put_numbers_in, remove_in};
+ghost use Rattle.barge_edit.specs.Office.{record_count, EditInside, OfFile};
 
 use console::Read;
 use decimal::Number;
@@ -20,7 +20,7 @@ const COMMAND: usize = 1;
 const FIRST: usize = 2;
 
 fn records_in(len: usize) -> usize
-    ensures { result ≡ recordCount len }
+    ensures { result ≡ record_count len }
 {
     if len < 12 {
         return 0;
@@ -53,14 +53,14 @@ fn finish(sheet: &[u8], e: Edited)
 // The edit, in a buffer that has as much of the input as it holds.
 fn put_in(buffer: &mut [u8], got: usize, fields: [u32; 13]) -> Edited
     requires { (enough ≤ length buffer.old) × (got ≤ length buffer.old) }
-    ensures { OfFile (putNumbersIn buffer.old got fields) buffer.old got result buffer.new }
+    ensures { OfFile (put_numbers_in buffer.old got fields) buffer.old got result buffer.new }
 {
     edit::put_numbers(buffer, got, fields)
 }
 
 fn remove_in(buffer: &mut [u8], got: usize, id: u32) -> Edited
     requires { (enough ≤ length buffer.old) × (got ≤ length buffer.old) }
-    ensures { OfFile (removeIn buffer.old got id) buffer.old got result buffer.new }
+    ensures { OfFile (remove_in buffer.old got id) buffer.old got result buffer.new }
 {
     edit::remove(buffer, got, id)
 }

@@ -5,20 +5,20 @@ use Rattle.sheet.specs.declared.HeaderRead.{HeaderRead}
 use Rattle.sheet.specs.declared.HeaderRead.TheVariants.{Good, Refused as notRead}
 use Rattle.sheet.specs.declared.Record.{Record}
 use Rattle.sheet.specs.Refusals.{Answer, given, refused}
-use Rattle.checker.specs.Check.{sheetSize, recordOf}
+use Rattle.checker.specs.Check.{sheet_size, record_of}
 use Rattle.wording.specs.Writes.{text_of}
-use Rattle.pencil.specs.Templates.{headWords}
-use Rattle.pencil.specs.Trail.{trailText, room as trailRoom}
+use Rattle.pencil.specs.Templates.{head_words}
+use Rattle.pencil.specs.Trail.{trail_text, room as trailRoom}
 use Rattle.barge_explain.specs.declared.Piece.{Piece}
 
 -- the sheet has as many bytes as the header that was read says
 abbrev pub Sized : HeaderRead → ℕ → Type 0
-Sized (Good h) got = sheetSize h ≡ got
+Sized (Good h) got = sheet_size h ≡ got
 Sized (notRead r) got = Unit
 
 -- what stands before a trail: the head and an empty line before the first, an empty line before each other
-abbrev pub leadPieces : (begun : Bool) → List (List ℕ)
-leadPieces begun = cond begun ((10 ∷ []) ∷ []) (headWords ∷ (10 ∷ []) ∷ [])
+abbrev pub lead_pieces : (begun : Bool) → List (List ℕ)
+lead_pieces begun = cond begun ((10 ∷ []) ∷ []) (head_words ∷ (10 ∷ []) ∷ [])
 
 -- what is printed of a record, and whether anything has been printed then
 pub record Shown : Type 0 where
@@ -26,24 +26,24 @@ pub record Shown : Type 0 where
   pub begun : Bool
 
 -- of a record that is wanted, every one where no id is asked for; of any other nothing
-abbrev pub shownOf : Header → (asked : ℕ) → (begun : Bool) → Record → Shown
-shownOf h asked begun r =
-    cond (eqb asked 0 || eqb asked r.id) (record { text = text_of (leadPieces begun ++ (trailText h r ∷ [])); begun = true }) (record { text = []; begun = begun })
+abbrev pub shown_of : Header → (asked : ℕ) → (begun : Bool) → Record → Shown
+shown_of h asked begun r =
+    cond (eqb asked 0 || eqb asked r.id) (record { text = text_of (lead_pieces begun ++ (trail_text h r ∷ [])); begun = true }) (record { text = []; begun = begun })
 
 unfoldable pub piece_of : Header → (asked : ℕ) → (begun : Bool) → Answer Record → Shown
-piece_of h asked begun (given r) = shownOf h asked begun r
+piece_of h asked begun (given r) = shown_of h asked begun r
 piece_of h asked begun (refused number place) = record { text = []; begun = begun }
 
 -- the whole text: the pieces of records i, i + 1, .. one behind another
-abbrev pub explainedFrom : Header → (records : List ℕ) (asked count i : ℕ) (begun : Bool) → List ℕ
-explainedFrom h records asked zero i begun = []
-explainedFrom h records asked (suc count) i begun =
-    let s = piece_of h asked begun (recordOf records i) in
-    s.text ++ explainedFrom h records asked count (suc i) s.begun
+abbrev pub explained_from : Header → (records : List ℕ) (asked count i : ℕ) (begun : Bool) → List ℕ
+explained_from h records asked zero i begun = []
+explained_from h records asked (suc count) i begun =
+    let s = piece_of h asked begun (record_of records i) in
+    s.text ++ explained_from h records asked count (suc i) s.begun
 
 -- that of a sheet, from its records' bytes and the id that is asked for, 0 for all
-abbrev pub explainedText : Header → (records : List ℕ) (asked : ℕ) → List ℕ
-explainedText h records asked = explainedFrom h records asked h.count 0 false
+abbrev pub explained_text : Header → (records : List ℕ) (asked : ℕ) → List ℕ
+explained_text h records asked = explained_from h records asked h.count 0 false
 
 -- the piece's text stands in front of its page
 pub record Prints (s : Shown) (p : Piece) : Type 0 where

@@ -1,13 +1,13 @@
 // The surveyor's program: which letters are which, and then, each behind an empty line, the trail of each member of the sheet on standard input, or of the one
 // whose id is the first word. Of a sheet that is turned away it prints the refusal, and where no member has the id nothing.
 ghost use Rattle.std.specs.Prelude.{◌≡◌, List, [], ◌∷◌, ◌||◌, ℕ, ◌+◌, ◌*◌, ◌≤◌, length, take, eqb};
-ghost use Rattle.sheet.specs.Refusals.{toldHeader, toldRecord};
-ghost use Rattle.checker.specs.Check.{recordOf, sheetSize};
-ghost use Rattle.checker.specs.Unjudged.{soundHeader};
+ghost use Rattle.sheet.specs.Refusals.{told_header, told_record};
+ghost use Rattle.checker.specs.Check.{record_of, sheet_size};
+ghost use Rattle.checker.specs.Unjudged.{sound_header};
 ghost use Rattle.sheet.specs.Versions.{enough};
 ghost use Rattle.wording.specs.Writes.{Writes, spot};
-ghost use Rattle.pencil.specs.Trail.{trailText, room as trailRoom};
-ghost use Rattle.barge_explain.specs.Explain.{Sized, leadPieces, piece_of, Prints};
+ghost use Rattle.pencil.specs.Trail.{trail_text, room as trailRoom};
+ghost use Rattle.barge_explain.specs.Explain.{Sized, lead_pieces, piece_of, Prints};
 
 use console::Read;
 use decimal::Number;
@@ -23,7 +23,7 @@ const ROOM: usize = 26528;
 // The header of an input, from the bytes that were read of it, or why it is turned away.
 fn header_of(buffer: &[u8], got: usize) -> HeaderRead
     requires { (enough ≤ length buffer.now) × (got ≤ length buffer.now) }
-    ensures { ((input : List ℕ) → take got buffer.now ≡ take (length buffer.now) input → toldHeader result ≡ soundHeader input) × Sized result got }
+    ensures { ((input : List ℕ) → take got buffer.now ≡ take (length buffer.now) input → told_header result ≡ sound_header input) × Sized result got }
 {
     checker::sound_header(&buffer[..got])
 }
@@ -31,7 +31,7 @@ fn header_of(buffer: &[u8], got: usize) -> HeaderRead
 // Record i of a sheet's records.
 fn record_at(records: &[u8], i: u16) -> RecordRead
     requires { 16 * i + 16 ≤ length records.now }
-    ensures { toldRecord result ≡ recordOf records.now i }
+    ensures { told_record result ≡ record_of records.now i }
 {
     let from = 16 * (i as usize);
     let to = from + 16;
@@ -56,7 +56,7 @@ struct Piece {
 
 // What stands before a trail: the head and an empty line before the first, an empty line before each other.
 fn put_lead(begun: bool, page: &mut [u8]) -> usize
-    ensures { Writes (leadPieces begun) 1184 (spot page.old 0) (spot page.new result) }
+    ensures { Writes (lead_pieces begun) 1184 (spot page.old 0) (spot page.new result) }
 {
     if begun {
         return wording::put_text(b"\n", page, 0);
@@ -67,7 +67,7 @@ fn put_lead(begun: bool, page: &mut [u8]) -> usize
 }
 
 fn put_trail(h: Header, r: Record, page: &mut [u8], at: usize) -> usize
-    ensures { Writes (trailText h r ∷ []) trailRoom (spot page.old at) (spot page.new result) }
+    ensures { Writes (trail_text h r ∷ []) trailRoom (spot page.old at) (spot page.new result) }
 {
     let trail = pencil::trail_of(h, r);
     let len = trail.len;
@@ -78,7 +78,7 @@ fn put_trail(h: Header, r: Record, page: &mut [u8], at: usize) -> usize
 // What is to be printed of record i.
 fn piece_of(h: Header, records: &[u8], i: u16, asked: u32, begun: bool) -> Piece
     requires { 16 * i + 16 ≤ length records.now }
-    ensures { Prints (piece_of h asked begun (recordOf records.now i)) result }
+    ensures { Prints (piece_of h asked begun (record_of records.now i)) result }
 {
     let mut bytes = [0u8; ROOM];
     let read = record_at(records, i);
@@ -154,7 +154,7 @@ fn asked_id() -> u32 {
 
 // A sheet that is not turned away.
 fn explain(h: Header, sheet: &[u8])
-    requires { sheetSize h ≡ length sheet.now }
+    requires { sheet_size h ≡ length sheet.now }
 {
     let size = h.size();
     print_trails(h, &sheet[size..], asked_id());

@@ -5,14 +5,14 @@ use Rattle.fields.specs.Marks.{feeds}
 -- ---- the line
 
 -- whether a text begins with a line end: LF, or CR and LF
-abbrev pub endsHere : List ℕ → Bool
-endsHere [] = false
-endsHere (b ∷ s) = cond (eqb b 13) (feeds s) (eqb b 10)
+abbrev pub ends_here : List ℕ → Bool
+ends_here [] = false
+ends_here (b ∷ s) = cond (eqb b 13) (feeds s) (eqb b 10)
 
 -- what stands before the first line end, or all
 unfoldable pub line_of : List ℕ → List ℕ
 line_of [] = []
-line_of (b ∷ s) = cond (endsHere (b ∷ s)) [] (b ∷ line_of s)
+line_of (b ∷ s) = cond (ends_here (b ∷ s)) [] (b ∷ line_of s)
 
 -- it is the first bytes, so many of them
 pub record IsLine (s : List ℕ) (n : ℕ) : Type 0 where
@@ -21,17 +21,17 @@ pub record IsLine (s : List ℕ) (n : ℕ) : Type 0 where
 
 -- ---- its bytes
 
-abbrev pub isPrinted : ℕ → Bool
-isPrinted b = cond (ltb b 32) false (ltb b 127)
+abbrev pub is_printed : ℕ → Bool
+is_printed b = cond (ltb b 32) false (ltb b 127)
 
 -- a digit of base 16: 0 to 9, A to F
-abbrev pub hexDigit : ℕ → ℕ
-hexDigit n = cond (ltb n 10) (48 + n) (55 + n)
+abbrev pub hex_digit : ℕ → ℕ
+hex_digit n = cond (ltb n 10) (48 + n) (55 + n)
 
 -- a byte that prints, or else `\x` and its two digits
-unfoldable pub shownByte : ℕ → List ℕ
-shownByte b = cond (isPrinted b) (b ∷ []) (92 ∷ 120 ∷ hexDigit (b / 16) ∷ hexDigit (b % 16) ∷ [])
+unfoldable pub shown_byte : ℕ → List ℕ
+shown_byte b = cond (is_printed b) (b ∷ []) (92 ∷ 120 ∷ hex_digit (b / 16) ∷ hex_digit (b % 16) ∷ [])
 
 unfoldable pub shown : List ℕ → List ℕ
 shown [] = []
-shown (b ∷ s) = shownByte b ++ shown s
+shown (b ∷ s) = shown_byte b ++ shown s

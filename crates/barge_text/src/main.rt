@@ -6,13 +6,13 @@ mod show;
 ghost use Rattle.std.specs.Prelude.{◌≡◌, List, ℕ, ◌≤◌, length, take};
 ghost use Rattle.sheet.specs.Refusals.{told};
 ghost use Rattle.sheet.specs.Versions.{enough};
-ghost use Rattle.report.specs.Pieces.{refusalText};
-ghost use Rattle.csv.specs.Read.{toldConverted, Converts};
-ghost use Rattle.csv.specs.Write.{textFrom};
-ghost use Rattle.barge_text.specs.Convert.{MadeInside, lineIn, printedBy, Shows, Replies};
+ghost use Rattle.report.specs.Pieces.{refusal_text};
+ghost use Rattle.sheet_csv.specs.Read.{told_converted, Converts};
+ghost use Rattle.sheet_csv.specs.Write.{text_from};
+ghost use Rattle.barge_text.specs.Convert.{MadeInside, line_in, printed_by, Shows, Replies};
 
 use console::Read;
-use csv::Converted;
+use sheet_csv::Converted;
 use libc::{STDERR_FILENO, STDOUT_FILENO};
 use report::{Page, Told};
 use sheet::Refusal;
@@ -48,7 +48,7 @@ fn print(bytes: &[u8]) {
 
 // The line that a refusal names, which 14 and 15 do; else 0.
 fn line_of(r: Refusal) -> u32
-    ensures { result ≡ lineIn (told r) }
+    ensures { result ≡ line_in (told r) }
 {
     let number = r.number();
     if number == 14 {
@@ -62,7 +62,7 @@ fn line_of(r: Refusal) -> u32
 
 // The same of what was converted.
 fn line_at_fault(c: Converted) -> u32
-    ensures { result ≡ lineIn (toldConverted c) }
+    ensures { result ≡ line_in (told_converted c) }
 {
     match c {
         Converted::Length(_) => 0,
@@ -71,7 +71,7 @@ fn line_at_fault(c: Converted) -> u32
 }
 
 fn refusal_page(r: Refusal) -> Page
-    ensures { Shows (refusalText r) result }
+    ensures { Shows (refusal_text r) result }
 {
     let mut bytes = [0u8; report::LONGEST];
     let told = report::write_refusal(r, &mut bytes);
@@ -84,7 +84,7 @@ fn refusal_page(r: Refusal) -> Page
 // What is printed of what a text was converted to.
 fn page_by(c: Converted, sheet: &[u8]) -> Page
     requires { MadeInside c (length sheet.now) }
-    ensures { Shows (printedBy c sheet.now) result }
+    ensures { Shows (printed_by c sheet.now) result }
 {
     match c {
         Converted::Length(n) => report::page_of(&sheet[..n]),
@@ -96,7 +96,7 @@ fn answer(text: &[u8]) -> Reply
     ensures { Replies text.now result }
 {
     let mut sheet = [0u8; sheet::LONGEST];
-    let c = csv::read_table(text, &mut sheet);
+    let c = sheet_csv::read_table(text, &mut sheet);
     let page = page_by(c, &sheet);
     let line = line_at_fault(c);
     Reply { page, line }
@@ -105,9 +105,9 @@ fn answer(text: &[u8]) -> Reply
 // The text of a sheet, from the bytes that were read of it: all, or as many as the buffer holds.
 fn text_of(buffer: &[u8], got: usize, out: &mut [u8]) -> Converted
     requires { (enough ≤ length buffer.now) × (got ≤ length buffer.now) }
-    ensures { (input : List ℕ) → take got buffer.now ≡ take (length buffer.now) input → Converts (textFrom input (length out.old)) out.old result out.new }
+    ensures { (input : List ℕ) → take got buffer.now ≡ take (length buffer.now) input → Converts (text_from input (length out.old)) out.old result out.new }
 {
-    csv::write_text(&buffer[..got], out)
+    sheet_csv::write_text(&buffer[..got], out)
 }
 
 // What was made of the input goes to standard output, or the refusal to standard error.
@@ -122,7 +122,7 @@ fn deliver(c: Converted, made: &[u8])
 
 fn make_sheet(text: &[u8]) {
     let mut sheet = [0u8; sheet::LONGEST];
-    let c = csv::read_table(text, &mut sheet);
+    let c = sheet_csv::read_table(text, &mut sheet);
     deliver(c, &sheet);
     show::line(text, line_at_fault(c));
 }
@@ -130,7 +130,7 @@ fn make_sheet(text: &[u8]) {
 fn make_text(buffer: &[u8], got: usize)
     requires { (enough ≤ length buffer.now) × (got ≤ length buffer.now) }
 {
-    let mut text = [0u8; csv::LONGEST];
+    let mut text = [0u8; sheet_csv::LONGEST];
     let c = text_of(buffer, got, &mut text);
     deliver(c, &text);
 }

@@ -2,7 +2,7 @@
 ghost use Rattle.std.specs.Prelude.{◌≡◌, ◌+◌, ◌*◌, ◌≤◌, ◌<◌, length, drop};
 ghost use Rattle.decimal.specs.Laid.{Laid};
 ghost use Rattle.fields.specs.Marks.{feeds};
-ghost use Rattle.barge_text.specs.Shown.{endsHere, IsLine, isPrinted, hexDigit, shownByte, shown};
+ghost use Rattle.barge_text.specs.Shown.{ends_here, IsLine, is_printed, hex_digit, shown_byte, shown};
 
 use libc::STDERR_FILENO;
 
@@ -24,7 +24,7 @@ fn feed_at(text: &[u8], at: usize) -> bool
 // Whether a line ends at a byte: at LF, or at CR with LF behind it.
 fn ends_at(text: &[u8], i: usize) -> bool
     requires { i < length text.now }
-    ensures { result ≡ endsHere (drop i text.now) }
+    ensures { result ≡ ends_here (drop i text.now) }
 {
     if text[i] == b'\r' {
         return feed_at(text, i + 1);
@@ -47,7 +47,7 @@ fn line_length(text: &[u8]) -> usize
 }
 
 fn prints(byte: u8) -> bool
-    ensures { result ≡ isPrinted byte }
+    ensures { result ≡ is_printed byte }
 {
     if byte < 32 {
         return false;
@@ -58,7 +58,7 @@ fn prints(byte: u8) -> bool
 // A digit of base 16.
 fn hex(n: u8) -> u8
     requires { n < 16 }
-    ensures { result ≡ hexDigit n }
+    ensures { result ≡ hex_digit n }
 {
     if n < 10 {
         return 48 + n;
@@ -76,7 +76,7 @@ fn put(text: &[u8], out: &mut [u8], at: usize) -> usize
 // A byte as it is shown: itself where it prints, else `\x` and its two digits.
 fn put_byte(byte: u8, out: &mut [u8], at: usize) -> usize
     requires { at + 4 ≤ length out.old }
-    ensures { Laid out.old at (shownByte byte) result out.new }
+    ensures { Laid out.old at (shown_byte byte) result out.new }
 {
     if prints(byte) {
         let itself = [byte];

@@ -3,13 +3,13 @@ ghost use Rattle.std.specs.Prelude.{◌≡◌, cond, ◌++◌, ◌+◌, ◌*◌,
 ghost use Rattle.quantity.specs.Range.{modulus};
 ghost use Rattle.layout.specs.Layout.{pack, unpack, Fit};
 ghost use Rattle.layout.specs.Bytes.{written_of};
-ghost use Rattle.sheet.specs.Refusals.{given, told, toldOutcome, toldHeader, toldRecord};
-ghost use Rattle.sheet.specs.Header.{headerFault};
+ghost use Rattle.sheet.specs.Refusals.{given, told, told_outcome, told_header, told_record};
+ghost use Rattle.sheet.specs.Header.{header_fault};
 ghost use Rattle.sheet.specs.Writes.{Writes};
-ghost use Rattle.checker.specs.Entry.{verdictWidths, entryValues, entry_at, entryFault, toldEntry, read_entry, writeEntry};
-ghost use Rattle.checker.specs.Check.{headerFor, recordPart, soundAfter, entryWith, failing as failingOf, Checks};
-ghost use Rattle.checker.specs.Unjudged.{recordsSound, soundHeader};
-ghost use Rattle.checker.specs.Passes.{Refuses, judgedAfter, Ready, toldPassed, passOver, numberBytes};
+ghost use Rattle.checker.specs.Entry.{verdict_widths, entry_values, entry_at, entry_fault, told_entry, read_entry, write_entry};
+ghost use Rattle.checker.specs.Check.{header_for, record_part, sound_after, entry_with, failing as failingOf, Checks};
+ghost use Rattle.checker.specs.Unjudged.{records_sound, sound_header};
+ghost use Rattle.checker.specs.Passes.{Refuses, judged_after, Ready, told_passed, pass_over, number_bytes};
 
 use layout::powers::{P19, P22};
 use quantity::Modulus;
@@ -54,7 +54,7 @@ fn most_required(rule: u8) -> u32
 
 // The first field outside its values, id being 1, or 0. It goes from the last field to the first, so that the first has the last word.
 fn fault(e: Entry) -> u8
-    ensures { result ≡ entryFault e }
+    ensures { result ≡ entry_fault e }
 {
     let f = layout::fault_unless(e.source as u32, 0, 3, 4, 0);
     let f = layout::fault_unless(e.required, 0, most_required(e.rule), 3, f);
@@ -64,7 +64,7 @@ fn fault(e: Entry) -> u8
 
 // The entry in a number, whatever its values.
 fn entry_of(n: u32) -> Entry
-    ensures { result ≡ entry_at (unpack verdictWidths n) }
+    ensures { result ≡ entry_at (unpack verdict_widths n) }
 {
     let id = (n / P22 % 1024) as u16;
     let rule = (n / P19 % 8) as u8;
@@ -79,15 +79,15 @@ fn entry_of(n: u32) -> Entry
 }
 
 fn number_of(e: Entry) -> u32
-    requires { Fit verdictWidths (entryValues e) }
-    ensures { result ≡ pack verdictWidths (entryValues e) }
+    requires { Fit verdict_widths (entry_values e) }
+    ensures { result ≡ pack verdict_widths (entry_values e) }
 {
     (e.id as u32) * P22 + (e.rule as u32) * P19 + e.required * 4 + e.source as u32
 }
 
 // The verdict in the first four bytes, or why there is none.
 pub fn read_verdict(s: &[u8]) -> EntryRead
-    ensures { toldEntry result ≡ read_entry s.now }
+    ensures { told_entry result ≡ read_entry s.now }
 {
     if s.len() < VERDICT {
         return EntryRead::Refused(Refusal::SheetShort);
@@ -110,7 +110,7 @@ fn write_number(n: u32, out: &mut [u8])
 
 // The verdict into the first four bytes, or why not.
 pub fn write_verdict(e: Entry, out: &mut [u8]) -> Outcome
-    ensures { Writes (writeEntry e out.old) (toldOutcome result) out.new }
+    ensures { Writes (write_entry e out.old) (told_outcome result) out.new }
 {
     if out.len() < VERDICT {
         return Outcome::Refused(Refusal::OutputShort);
@@ -125,7 +125,7 @@ pub fn write_verdict(e: Entry, out: &mut [u8]) -> Outcome
 
 // Refusals 1 to 3, 9, 4 and 5: the header of the sheet, for an output of so many bytes.
 fn header_for(sheet: &[u8], room: usize) -> HeaderRead
-    ensures { toldHeader result ≡ headerFor sheet.now room }
+    ensures { told_header result ≡ header_for sheet.now room }
 {
     let read = header::read_header(sheet);
     match read {
@@ -151,7 +151,7 @@ fn header_for(sheet: &[u8], room: usize) -> HeaderRead
 
 // Refusals 6 to 8 of record i, in its sixteen bytes, after a record with the id `before`.
 fn sound_after(bytes: &[u8], i: u16, before: u16) -> RecordRead
-    ensures { toldRecord result ≡ soundAfter i before bytes.now }
+    ensures { told_record result ≡ sound_after i before bytes.now }
 {
     let read = record::read_record_as(bytes, i);
     match read {
@@ -168,7 +168,7 @@ fn sound_after(bytes: &[u8], i: u16, before: u16) -> RecordRead
 // The same of record i among the bytes of all records.
 fn sound_at(records: &[u8], i: u16, before: u16) -> RecordRead
     requires { 16 * i + 16 ≤ length records.now }
-    ensures { toldRecord result ≡ soundAfter i before (recordPart records.now i) }
+    ensures { told_record result ≡ sound_after i before (record_part records.now i) }
 {
     let first = RECORD * (i as usize);
     let past = first + RECORD;
@@ -178,7 +178,7 @@ fn sound_at(records: &[u8], i: u16, before: u16) -> RecordRead
 // Refusals 6 to 8 of the first n records, each finished before the next.
 fn records_sound(records: &[u8], n: u16) -> Outcome
     requires { 16 * n ≤ length records.now }
-    ensures { toldOutcome result ≡ recordsSound records.now n }
+    ensures { told_outcome result ≡ records_sound records.now n }
 {
     let mut before: u16 = 0;
     let mut i: u16 = 0;
@@ -198,7 +198,7 @@ fn records_sound(records: &[u8], n: u16) -> Outcome
 
 // The header of a sheet that is read and not judged, or the first of the table's refusals but 5, which is about an output.
 pub fn sound_header(sheet: &[u8]) -> HeaderRead
-    ensures { toldHeader result ≡ soundHeader sheet.now }
+    ensures { told_header result ≡ sound_header sheet.now }
 {
     let read = header_for(sheet, LONGEST);
     match read {
@@ -215,8 +215,8 @@ pub fn sound_header(sheet: &[u8]) -> HeaderRead
 
 // Why record i is turned away, where it is: the reader then gives no record.
 fn why_refused(bytes: &[u8], i: u16, before: u16) -> Refusal
-    requires { Refuses (soundAfter i before bytes.now) }
-    ensures { told result ≡ soundAfter i before bytes.now }
+    requires { Refuses (sound_after i before bytes.now) }
+    ensures { told result ≡ sound_after i before bytes.now }
 {
     let read = sound_after(bytes, i, before);
     match read {
@@ -226,7 +226,7 @@ fn why_refused(bytes: &[u8], i: u16, before: u16) -> Refusal
 }
 
 fn entry_with(id: u16, v: Verdict, source: u8) -> Entry
-    ensures { result ≡ entryWith id (record { verdict = v; source = source }) }
+    ensures { result ≡ entry_with id (record { verdict = v; source = source }) }
 {
     let rule = v.rule;
     Entry {
@@ -240,8 +240,8 @@ fn entry_with(id: u16, v: Verdict, source: u8) -> Entry
 // The verdict on record i, in its sixteen bytes, after a record with the id `before`; or refusals 6 to 8. Judging tests the record's values, so that
 // the reader is asked only for the reason of a refusal.
 fn judged_after(h: Header, bytes: &[u8], i: u16, before: u16) -> EntryRead
-    requires { headerFault h ≡ 0 }
-    ensures { toldEntry result ≡ judgedAfter h i before bytes.now }
+    requires { header_fault h ≡ 0 }
+    ensures { told_entry result ≡ judged_after h i before bytes.now }
 {
     let raw = record::record_in(bytes);
     let r = raw.values;
@@ -260,8 +260,8 @@ fn judged_after(h: Header, bytes: &[u8], i: u16, before: u16) -> EntryRead
 }
 
 fn judged_at(h: Header, records: &[u8], i: u16, before: u16) -> EntryRead
-    requires { (headerFault h ≡ 0) × (16 * i + 16 ≤ length records.now) }
-    ensures { toldEntry result ≡ judgedAfter h i before (recordPart records.now i) }
+    requires { (header_fault h ≡ 0) × (16 * i + 16 ≤ length records.now) }
+    ensures { told_entry result ≡ judged_after h i before (record_part records.now i) }
 {
     let at = RECORD * (i as usize);
     let end = at + RECORD;
@@ -285,7 +285,7 @@ enum Passed {
 // The pass: each record is judged in turn and its verdict goes into the draft as a number, up to the first record that is turned away.
 fn judge_all(h: Header, records: &[u8], draft: &mut [u32]) -> Passed
     requires { Ready h records.now (length draft.old) }
-    ensures { toldPassed result draft.new ≡ passOver h records.now draft.old }
+    ensures { told_passed result draft.new ≡ pass_over h records.now draft.old }
 {
     let count = h.count;
     let mut failed: u16 = 0;
@@ -311,7 +311,7 @@ fn judge_all(h: Header, records: &[u8], draft: &mut [u32]) -> Passed
 // Each verdict of the draft into its own four bytes of the output, which are lent on from its middle.
 fn write_all(draft: &[u32], out: &mut [u8])
     requires { 4 * length draft.now ≤ length out.old }
-    ensures { out.new ≡ numberBytes draft.now ++ drop (4 * length draft.now) out.old }
+    ensures { out.new ≡ number_bytes draft.now ++ drop (4 * length draft.now) out.old }
 {
     let mut i: usize = 0;
     while i < draft.len() {
@@ -324,7 +324,7 @@ fn write_all(draft: &[u32], out: &mut [u8])
 
 // The records of a sheet whose header is sound. The verdicts go into the output once none of them is turned away.
 fn judge_sheet(h: Header, sheet: &[u8], draft: &mut [u32], out: &mut [u8]) -> Checked
-    requires { (given h ≡ headerFor sheet.now (length out.old)) × (h.count ≤ length draft.old) }
+    requires { (given h ≡ header_for sheet.now (length out.old)) × (h.count ≤ length draft.old) }
     ensures { Checks sheet.now out.old result out.new }
 {
     let passed = judge_all(h, &sheet[h.size()..], draft);

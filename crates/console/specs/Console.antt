@@ -9,10 +9,10 @@ Loaded (Got n) space = n ≤ length space
 Loaded Failed space = Unit {0}
 
 -- a quote, 34, a digit, 48 to 57, or the first byte of a byte-order mark, 239
-abbrev pub beginsText : ℕ → Bool
-beginsText b = cond (ltb b 48) (eqb b 34) (cond (ltb b 58) true (eqb b 239))
+abbrev pub begins_text : ℕ → Bool
+begins_text b = cond (ltb b 48) (eqb b 34) (cond (ltb b 58) true (eqb b 239))
 
 -- it begins as a text does
-unfoldable pub looksLikeText : List ℕ → Bool
-looksLikeText [] = false
-looksLikeText (b ∷ s) = beginsText b
+unfoldable pub looks_like_text : List ℕ → Bool
+looks_like_text [] = false
+looks_like_text (b ∷ s) = begins_text b

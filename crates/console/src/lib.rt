@@ -1,6 +1,6 @@
 // What the programs share: standard input, of which a read that fails is not taken for the end, and what is said on standard error.
 ghost use Rattle.std.specs.Prelude.{◌≡◌};
-ghost use Rattle.console.specs.Console.{Loaded, beginsText, looksLikeText};
+ghost use Rattle.console.specs.Console.{Loaded, begins_text, looks_like_text};
 
 use libc::{STDERR_FILENO, STDIN_FILENO};
 
@@ -58,7 +58,7 @@ pub fn failed(what: &[u8], which: &[u8]) {
 
 // Whether a text may begin with a byte: a digit, a quote, or the first byte of a byte-order mark.
 fn begins_text(b: u8) -> bool
-    ensures { result ≡ beginsText b }
+    ensures { result ≡ begins_text b }
 {
     if b < 48 {
         return b == 34;
@@ -71,7 +71,7 @@ fn begins_text(b: u8) -> bool
 
 // Whether an input looks like a text, by its first byte.
 pub fn looks_like_text(input: &[u8]) -> bool
-    ensures { result ≡ looksLikeText input.now }
+    ensures { result ≡ looks_like_text input.now }
 {
     if input.len() == 0 {
         return false;

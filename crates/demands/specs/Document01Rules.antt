@@ -1,8 +1,8 @@
 -- Document 01, "Pressures", "The six rules, in order" and the verdict, written out in its own numbers, letters and order. No request changes this file, since it is
 -- what today's checker is compared with; of the crates below it uses only what has none of the document's numbers. `-` is cut off at 0.
 use Rattle.std.specs.Prelude.{ℕ, ◌+◌, ◌-◌, ◌*◌, ◌/◌, min, max, Bool, false, ◌&&◌, cond, leb, ltb, eqb}
-use Rattle.gauge.specs.Ceil.{ceilOf}
-use Rattle.gauge.specs.Least.{leastIn, number_of}
+use Rattle.gauge.specs.Ceil.{ceil_of}
+use Rattle.gauge.specs.Least.{least_in, number_of}
 use Rattle.sheet.specs.declared.Header.{Header}
 use Rattle.sheet.specs.declared.Plate.{Plate}
 use Rattle.sheet.specs.declared.Member.{Member}
@@ -10,7 +10,7 @@ use Rattle.sheet.specs.declared.Body.{Body}
 use Rattle.sheet.specs.declared.Body.TheVariants.{Plate as isPlate, Member as isMember}
 use Rattle.sheet.specs.declared.Record.{Record}
 use Rattle.verdict.specs.declared.Verdict.{Verdict}
-use Rattle.demands.specs.Document01Sheet.{bottom, longitudinal, sixOrSeven, fromSix}
+use Rattle.demands.specs.Document01Sheet.{bottom, longitudinal, six_or_seven, from_six}
 
 -- ---- pressures
 
@@ -22,41 +22,41 @@ sea D0 H z = cond (leb z D0) (98100 * (D0 - z) + 50031 * H) (max (50150 * H) 300
 abbrev pub pB : (zL z : ℕ) → ℕ
 pB zL z = 98100 * (zL + 100 - z)
 
--- relief pM = max(0, 14715D0 − 50031H)
-abbrev pub pM : (D0 H : ℕ) → ℕ
-pM D0 H = 14715 * D0 - 50031 * H
+-- relief p_m = max(0, 14715D0 − 50031H)
+abbrev pub p_m : (D0 H : ℕ) → ℕ
+p_m D0 H = 14715 * D0 - 50031 * H
 
 -- bottom plate: sea, or with ballast max(sea, pB−pM)
-unfoldable pub onBottom : (D0 H z : ℕ) → Bool → (zL : ℕ) → ℕ
-onBottom D0 H z ballast zL = cond ballast (max (sea D0 H z) (pB zL z - pM D0 H)) (sea D0 H z)
+unfoldable pub on_bottom : (D0 H z : ℕ) → Bool → (zL : ℕ) → ℕ
+on_bottom D0 H z ballast zL = cond ballast (max (sea D0 H z) (pB zL z - p_m D0 H)) (sea D0 H z)
 
 -- inner bottom: cargo × 1000, or with ballast max(that, pB)
-unfoldable pub onInner : (cargo z : ℕ) → Bool → (zL : ℕ) → ℕ
-onInner cargo z ballast zL = cond ballast (max (cargo * 1000) (pB zL z)) (cargo * 1000)
+unfoldable pub on_inner : (cargo z : ℕ) → Bool → (zL : ℕ) → ℕ
+on_inner cargo z ballast zL = cond ballast (max (cargo * 1000) (pB zL z)) (cargo * 1000)
 
 -- kinds 6 to 8: 98100·D0 + 50031H in one run; in two runs 56407.5·D0 in place of the first term, rounded up
-unfoldable pub onDeep : (D0 H : ℕ) → (two : Bool) → ℕ
-onDeep D0 H two = cond two (ceilOf (564075 * D0) 10) (98100 * D0) + 50031 * H
+unfoldable pub on_deep : (D0 H : ℕ) → (two : Bool) → ℕ
+on_deep D0 H two = cond two (ceil_of (564075 * D0) 10) (98100 * D0) + 50031 * H
 
 -- q = P·S/1,000,000 rounded up
 unfoldable pub q : (P S : ℕ) → ℕ
-q P S = ceilOf (P * S) 1000000
+q P S = ceil_of (P * S) 1000000
 
 -- P on a plate: kinds 1, 2 bottom, 3, 4 inner bottom
-abbrev pub platePressure : Header → ℕ → Plate → ℕ
-platePressure h kind p =
-    cond (bottom kind) (onBottom h.draught.0 h.wave.0 p.z.0 p.ballast p.tank_top.0)
-    (onInner p.cargo p.z.0 p.ballast p.tank_top.0)
+abbrev pub plate_pressure : Header → ℕ → Plate → ℕ
+plate_pressure h kind p =
+    cond (bottom kind) (on_bottom h.draught.0 h.wave.0 p.z.0 p.ballast p.tank_top.0)
+    (on_inner p.cargo p.z.0 p.ballast p.tank_top.0)
 
 -- P on a member: kind 5 sea at z, kinds 6 to 8 theirs
-abbrev pub memberPressure : Header → ℕ → Member → ℕ
-memberPressure h kind m = cond (fromSix kind) (onDeep h.draught.0 h.wave.0 h.two_runs) (sea h.draught.0 h.wave.0 m.z.0)
+abbrev pub member_pressure : Header → ℕ → Member → ℕ
+member_pressure h kind m = cond (from_six kind) (on_deep h.draught.0 h.wave.0 h.two_runs) (sea h.draught.0 h.wave.0 m.z.0)
 
 -- ---- the six rules, in order
 
 -- R = 1,000,000·M/ZB rounded up
 abbrev pub R : (M ZB : ℕ) → ℕ
-R M ZB = ceilOf (1000000 * M) ZB
+R M ZB = ceil_of (1000000 * M) ZB
 
 -- K2 = 1000(b1²+b2²)/b1² rounded down, at most 26,000
 unfoldable pub K2 : (b1 b2 : ℕ) → ℕ
@@ -102,15 +102,15 @@ rule3 kind K S K2 R T =
 -- Kinds 6 to 8: X = 100T − 38000 ≥ 0, 3125X² ≥ 8L²K
 unfoldable pub rule4 : (kind L K S T : ℕ) → Bool
 rule4 kind L K S T =
-    cond (fromSix kind)
+    cond (from_six kind)
     (square 3125 (100 * T) 38000 (8 * (L * L) * K))
     (cond (ltb L 12000) (square 6250 (100 * T) (16300 + 45 * S) (L * L * K)) (square 1 (10 * T) S (15210 * K)))
 
 -- 5: kind 5: 10¹¹·W(214−σ1) ≥ 833βbηql²; kinds 6, 7: 5·10⁹·W ≥ 29βbql²; kind 8: 2·10⁹·W(197−σ1) ≥ 25βbηql². At σ1 of 214 or more (197) nothing meets it
 unfoldable pub rule5 : (kind βb η σ1 q l W : ℕ) → Bool
 rule5 kind βb η σ1 q l W =
-    cond (fromSix kind)
-    (cond (sixOrSeven kind)
+    cond (from_six kind)
+    (cond (six_or_seven kind)
     (leb (29 * βb * q * (l * l)) (5000000000 * W))
     (ltb σ1 197 && leb (25 * βb * η * q * (l * l)) (2000000000 * W * (197 - σ1))))
     (ltb σ1 214 && leb (833 * βb * η * q * (l * l)) (100000000000 * W * (214 - σ1)))
@@ -118,43 +118,43 @@ rule5 kind βb η σ1 q l W =
 -- 6: kind 5: 2·10⁹·A ≥ 9βsηql; kinds 6, 7: 2·10⁷·A ≥ 9βsql; kind 8: 12,500,000·A ≥ 7βsql, no η
 unfoldable pub rule6 : (kind βs η q l A : ℕ) → Bool
 rule6 kind βs η q l A =
-    cond (fromSix kind)
-    (cond (sixOrSeven kind) (leb (9 * βs * q * l) (20000000 * A)) (leb (7 * βs * q * l) (12500000 * A)))
+    cond (from_six kind)
+    (cond (six_or_seven kind) (leb (9 * βs * q * l) (20000000 * A)) (leb (7 * βs * q * l) (12500000 * A)))
     (leb (9 * βs * η * q * l) (2000000000 * A))
 
 -- ---- the verdict: the first rule that fails, with the least number of the gauge 1, 2, .., top that meets it, 0 where none does
 
 -- rule `number` asks this of the number that the member has; where that meets it, the next
 abbrev pub asks : (number : ℕ) → (ℕ → Bool) → (top has : ℕ) → Verdict → Verdict
-asks number test top has next = cond (test has) next (record { rule = number; required = number_of (leastIn test top) })
+asks number test top has next = cond (test has) next (record { rule = number; required = number_of (least_in test top) })
 
 -- rule 0 is pass
 abbrev pub pass : Verdict
 pass = record { rule = 0; required = 0 }
 
 -- plates answer to 1, 2, 3, with T from 1 to 4000
-abbrev pub plateVerdict : Header → ℕ → Plate → Verdict
-plateVerdict h kind p =
+abbrev pub plate_verdict : Header → ℕ → Plate → Verdict
+plate_verdict h kind p =
     let K = p.factor.0 in
     let S = p.spacing.0 in
     let T = p.thickness.0 in
     asks 1 (rule1 kind h.length.0 K S) 4000 T
-    (asks 2 (rule2 kind K S (platePressure h kind p)) 4000 T
+    (asks 2 (rule2 kind K S (plate_pressure h kind p)) 4000 T
     (asks 3 (rule3 kind K S (K2 p.b1.0 p.b2.0) (R h.moment h.bottom_modulus)) 4000 T pass))
 
 -- members to 4, 5, 6, with T from 1 to 4000, W from 1 to 100,000 and A from 1 to 16,000
-abbrev pub memberVerdict : Header → ℕ → Member → Verdict
-memberVerdict h kind m =
+abbrev pub member_verdict : Header → ℕ → Member → Verdict
+member_verdict h kind m =
     let S = m.spacing.0 in
     let l = m.span.0 in
-    let load = q (memberPressure h kind m) S in
+    let load = q (member_pressure h kind m) S in
     asks 4 (rule4 kind h.length.0 m.factor.0 S) 4000 m.thickness.0
     (asks 5 (rule5 kind m.bending m.eta m.stress load l) 100000 m.modulus.0
     (asks 6 (rule6 kind m.shear m.eta load l) 16000 m.area.0 pass))
 
-abbrev pub bodyVerdict : Header → ℕ → Body → Verdict
-bodyVerdict h kind (isPlate p) = plateVerdict h kind p
-bodyVerdict h kind (isMember m) = memberVerdict h kind m
+abbrev pub body_verdict : Header → ℕ → Body → Verdict
+body_verdict h kind (isPlate p) = plate_verdict h kind p
+body_verdict h kind (isMember m) = member_verdict h kind m
 
 unfoldable pub verdict : Header → Record → Verdict
-verdict h r = bodyVerdict h r.kind r.body
+verdict h r = body_verdict h r.kind r.body

@@ -5,8 +5,8 @@ use Rattle.sheet.specs.Refusals.{Answer, given, refused}
 use Rattle.checker.specs.declared.Entry.{Entry}
 use Rattle.checker.specs.declared.Checked.TheVariants.{Done, Refused as notDone}
 use Rattle.checker.specs.Entry.{read_entry}
-use Rattle.demands.specs.Table.{headSize}
-use Rattle.checker.specs.Check.{fourAt}
+use Rattle.demands.specs.Table.{head_size}
+use Rattle.checker.specs.Check.{four_at}
 use Rattle.demands.specs.Program.{Program, Leaves}
 use Rattle.demands.specs.Demands.{Demands}
 
@@ -39,22 +39,22 @@ abbrev pub PassesRest : Program → Type 0
 PassesRest = OfVerdicts (λ i e. 1 ≤ i → e.rule ≡ 0)
 
 -- the rule of a verdict that is read, 0 where none is
-abbrev pub ruleIn : Answer Entry → ℕ
-ruleIn (given e) = e.rule
-ruleIn (refused k p) = 0
+abbrev pub rule_in : Answer Entry → ℕ
+rule_in (given e) = e.rule
+rule_in (refused k p) = 0
 
 -- how many of the fours at 4i, 4i + 4, .. of an output, so many of them, have a rule
-abbrev pub failedIn : List ℕ → (i count : ℕ) → ℕ
-failedIn o i zero = 0
-failedIn o i (suc count) = cond (eqb (ruleIn (read_entry (fourAt i o))) 0) 0 1 + failedIn o (i + 1) count
+abbrev pub failed_in : List ℕ → (i count : ℕ) → ℕ
+failed_in o i zero = 0
+failed_in o i (suc count) = cond (eqb (rule_in (read_entry (four_at i o))) 0) 0 1 + failed_in o (i + 1) count
 
 -- 5: it makes up the failure count, which on some sheet is not the number of verdicts with a rule that it leaves
 abbrev pub Miscounts : Program → Type 0
-Miscounts P = (s out : List ℕ) × (n failed : ℕ) × (P.answer s out ≡ Done n failed) × (failed ≡ failedIn (P.after s out) 0 n → ⊥)
+Miscounts P = (s out : List ℕ) × (n failed : ℕ) × (P.answer s out ≡ Done n failed) × (failed ≡ failed_in (P.after s out) 0 n → ⊥)
 
 -- or which hangs on the header's bytes alone, or on nothing
 abbrev pub MakesUpCount : (List ℕ → ℕ) → Program → Type 0
-MakesUpCount count P = (s out : List ℕ) (n failed : ℕ) → P.answer s out ≡ Done n failed → failed ≡ count (take (headSize s) s)
+MakesUpCount count P = (s out : List ℕ) (n failed : ℕ) → P.answer s out ≡ Done n failed → failed ≡ count (take (head_size s) s)
 
 -- and since verdicts name a source: it names none on a pass
 abbrev pub DropsSource : Program → Type 0

@@ -4,7 +4,7 @@ use Rattle.sheet.specs.Refusals.{given, refused}
 use Rattle.checker.specs.declared.Entry.{Entry}
 use Rattle.checker.specs.declared.Checked.{Checked}
 use Rattle.checker.specs.Entry.{read_entry}
-use Rattle.checker.specs.Check.{fourAt, toldChecked, Checks}
+use Rattle.checker.specs.Check.{four_at, told_checked, Checks}
 
 -- what it answers to a sheet and a lent output, and what it leaves in the output
 pub record Program : Type 0 where
@@ -17,8 +17,8 @@ Meets P = (s out : List ℕ) → Checks s out (P.answer s out) (P.after s out)
 
 -- it refuses the sheet with this number and this place
 abbrev pub Refuses : Program → (s out : List ℕ) (k p : ℕ) → Type 0
-Refuses P s out k p = toldChecked (P.answer s out) ≡ refused k p
+Refuses P s out k p = told_checked (P.answer s out) ≡ refused k p
 
 -- the verdict that it leaves for record i
 abbrev pub Leaves : Program → (s out : List ℕ) (i : ℕ) → Entry → Type 0
-Leaves P s out i e = read_entry (fourAt i (P.after s out)) ≡ given e
+Leaves P s out i e = read_entry (four_at i (P.after s out)) ≡ given e

@@ -3,50 +3,50 @@ use Rattle.std.specs.Prelude.{ℕ, suc, ◌+◌, ◌*◌, ◌≤◌, ◌<◌, �
 use Rattle.quantity.specs.Range.{within, from}
 use Rattle.layout.specs.Layout.{pack, unpack, bytes}
 use Rattle.layout.specs.Line.{Line, Allowed, FirstFault}
-use Rattle.sheet.specs.Versions.{versionNumbers}
-use Rattle.sheet.specs.Header.{headerFields, versionField, versionIn}
-use Rattle.sheet.specs.Lines.{headerLines, plateLines, plateWidths, memberLines, memberWidths}
+use Rattle.sheet.specs.Versions.{version_numbers}
+use Rattle.sheet.specs.Header.{header_fields, version_field, version_in}
+use Rattle.sheet.specs.Lines.{header_lines, plate_lines, plate_widths, member_lines, member_widths}
 
 -- how many bytes the header takes, by its version; the fields are those of crates/sheet/specs/Header.antt: nine in the first twelve bytes, then the version's own
-abbrev pub headSize : List ℕ → ℕ
-headSize s = (versionIn s).size
+abbrev pub head_size : List ℕ → ℕ
+head_size s = (version_in s).size
 
 -- n, the eighth of them
 abbrev pub count_of : List ℕ → ℕ
-count_of s = get_or (headerFields s) 7 0
+count_of s = get_or (header_fields s) 7 0
 
 -- L and H, the second and the fourth, and the depth, the second that version 2 has of its own; all in cm
 abbrev pub length_of : List ℕ → ℕ
-length_of s = get_or (headerFields s) 1 0
+length_of s = get_or (header_fields s) 1 0
 
-abbrev pub waveOf : List ℕ → ℕ
-waveOf s = get_or (headerFields s) 3 0
+abbrev pub wave_of : List ℕ → ℕ
+wave_of s = get_or (header_fields s) 3 0
 
 abbrev pub depth_of : List ℕ → ℕ
-depth_of s = get_or (headerFields s) 10 0
+depth_of s = get_or (header_fields s) 10 0
 
 -- where record i begins, and where the sheet ends
-abbrev pub recordStart : List ℕ → ℕ → ℕ
-recordStart s i = headSize s + 16 * i
+abbrev pub record_start : List ℕ → ℕ → ℕ
+record_start s i = head_size s + 16 * i
 
-abbrev pub sheetEnd : List ℕ → ℕ
-sheetEnd s = recordStart s (count_of s)
+abbrev pub sheet_end : List ℕ → ℕ
+sheet_end s = record_start s (count_of s)
 
 -- the number of 128 bits in the sixteen bytes of record i
 abbrev pub number_of : List ℕ → ℕ → ℕ
-number_of s i = pack (bytes 16) (take 16 (drop (recordStart s i) s))
+number_of s i = pack (bytes 16) (take 16 (drop (record_start s i) s))
 
 -- its kind, the first field of a plate and of a member
 abbrev pub kind_of : List ℕ → ℕ → ℕ
-kind_of s i = get_or (unpack plateWidths (number_of s i)) 0 0
+kind_of s i = get_or (unpack plate_widths (number_of s i)) 0 0
 
 -- its fields: those of a plate up to kind 4, else those of a member
 abbrev pub fields_of : List ℕ → ℕ → List ℕ
-fields_of s i = cond (ltb (kind_of s i) 5) (unpack plateWidths (number_of s i)) (unpack memberWidths (number_of s i))
+fields_of s i = cond (ltb (kind_of s i) 5) (unpack plate_widths (number_of s i)) (unpack member_widths (number_of s i))
 
 -- the lines that they answer to, by the kind, and those of a plate by its ballast and its z
 abbrev pub lines_of : List ℕ → ℕ → List Line
-lines_of s i = let fs = unpack plateWidths (number_of s i) in cond (ltb (kind_of s i) 5) (plateLines (kind_of s i) (eqb (get_or fs 8 0) 1) (get_or fs 3 0)) (memberLines (kind_of s i))
+lines_of s i = let fs = unpack plate_widths (number_of s i) in cond (ltb (kind_of s i) 5) (plate_lines (kind_of s i) (eqb (get_or fs 8 0) 1) (get_or fs 3 0)) (member_lines (kind_of s i))
 
 -- its id, the second field
 abbrev pub id_of : List ℕ → ℕ → ℕ
@@ -54,13 +54,13 @@ id_of s i = get_or (fields_of s i) 1 0
 
 -- there is a header, and each of its fields is within its values
 pub record HeaderSound (s : List ℕ) : Type 0 where
-  pub long : headSize s ≤ length s
-  pub fields : Allowed (headerLines (versionIn s)) (headerFields s)
+  pub long : head_size s ≤ length s
+  pub fields : Allowed (header_lines (version_in s)) (header_fields s)
 
 -- length over depth beyond the limit of Ch 2 Sec 2 [2.1.3]: 35 at wave height 60, 25 from 120 on. Version 1 has no depth
 pub data TooSlender (s : List ℕ) : Type 0 where
-  at-60 : 2 ≤ versionField s → waveOf s ≡ 60 → 35 * depth_of s < length_of s → TooSlender s
-  from-120 : 2 ≤ versionField s → 120 ≤ waveOf s → 25 * depth_of s < length_of s → TooSlender s
+  at_60 : 2 ≤ version_field s → wave_of s ≡ 60 → 35 * depth_of s < length_of s → TooSlender s
+  from_120 : 2 ≤ version_field s → 120 ≤ wave_of s → 25 * depth_of s < length_of s → TooSlender s
 
 -- each field of record i is within its values
 abbrev pub RecordSound : List ℕ → ℕ → Type 0
@@ -75,7 +75,7 @@ pub record InOrder (s : List ℕ) (i : ℕ) : Type 0 where
 pub record Fits (s : List ℕ) (room : ℕ) : Type 0 where
   pub header : HeaderSound s
   pub slim : TooSlender s → ⊥
-  pub whole : length s ≡ sheetEnd s
+  pub whole : length s ≡ sheet_end s
   pub enough : 4 * count_of s ≤ room
 
 -- nor do rows 6 to 8 for any record before record i, which is one of the n
@@ -87,19 +87,19 @@ pub record Reached (s : List ℕ) (room i : ℕ) : Type 0 where
 -- row k of the table holds with place p, and no earlier row does
 pub data Row (s : List ℕ) (room : ℕ) : (k p : ℕ) → Type 0 where
   -- 1: sheet under 12 bytes
-  sheet-short : length s < 12 → Row s room 1 0
+  sheet_short : length s < 12 → Row s room 1 0
   -- 2: version, the first field, none of those that there are
-  version : 12 ≤ length s → within versionNumbers (versionField s) ≡ false → Row s room 2 0
+  version : 12 ≤ length s → within version_numbers (version_field s) ≡ false → Row s room 2 0
   -- 1 again: sheet under the bytes that the header of its version takes
-  header-short : 12 ≤ length s → within versionNumbers (versionField s) ≡ true → length s < headSize s → Row s room 1 0
+  header_short : 12 ≤ length s → within version_numbers (version_field s) ≡ true → length s < head_size s → Row s room 1 0
   -- 3: a later header field outside its values, the first such; place: field, version being 1
-  header-field : (f : ℕ) → headSize s ≤ length s → FirstFault (suc f) (headerLines (versionIn s)) (headerFields s) → Row s room 3 (f + 2)
+  header_field : (f : ℕ) → head_size s ≤ length s → FirstFault (suc f) (header_lines (version_in s)) (header_fields s) → Row s room 3 (f + 2)
   -- 9: the hull is too slender
   slender : HeaderSound s → TooSlender s → Row s room 9 0
   -- 4: sheet length not its header's bytes + 16n
-  sheet-length : HeaderSound s → (TooSlender s → ⊥) → (length s ≡ sheetEnd s → ⊥) → Row s room 4 0
+  sheet_length : HeaderSound s → (TooSlender s → ⊥) → (length s ≡ sheet_end s → ⊥) → Row s room 4 0
   -- 5: output under 4n bytes
-  output-short : HeaderSound s → (TooSlender s → ⊥) → length s ≡ sheetEnd s → room < 4 * count_of s → Row s room 5 0
+  output_short : HeaderSound s → (TooSlender s → ⊥) → length s ≡ sheet_end s → room < 4 * count_of s → Row s room 5 0
   -- 6: kind not 1..8; place: record, from 0
   kind : (i : ℕ) → Reached s room i → within (from 1 8) (kind_of s i) ≡ false → Row s room 6 i
   -- 7: another field outside its values, the first such; place: 32 × record + field, kind being 1

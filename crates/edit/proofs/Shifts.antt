@@ -21,8 +21,8 @@ store (y ∷ g) (x ∷ xs) zero h l = refl
 store (y ∷ g) (x ∷ xs) (suc k) h l = ap (λ (r : List ℕ). y ∷ r) (store g xs k (omega arith) (omega arith))
 
 -- a store at the last of the first suc m elements
-store-last : (xs r : List ℕ) (m v : ℕ) → m < length xs → set (take (suc m) xs ++ r) m v ≡ take m xs ++ (v ∷ r)
-store-last xs r m v h =
+store_last : (xs r : List ℕ) (m v : ℕ) → m < length xs → set (take (suc m) xs ++ r) m v ≡ take m xs ++ (v ∷ r)
+store_last xs r m v h =
     let s : m < length (take (suc m) xs) = simp length-take (omega arith) in
     set-append_left (take (suc m) xs) r m v s
     ∙ ap (λ (l : List ℕ). l ++ r) (sym (take-set-lt (suc m) xs m v (omega arith)) ∙ take-suc-set xs m v h)
@@ -45,19 +45,19 @@ open_turn xs k j end e h l =
     let r = drop (suc j) (take end xs) ++ drop (end + 16) xs in
     let byte : get_or (take (suc (j + 16)) xs ++ r) j 0 ≡ get_or xs j 0 = get_or-append (take (suc (j + 16)) xs) r 0 j s ∙ get_or-take (suc (j + 16)) xs j 0 (omega arith) in
     let next : drop j (take end xs) ≡ get_or xs j 0 ∷ drop (suc j) (take end xs) = drop-cons (take end xs) j 0 t ∙ ap (λ (v : ℕ). v ∷ drop (suc j) (take end xs)) (get_or-take end xs j 0 h) in
-    rw (e, f, byte, next) (store-last xs r (j + 16) (get_or xs j 0) (omega arith))
+    rw (e, f, byte, next) (store_last xs r (j + 16) (get_or xs j 0) (omega arith))
 
 -- Moving down.
-pub close-none : (xs : List ℕ) (at : ℕ) → at ≤ length xs → xs ≡ closed xs at at
+pub close_none : (xs : List ℕ) (at : ℕ) → at ≤ length xs → xs ≡ closed xs at at
 unfolding closed
-close-none xs at h =
+close_none xs at h =
     let e : length (take at xs) ≡ at = length-take-le at xs h in
     rw (take_at (take at xs) (drop (at + 16) xs) at e) (sym (take-append-drop at xs))
 
-pub close-turn : (xs : List ℕ) (at k : ℕ) → at ≤ k → k + 16 < length xs
+pub close_turn : (xs : List ℕ) (at k : ℕ) → at ≤ k → k + 16 < length xs
     → set (closed xs at k) k (get_or (closed xs at k) (k + 16) 0) ≡ closed xs at (k + 1)
 unfolding closed
-close-turn xs at k h l =
+close_turn xs at k h l =
     let w : length (without at xs) ≡ length xs - 16 = simp (length-append, length-take, length-drop) (omega arith) in
     let p : length (take k (without at xs)) ≡ k = length-take-le k (without at xs) (omega arith) in
     let a : length (take at xs) ≡ at = length-take-le at xs (omega arith) in
@@ -72,14 +72,14 @@ close-turn xs at k h l =
 abbrev pub zeros : List ℕ → List ℕ
 zeros xs = replicate (length xs) 0
 
-pub clear-turn : (xs : List ℕ) (k : ℕ) → k < length xs → set (take k (zeros xs) ++ drop k xs) k 0 ≡ take (k + 1) (zeros xs) ++ drop (k + 1) xs
-clear-turn xs k h =
+pub clear_turn : (xs : List ℕ) (k : ℕ) → k < length xs → set (take k (zeros xs) ++ drop k xs) k 0 ≡ take (k + 1) (zeros xs) ++ drop (k + 1) xs
+clear_turn xs k h =
     let z : get_or (zeros xs) k 0 ≡ 0 = get_or-replicate (length xs) k 0 0 h in
     let n : length (zeros xs) ≡ length xs = length-replicate (length xs) 0 in
     ap (set (take k (zeros xs) ++ drop k xs) k) (sym z) ∙ rw add-one (store (zeros xs) xs k (omega arith) h)
 
-pub clear-done : (xs : List ℕ) (k : ℕ) → k ≡ length xs → take k (zeros xs) ++ drop k xs ≡ zeros xs
-clear-done xs k e =
+pub clear_done : (xs : List ℕ) (k : ℕ) → k ≡ length xs → take k (zeros xs) ++ drop k xs ≡ zeros xs
+clear_done xs k e =
     let n : length (zeros xs) ≡ length xs = length-replicate (length xs) 0 in
     let l : length xs ≤ k = omega arith in
     rw (take_all k (zeros xs) (omega arith), drop_of_length-le xs l) (append-nil (zeros xs))

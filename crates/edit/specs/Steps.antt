@@ -4,11 +4,11 @@ use Rattle.layout.specs.Bytes.{read_of}
 use Rattle.sheet.specs.declared.Header.{Header}
 use Rattle.sheet.specs.declared.Record.{Record}
 use Rattle.sheet.specs.Refusals.{given}
-use Rattle.sheet.specs.Header.{headerFault}
-use Rattle.sheet.specs.Record.{recordFault, rawAt}
-use Rattle.checker.specs.Check.{partsFrom, Sheet}
+use Rattle.sheet.specs.Header.{header_fault}
+use Rattle.sheet.specs.Record.{record_fault, raw_at}
+use Rattle.checker.specs.Check.{parts_from, Sheet}
 use Rattle.keyed.specs.Keyed.{position_of, has_of}
-use Rattle.edit.specs.Edit.{sheetAt, start}
+use Rattle.edit.specs.Edit.{sheet_at, start}
 
 -- ---- bytes that move by sixteen
 
@@ -31,34 +31,34 @@ cleared xs a e = take a xs ++ (replicate (e - a) 0 ++ drop e xs)
 -- ---- the records by their bytes
 
 -- the id in sixteen bytes, whatever else stands there
-abbrev pub idIn : List ℕ → ℕ
-idIn b = (rawAt (read_of 16 b)).values.id
+abbrev pub id_in : List ℕ → ℕ
+id_in b = (raw_at (read_of 16 b)).values.id
 
 -- the place of an id among the first n records, by the bytes of all of them
 unfoldable pub place_in : List ℕ → (n id : ℕ) → ℕ
-place_in b n id = position_of idIn id (partsFrom b 0 n)
+place_in b n id = position_of id_in id (parts_from b 0 n)
 
 -- whether one of them has it
-unfoldable pub hasIn : List ℕ → (n id : ℕ) → Bool
-hasIn b n id = has_of idIn id (partsFrom b 0 n)
+unfoldable pub has_in : List ℕ → (n id : ℕ) → Bool
+has_in b n id = has_of id_in id (parts_from b 0 n)
 
 -- ---- what a step may count on
 
 -- the sheet is sound, and this is its header
 pub record Known (b : List ℕ) (len : ℕ) (h : Header) : Type 0 where
   pub sheet : Sheet
-  pub found : sheetAt b len ≡ given sheet
+  pub found : sheet_at b len ≡ given sheet
   pub header : h ≡ sheet.header
 
 -- header and record are sound, and there is room for one record more
 pub record Fits (h : Header) (i len : ℕ) (r : Record) (size : ℕ) : Type 0 where
-  pub header : headerFault h ≡ 0
-  pub sound : recordFault r 0 ≡ 0
+  pub header : header_fault h ≡ 0
+  pub sound : record_fault r 0 ≡ 0
   pub inside : start h i ≤ len
   pub room : len + 16 ≤ size
 
 -- the header is sound, and record i is one of the sheet's
 pub record Stands (h : Header) (i len size : ℕ) : Type 0 where
-  pub header : headerFault h ≡ 0
+  pub header : header_fault h ≡ 0
   pub inside : start h i + 16 ≤ len
   pub whole : len ≤ size

@@ -3,11 +3,11 @@ mod find;
 mod shift;
 
 ghost use Rattle.std.specs.Prelude.{◌≡◌, false, ◌+◌, ◌*◌, ◌≤◌, length};
-ghost use Rattle.sheet.specs.Refusals.{toldHeader};
-ghost use Rattle.sheet.specs.Record.{recordFault};
-ghost use Rattle.checker.specs.Check.{recordsPart};
-ghost use Rattle.edit.specs.Edit.{headerOf, start, counting, replacing, inserting, removing, put_in, putNumbersIn, removeIn, Edits};
-ghost use Rattle.edit.specs.Steps.{place_in, hasIn, Known, Fits, Stands};
+ghost use Rattle.sheet.specs.Refusals.{told_header};
+ghost use Rattle.sheet.specs.Record.{record_fault};
+ghost use Rattle.checker.specs.Check.{records_part};
+ghost use Rattle.edit.specs.Edit.{header_of, start, counting, replacing, inserting, removing, put_in, put_numbers_in, remove_in, Edits};
+ghost use Rattle.edit.specs.Steps.{place_in, has_in, Known, Fits, Stands};
 
 use sheet::{Header, HeaderRead, Outcome, RECORD, Record, RecordRead, Refusal};
 
@@ -20,7 +20,7 @@ pub enum Edited {
 
 // The header of the sheet, or why it is turned away.
 fn sheet_at(buf: &[u8], len: usize) -> HeaderRead
-    ensures { toldHeader result ≡ headerOf buf.now len }
+    ensures { told_header result ≡ header_of buf.now len }
 {
     if buf.len() < len {
         return HeaderRead::Refused(Refusal::SheetShort);
@@ -54,7 +54,7 @@ fn counted(h: Header, count: u16) -> Header
 
 // A sound record over the sixteen bytes of record i, under the header h.
 fn replace(buf: &mut [u8], h: Header, i: u16, r: Record)
-    requires { (recordFault r 0 ≡ 0) × (start h i + 16 ≤ length buf.old) }
+    requires { (record_fault r 0 ≡ 0) × (start h i + 16 ≤ length buf.old) }
     ensures { buf.new ≡ replacing h i r buf.old }
 {
     let size = h.size();
@@ -88,7 +88,7 @@ fn take_out(buf: &mut [u8], len: usize, h: Header, i: u16)
 
 // A sound record with a new id, which goes in at its place. The header's own test says whether n can go up.
 fn put_new(buf: &mut [u8], len: usize, h: Header, i: u16, r: Record) -> Edited
-    requires { Known buf.old len h × (recordFault r 0 ≡ 0) × (i ≡ place_in (recordsPart h buf.old) h.count r.id) × (hasIn (recordsPart h buf.old) h.count r.id ≡ false) }
+    requires { Known buf.old len h × (record_fault r 0 ≡ 0) × (i ≡ place_in (records_part h buf.old) h.count r.id) × (has_in (records_part h buf.old) h.count r.id ≡ false) }
     ensures { Edits (put_in buf.old len r) buf.old result buf.new }
 {
     if buf.len() - len < RECORD {
@@ -107,7 +107,7 @@ fn put_new(buf: &mut [u8], len: usize, h: Header, i: u16, r: Record) -> Edited
 
 // A sound record, which replaces the one with its id or goes in at its place.
 fn put_sound(buf: &mut [u8], len: usize, h: Header, r: Record) -> Edited
-    requires { Known buf.old len h × (recordFault r 0 ≡ 0) }
+    requires { Known buf.old len h × (record_fault r 0 ≡ 0) }
     ensures { Edits (put_in buf.old len r) buf.old result buf.new }
 {
     let n = h.count;
@@ -124,7 +124,7 @@ fn put_sound(buf: &mut [u8], len: usize, h: Header, r: Record) -> Edited
 // The record that thirteen numbers are into the sheet: it replaces the one with its id, or goes in at its place in the id order. A number that its field does not
 // allow is refused at that field, however great it is. A refusal changes no byte.
 pub fn put_numbers(buf: &mut [u8], len: usize, f: [u32; 13]) -> Edited
-    ensures { Edits (putNumbersIn buf.old len f) buf.old result buf.new }
+    ensures { Edits (put_numbers_in buf.old len f) buf.old result buf.new }
 {
     let read = sheet_at(buf, len);
     match read {
@@ -141,7 +141,7 @@ pub fn put_numbers(buf: &mut [u8], len: usize, f: [u32; 13]) -> Edited
 
 fn remove_sound(buf: &mut [u8], len: usize, h: Header, id: u32) -> Edited
     requires { Known buf.old len h }
-    ensures { Edits (removeIn buf.old len id) buf.old result buf.new }
+    ensures { Edits (remove_in buf.old len id) buf.old result buf.new }
 {
     let n = h.count;
     let size = h.size();
@@ -156,7 +156,7 @@ fn remove_sound(buf: &mut [u8], len: usize, h: Header, id: u32) -> Edited
 
 // The record of an id out of the sheet: those after it close the gap, and the sixteen bytes that come free are zeroed. A refusal changes no byte.
 pub fn remove(buf: &mut [u8], len: usize, id: u32) -> Edited
-    ensures { Edits (removeIn buf.old len id) buf.old result buf.new }
+    ensures { Edits (remove_in buf.old len id) buf.old result buf.new }
 {
     let read = sheet_at(buf, len);
     match read {

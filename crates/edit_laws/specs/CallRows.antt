@@ -2,11 +2,11 @@
 use Rattle.std.specs.Prelude.{ℕ, suc, ◌+◌, ◌*◌, ◌≤◌, ◌<◌, ◌≡◌, false, List, length, get_or, take}
 use Rattle.quantity.specs.Range.{within, from}
 use Rattle.layout.specs.Line.{Allowed, FirstFault}
-use Rattle.sheet.specs.Header.{versionIn}
-use Rattle.numbers.specs.laws.Exactly.{recordFields, recordLines}
+use Rattle.sheet.specs.Header.{version_in}
+use Rattle.numbers.specs.laws.Exactly.{record_fields, record_lines}
 use Rattle.checker.specs.Unjudged.{room}
 use Rattle.demands.specs.Table.{count_of, id_of, Row, Accepted}
-use Rattle.edit_laws.specs.Calls.{Call, putFields, removeId}
+use Rattle.edit_laws.specs.Calls.{Call, put_fields, remove_id}
 
 -- the stated length is within the buffer, and no row of the table holds for the sheet there; `room` is as much output as any sheet needs
 pub record Accepts (b : List ℕ) (len : ℕ) : Type 0 where
@@ -22,7 +22,7 @@ pub record Has (b : List ℕ) (len id : ℕ) : Type 0 where
 -- there is no room for one record more: the sheet plus 16 exceeds the buffer, or n stands at its version's highest
 pub data NoRoom (b : List ℕ) (len : ℕ) : Type 0 where
   short : length b < len + 16 → NoRoom b len
-  most : (versionIn (take len b)).most ≤ count_of (take len b) → NoRoom b len
+  most : (version_in (take len b)).most ≤ count_of (take len b) → NoRoom b len
 
 -- why the sheet is turned away
 pub data SheetRefused (b : List ℕ) (len : ℕ) : (k p : ℕ) → Type 0 where
@@ -33,21 +33,21 @@ pub data SheetRefused (b : List ℕ) (len : ℕ) : (k p : ℕ) → Type 0 where
 
 -- why a put of these numbers is: the sheet's own; then
 pub data PutRefused (b : List ℕ) (len : ℕ) (ns : List ℕ) : (k p : ℕ) → Type 0 where
-  sheet-first : {k p : ℕ} → SheetRefused b len k p → PutRefused b len ns k p
+  sheet_first : {k p : ℕ} → SheetRefused b len k p → PutRefused b len ns k p
   -- 6: the first number is not 1..8; place: n
   no_kind : Accepts b len → within (from 1 8) (get_or ns 0 0) ≡ false → PutRefused b len ns 6 (count_of (take len b))
   -- 7: another is outside the values of its field, the first such; place: 32n + field, kind being 1
-  no_field : (f : ℕ) → Accepts b len → FirstFault (suc f) (recordLines ns) (recordFields ns) → PutRefused b len ns 7 (32 * count_of (take len b) + (f + 2))
+  no_field : (f : ℕ) → Accepts b len → FirstFault (suc f) (record_lines ns) (record_fields ns) → PutRefused b len ns 7 (32 * count_of (take len b) + (f + 2))
   -- 11: each is within them, the id, which is the second, is new, and there is no room
-  full : Accepts b len → Allowed (recordLines ns) (recordFields ns) → (Has b len (get_or ns 1 0) → ⊥) → NoRoom b len → PutRefused b len ns 11 0
+  full : Accepts b len → Allowed (record_lines ns) (record_fields ns) → (Has b len (get_or ns 1 0) → ⊥) → NoRoom b len → PutRefused b len ns 11 0
 
 -- why a removal is: the sheet's own; then
 pub data RemoveRefused (b : List ℕ) (len id : ℕ) : (k p : ℕ) → Type 0 where
-  sheet-before : {k p : ℕ} → SheetRefused b len k p → RemoveRefused b len id k p
+  sheet_before : {k p : ℕ} → SheetRefused b len k p → RemoveRefused b len id k p
   -- 10: no record has the id
   not_there : Accepts b len → (Has b len id → ⊥) → RemoveRefused b len id 10 0
 
 -- why a call is
 abbrev pub CallRefused : Call → (b : List ℕ) (len k p : ℕ) → Type 0
-CallRefused (putFields ns) b len k p = PutRefused b len ns k p
-CallRefused (removeId id) b len k p = RemoveRefused b len id k p
+CallRefused (put_fields ns) b len k p = PutRefused b len ns k p
+CallRefused (remove_id id) b len k p = RemoveRefused b len id k p

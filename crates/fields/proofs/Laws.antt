@@ -9,7 +9,7 @@ use borrow.Author.Tests.{ne_eqb}
 use lib.Dec.{eqb}
 use lib.ListN.{length, get_or, drop, drop_of_length-le}
 use lib.Seq.{drop-cons, drop-drop}
-use Rattle.fields.specs.Number.{digitOf}
+use Rattle.fields.specs.Number.{digit_of}
 use Rattle.fields.specs.Marks.{Marks, feeds, seen, seen_at, by, outside, inside}
 use Rattle.fields.specs.Field.{field_of}
 use Rattle.fields.specs.declared.Num.{Num}
@@ -33,11 +33,11 @@ pub seen_here : (s : List ℕ) (at : ℕ) → at < length s → seen_at (drop at
 unfolding seen_at
 seen_here s at h = ap seen_at (here s at h)
 
-pub feeds-past : (s : List ℕ) (at : ℕ) → length s ≤ at → feeds (drop at s) ≡ false
-feeds-past s at h = ap feeds (past s at h)
+pub feeds_past : (s : List ℕ) (at : ℕ) → length s ≤ at → feeds (drop at s) ≡ false
+feeds_past s at h = ap feeds (past s at h)
 
-pub feeds-here : (s : List ℕ) (at : ℕ) → at < length s → feeds (drop at s) ≡ eqb (get_or s at 0) 10
-feeds-here s at h = ap feeds (here s at h)
+pub feeds_here : (s : List ℕ) (at : ℕ) → at < length s → feeds (drop at s) ≡ eqb (get_or s at 0) 10
+feeds_here s at h = ap feeds (here s at h)
 
 -- a place where something stands is before the end
 abbrev pub ends : Seen → Bool
@@ -48,12 +48,12 @@ ends Skip = false
 ends Quote = false
 ends (Data b) = false
 
-pub before-end : (s : List ℕ) (at : ℕ) (k : Seen) → k ≡ seen_at (drop at s) → ends k ≡ false → at < length s
+pub before_end : (s : List ℕ) (at : ℕ) (k : Seen) → k ≡ seen_at (drop at s) → ends k ≡ false → at < length s
 unfolding seen_at
-before-end [] zero k e f = absurd (true≢false (sym (ap ends e) ∙ f))
-before-end [] (suc at) k e f = absurd (true≢false (sym (ap ends e) ∙ f))
-before-end (b ∷ s) zero k e f = omega arith
-before-end (b ∷ s) (suc at) k e f = let h = before-end s at k e f in omega arith
+before_end [] zero k e f = absurd (true≢false (sym (ap ends e) ∙ f))
+before_end [] (suc at) k e f = absurd (true≢false (sym (ap ends e) ∙ f))
+before_end (b ∷ s) zero k e f = omega arith
+before_end (b ∷ s) (suc at) k e f = let h = before_end s at k e f in omega arith
 
 -- one step outside quotes
 out_eq : (l : List ℕ) (at : ℕ) (p : Place) → outside l at p ≡ by (seen_at l) p (at + 1) (outside (drop 1 l) (at + 1)) (inside (drop 1 l) (at + 1))
@@ -72,16 +72,16 @@ told s at p n k q e f =
     ∙ ap (λ (l : List ℕ). by k q (at + 1) (outside l (at + 1)) (inside l (at + 1))) (drop-drop 1 at s)))
 
 -- one step inside quotes
-pub told-quote : (s : List ℕ) (at : ℕ) (n : Num) → at < length s → get_or s at 0 ≡ 34
+pub told_quote : (s : List ℕ) (at : ℕ) (n : Num) → at < length s → get_or s at 0 ≡ 34
     → field_of (inside (drop at s) at) n ≡ field_of (outside (drop (at + 1) s) (at + 1) Closed) n
 unfolding inside
-told-quote s at n h e = rw (here s at h, e)
+told_quote s at n h e = rw (here s at h, e)
 
-pub told-byte : (s : List ℕ) (at : ℕ) (n : Num) → at < length s → (get_or s at 0 ≡ 34 → ⊥)
-    → field_of (inside (drop at s) at) n ≡ field_of (inside (drop (at + 1) s) (at + 1)) (digitOf n (get_or s at 0))
+pub told_byte : (s : List ℕ) (at : ℕ) (n : Num) → at < length s → (get_or s at 0 ≡ 34 → ⊥)
+    → field_of (inside (drop at s) at) n ≡ field_of (inside (drop (at + 1) s) (at + 1)) (digit_of n (get_or s at 0))
 unfolding inside field_of
-told-byte s at n h e = rw (here s at h, ne_eqb _ _ e)
+told_byte s at n h e = rw (here s at h, ne_eqb _ _ e)
 
-pub told-unclosed : (s : List ℕ) (at : ℕ) (n : Num) → length s ≤ at → field_of (inside (drop at s) at) n ≡ Field.Fault
+pub told_unclosed : (s : List ℕ) (at : ℕ) (n : Num) → length s ≤ at → field_of (inside (drop at s) at) n ≡ Field.Fault
 unfolding inside field_of
-told-unclosed s at n h = rw (past s at h)
+told_unclosed s at n h = rw (past s at h)

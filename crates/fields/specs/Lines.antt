@@ -1,7 +1,7 @@
 -- The lines of a text, each a list of fields, each field its bytes; up to the first line with a quote that is unclosed or out of place.
 use Rattle.std.specs.Prelude.{ℕ, ◌+◌, List, [], ◌∷◌}
-use Rattle.fields.specs.Number.{digitOf, value_of}
-use Rattle.fields.specs.Marks.{Marks, marksAt}
+use Rattle.fields.specs.Number.{digit_of, value_of}
+use Rattle.fields.specs.Marks.{Marks, marks_at}
 use Rattle.fields.specs.declared.Num.{Num}
 use Rattle.fields.specs.declared.Num.TheVariants.{Empty}
 
@@ -17,29 +17,29 @@ onto b [] = (b ∷ []) ∷ []
 onto b (f ∷ fs) = (b ∷ f) ∷ fs
 
 -- the same of the first line's
-abbrev pub ontoLine : ℕ → Lines → Lines
-ontoLine b none = none
-ontoLine b bad = bad
-ontoLine b (row fs ls) = row (onto b fs) ls
+abbrev pub onto_line : ℕ → Lines → Lines
+onto_line b none = none
+onto_line b bad = bad
+onto_line b (row fs ls) = row (onto b fs) ls
 
 -- an empty field in front of the first line's
-abbrev pub fieldMore : Lines → Lines
-fieldMore none = none
-fieldMore bad = bad
-fieldMore (row fs ls) = row ([] ∷ fs) ls
+abbrev pub field_more : Lines → Lines
+field_more none = none
+field_more bad = bad
+field_more (row fs ls) = row ([] ∷ fs) ls
 
 -- the lines of some marks
 unfoldable pub lines_of : Marks → Lines
-lines_of (Marks.byte b m) = ontoLine b (lines_of m)
-lines_of (Marks.comma next m) = fieldMore (lines_of m)
+lines_of (Marks.byte b m) = onto_line b (lines_of m)
+lines_of (Marks.comma next m) = field_more (lines_of m)
 lines_of (Marks.line next m) = row ([] ∷ []) (lines_of m)
 lines_of Marks.end = row ([] ∷ []) none
 lines_of Marks.fault = bad
 
 -- the lines of a text from a line's start at `at` on
-unfoldable pub linesAt : List ℕ → (at : ℕ) → Lines
-linesAt s at = lines_of (marksAt s at)
+unfoldable pub lines_at : List ℕ → (at : ℕ) → Lines
+lines_at s at = lines_of (marks_at s at)
 
 -- the lines of a text
-abbrev pub linesIn : List ℕ → Lines
-linesIn s = linesAt s 0
+abbrev pub lines_in : List ℕ → Lines
+lines_in s = lines_at s 0

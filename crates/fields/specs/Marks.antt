@@ -20,13 +20,13 @@ feeds [] = false
 feeds (b ∷ s) = eqb b 10
 
 -- what a line feed before the bytes s is: a line end, but with nothing behind it the text's
-abbrev pub afterFeed : List ℕ → Seen
-afterFeed [] = End
-afterFeed (b ∷ s) = Line
+abbrev pub after_feed : List ℕ → Seen
+after_feed [] = End
+after_feed (b ∷ s) = Line
 
 -- what the byte b before the bytes s is, outside quotes. A CR belongs to the line end where a LF follows it, and is a byte like any other where none does
 abbrev pub seen : ℕ → List ℕ → Seen
-seen b s = cond (eqb b 44) Comma (cond (eqb b 34) Quote (cond (eqb b 10) (afterFeed s) (cond (eqb b 13 && feeds s) Skip (Data b))))
+seen b s = cond (eqb b 44) Comma (cond (eqb b 34) Quote (cond (eqb b 10) (after_feed s) (cond (eqb b 13 && feeds s) Skip (Data b))))
 
 unfoldable pub seen_at : List ℕ → Seen
 seen_at [] = End
@@ -58,5 +58,5 @@ unfoldable mutual
   inside (b ∷ s) at = cond (eqb b 34) (outside s (at + 1) Closed) (byte b (inside s (at + 1)))
 
 -- the marks of the text s from a field's start at `at` on
-unfoldable pub marksAt : List ℕ → (at : ℕ) → Marks
-marksAt s at = outside (drop at s) at Start
+unfoldable pub marks_at : List ℕ → (at : ℕ) → Marks
+marks_at s at = outside (drop at s) at Start

@@ -12,42 +12,42 @@ use Rattle.fields.specs.declared.Mode.TheVariants as Mode
 use Rattle.fields.specs.declared.Turn.{Turn}
 use Rattle.fields.specs.declared.Turn.TheVariants as Turn
 
-abbrev pub isBad : Num → Bool
-isBad Num.Bad = true
-isBad Num.Empty = false
-isBad (Num.Value v) = false
+abbrev pub is_bad : Num → Bool
+is_bad Num.Bad = true
+is_bad Num.Empty = false
+is_bad (Num.Value v) = false
 
-abbrev pub isClosed : Place → Bool
-isClosed Place.Closed = true
-isClosed Place.Start = false
-isClosed Place.Inside = false
+abbrev pub is_closed : Place → Bool
+is_closed Place.Closed = true
+is_closed Place.Start = false
+is_closed Place.Inside = false
 
-abbrev pub plainTurn : Seen → Turn
-plainTurn Seen.End = Turn.End
-plainTurn Seen.Comma = Turn.Comma
-plainTurn Seen.Line = Turn.Line
-plainTurn Seen.Skip = Turn.On Mode.Plain
-plainTurn Seen.Quote = Turn.Fault
-plainTurn (Seen.Data b) = Turn.On Mode.Plain
+abbrev pub plain_turn : Seen → Turn
+plain_turn Seen.End = Turn.End
+plain_turn Seen.Comma = Turn.Comma
+plain_turn Seen.Line = Turn.Line
+plain_turn Seen.Skip = Turn.On Mode.Plain
+plain_turn Seen.Quote = Turn.Fault
+plain_turn (Seen.Data b) = Turn.On Mode.Plain
 
-abbrev pub closedTurn : Seen → Turn
-closedTurn Seen.End = Turn.End
-closedTurn Seen.Comma = Turn.Comma
-closedTurn Seen.Line = Turn.Line
-closedTurn Seen.Skip = Turn.On Mode.Closed
-closedTurn Seen.Quote = Turn.On Mode.Quoted
-closedTurn (Seen.Data b) = Turn.Fault
+abbrev pub closed_turn : Seen → Turn
+closed_turn Seen.End = Turn.End
+closed_turn Seen.Comma = Turn.Comma
+closed_turn Seen.Line = Turn.Line
+closed_turn Seen.Skip = Turn.On Mode.Closed
+closed_turn Seen.Quote = Turn.On Mode.Quoted
+closed_turn (Seen.Data b) = Turn.Fault
 
-abbrev pub quotedTurn : List ℕ → Turn
-quotedTurn [] = Turn.Fault
-quotedTurn (b ∷ s) = cond (eqb b 34) (Turn.On Mode.Closed) (Turn.On Mode.Quoted)
+abbrev pub quoted_turn : List ℕ → Turn
+quoted_turn [] = Turn.Fault
+quoted_turn (b ∷ s) = cond (eqb b 34) (Turn.On Mode.Closed) (Turn.On Mode.Quoted)
 
 abbrev pub turn_of : List ℕ → Mode → Turn
-turn_of l Mode.Plain = plainTurn (seen_at l)
-turn_of l Mode.Closed = closedTurn (seen_at l)
-turn_of l Mode.Quoted = quotedTurn l
+turn_of l Mode.Plain = plain_turn (seen_at l)
+turn_of l Mode.Closed = closed_turn (seen_at l)
+turn_of l Mode.Quoted = quoted_turn l
 
-abbrev pub marksIn : Mode → List ℕ → ℕ → Marks
-marksIn Mode.Plain l at = outside l at Place.Inside
-marksIn Mode.Closed l at = outside l at Place.Closed
-marksIn Mode.Quoted l at = inside l at
+abbrev pub marks_in : Mode → List ℕ → ℕ → Marks
+marks_in Mode.Plain l at = outside l at Place.Inside
+marks_in Mode.Closed l at = outside l at Place.Closed
+marks_in Mode.Quoted l at = inside l at

@@ -1,9 +1,9 @@
 // One field of comma-separated text, as a number: what its bytes spell, its quotes taken away, how it ends, and where the next one starts.
 ghost use Rattle.std.specs.Prelude.{◌≡◌, ◌<◌, drop};
-ghost use Rattle.fields.specs.Number.{digitOf, longerOf};
-ghost use Rattle.fields.specs.Marks.{feeds, afterFeed, seen_at, outside, inside};
-ghost use Rattle.fields.specs.Field.{field_of, fieldAt};
-ghost use Rattle.fields.specs.Rest.{isBad, isClosed, plainTurn, closedTurn, quotedTurn, turn_of, marksIn};
+ghost use Rattle.fields.specs.Number.{digit_of, longer_of};
+ghost use Rattle.fields.specs.Marks.{feeds, after_feed, seen_at, outside, inside};
+ghost use Rattle.fields.specs.Field.{field_of, field_at};
+ghost use Rattle.fields.specs.Rest.{is_bad, is_closed, plain_turn, closed_turn, quoted_turn, turn_of, marks_in};
 
 // What the bytes of a field spell, so far.
 #[derive(Drop)]
@@ -80,7 +80,7 @@ fn line_feed_at(text: &[u8], at: usize) -> bool
 
 // A line feed with nothing behind it ends the last line, and starts none.
 fn after_feed(text: &[u8], at: usize) -> Seen
-    ensures { result ≡ afterFeed (drop at text.now) }
+    ensures { result ≡ after_feed (drop at text.now) }
 {
     if at < text.len() {
         Seen::Line
@@ -117,7 +117,7 @@ pub fn look(text: &[u8], at: usize) -> Seen
 // One digit more: none may follow a leading 0, nor nine of them.
 fn longer(v: u32, d: u32) -> Num
     requires { d < 10 }
-    ensures { result ≡ longerOf v d }
+    ensures { result ≡ longer_of v d }
 {
     if v == 0 {
         return Num::Bad;
@@ -130,7 +130,7 @@ fn longer(v: u32, d: u32) -> Num
 }
 
 fn digit(num: Num, b: u8) -> Num
-    ensures { result ≡ digitOf num b }
+    ensures { result ≡ digit_of num b }
 {
     if b < 48 {
         return Num::Bad;
@@ -147,7 +147,7 @@ fn digit(num: Num, b: u8) -> Num
 }
 
 fn is_bad(n: Num) -> bool
-    ensures { result ≡ isBad n }
+    ensures { result ≡ is_bad n }
 {
     match n {
         Num::Bad => true,
@@ -157,7 +157,7 @@ fn is_bad(n: Num) -> bool
 }
 
 fn is_closed(p: Place) -> bool
-    ensures { result ≡ isClosed p }
+    ensures { result ≡ is_closed p }
 {
     match p {
         Place::Closed => true,
@@ -167,7 +167,7 @@ fn is_closed(p: Place) -> bool
 }
 
 fn plain_turn(k: Seen) -> Turn
-    ensures { result ≡ plainTurn k }
+    ensures { result ≡ plain_turn k }
 {
     match k {
         Seen::End => Turn::End,
@@ -180,7 +180,7 @@ fn plain_turn(k: Seen) -> Turn
 }
 
 fn closed_turn(k: Seen) -> Turn
-    ensures { result ≡ closedTurn k }
+    ensures { result ≡ closed_turn k }
 {
     match k {
         Seen::End => Turn::End,
@@ -193,7 +193,7 @@ fn closed_turn(k: Seen) -> Turn
 }
 
 fn quoted_turn(text: &[u8], at: usize) -> Turn
-    ensures { result ≡ quotedTurn (drop at text.now) }
+    ensures { result ≡ quoted_turn (drop at text.now) }
 {
     if text.len() <= at {
         return Turn::Fault;
@@ -217,7 +217,7 @@ fn turn_at(text: &[u8], at: usize, mode: Mode) -> Turn
 
 // The end of a field that is no number, in a loop: its length has no bound, and the stack has one.
 fn rest(text: &[u8], at: usize, mode: Mode) -> Field
-    ensures { result ≡ field_of (marksIn mode (drop at text.now) at) Num.Bad }
+    ensures { result ≡ field_of (marks_in mode (drop at text.now) at) Num.Bad }
 {
     let mut here = at;
     let mut m = mode;
@@ -301,7 +301,7 @@ fn quoted(text: &[u8], at: usize, num: Num) -> Field
 
 // The field that starts at a place.
 pub fn field_at(text: &[u8], at: usize) -> Field
-    ensures { result ≡ fieldAt text.now at }
+    ensures { result ≡ field_at text.now at }
 {
     plain(text, at, Num::Empty, Place::Start)
 }

@@ -3,7 +3,7 @@ ghost use Rattle.std.specs.Prelude.{◌≡◌, true, cond, ◌+◌, ◌<◌, ◌
 ghost use Rattle.fields.specs.Marks.{seen_at};
 ghost use Rattle.text.specs.declared.LineEnd.TheVariants.{More, Last};
 ghost use Rattle.text.specs.Line.{Reads};
-ghost use Rattle.filling.specs.Filling.{blankBy, blank, lineLeft};
+ghost use Rattle.filling.specs.Filling.{blank_by, blank, line_left};
 ghost use Rattle.filling.specs.Steps.{Counts};
 
 use fields::{Field, Seen};
@@ -11,7 +11,7 @@ use text::{Line, LineEnd};
 
 // Whether the field that starts at a place is empty and has no quotes.
 fn is_empty(text: &[u8], at: usize) -> bool
-    ensures { result ≡ blankBy true (seen_at (drop at text.now)) true }
+    ensures { result ≡ blank_by true (seen_at (drop at text.now)) true }
 {
     match fields::look(text, at) {
         Seen::End => true,
@@ -64,7 +64,7 @@ fn kept_by(empty: bool, kept: usize, count: usize) -> usize
 
 // How many fields the line at a place has without its filling, and how it ends then. The first field stays.
 fn count_at(text: &[u8], at: usize) -> Line
-    ensures { Counts (lineLeft true text.now at) result }
+    ensures { Counts (line_left true text.now at) result }
 {
     let mut here = at;
     let mut count: usize = 0;
@@ -100,7 +100,7 @@ fn count_at(text: &[u8], at: usize) -> Line
 }
 
 fn unfilled_at(text: &[u8], at: usize, nums: &mut [u32]) -> Line
-    ensures { Reads (lineLeft true text.now at) nums.old result nums.new }
+    ensures { Reads (line_left true text.now at) nums.old result nums.new }
 {
     let line = count_at(text, at);
     let count = line.count;
@@ -114,7 +114,7 @@ fn unfilled_at(text: &[u8], at: usize, nums: &mut [u32]) -> Line
 
 // The line that starts at a place, without its filling where the text is filled up: its numbers go over the first of `nums`, as far as there is room.
 pub fn line_at(text: &[u8], at: usize, filled: bool, nums: &mut [u32]) -> Line
-    ensures { Reads (lineLeft filled text.now at) nums.old result nums.new }
+    ensures { Reads (line_left filled text.now at) nums.old result nums.new }
 {
     if filled {
         return unfilled_at(text, at, nums);

@@ -1,14 +1,14 @@
 // Rules 4, 5 and 6: the web, the section modulus and the shear area of a member.
 ghost use Rattle.std.specs.Prelude.{◌≡◌, ◌*◌, ◌<◌, ◌≤◌, ◌^◌};
-ghost use Rattle.gauge.specs.Ceil.{ceilOf};
-ghost use Rattle.loads.specs.Sources.{toldLoad};
-ghost use Rattle.sheet.specs.Record.{ofMember};
+ghost use Rattle.gauge.specs.Ceil.{ceil_of};
+ghost use Rattle.loads.specs.Sources.{told_load};
+ghost use Rattle.sheet.specs.Record.{of_member};
 ghost use Rattle.sheet.specs.Ranges.{HeaderRanges, MemberRanges};
-ghost use Rattle.verdict.specs.Verdict.{verdictOf};
-ghost use Rattle.verdict.specs.Judged.{toldJudged, judgedBy};
-ghost use Rattle.framing.specs.Rules.{memberPressure, memberNamed, memberRules, memberFinding};
-ghost use Rattle.framing.specs.Shapes.{stressedShape, shape4, shape5, shape6};
-ghost use Rattle.framing.specs.Work.{toldWork, workOf, toldWorked};
+ghost use Rattle.verdict.specs.Verdict.{verdict_of};
+ghost use Rattle.verdict.specs.Judged.{told_judged, judged_by};
+ghost use Rattle.framing.specs.Rules.{member_pressure, member_named, member_rules, member_finding};
+ghost use Rattle.framing.specs.Shapes.{stressed_shape, shape4, shape5, shape6};
+ghost use Rattle.framing.specs.Work.{told_work, work_of, told_worked};
 ghost use Rattle.framing.specs.Bounds.{Product, Bounded};
 
 use gauge::Shape;
@@ -20,7 +20,7 @@ use verdict::{Judged, Verdict};
 // a·x ≥ p.
 fn at_least(p: u64, a: u64) -> Shape
     requires { 0 < a }
-    ensures { result ≡ Shape.Floor (ceilOf p a) }
+    ensures { result ≡ Shape.Floor (ceil_of p a) }
 {
     Shape::Floor(gauge::ceil_div(p, a))
 }
@@ -28,7 +28,7 @@ fn at_least(p: u64, a: u64) -> Shape
 // a·x·(limit − σ1) ≥ p. At σ1 = limit and above no strength is left: nothing meets it, not even with p = 0.
 fn stressed(a: u64, limit: u8, stress: u8, p: u64) -> Shape
     requires { (0 < a) × (a ≤ 2 ^ 40) }
-    ensures { result ≡ stressedShape a limit stress p }
+    ensures { result ≡ stressed_shape a limit stress p }
 {
     if stress < limit {
         return at_least(p, a * (limit - stress) as u64);
@@ -94,7 +94,7 @@ fn rule6(kind: u8, shear: u8, eta: u8, q: Line, span: Span) -> Shape
 
 // A longitudinal bears the sea at its height, the deeper members that of the whole draught.
 fn member_load(h: Header, kind: u8, m: Member) -> Load
-    ensures { toldLoad result ≡ memberNamed h kind m }
+    ensures { told_load result ≡ member_named h kind m }
 {
     if 6 <= kind {
         return loads::deep(h.draught, h.wave, h.two_runs);
@@ -104,8 +104,8 @@ fn member_load(h: Header, kind: u8, m: Member) -> Load
 
 // The rules in their order, under the member's load; a later shape is built only where the earlier rules are met.
 fn member_verdict(h: Header, kind: u8, m: Member, load: Load) -> Verdict
-    requires { HeaderRanges h × MemberRanges kind m × (load.pressure.0 ≡ memberPressure h kind m) }
-    ensures { result ≡ verdictOf (memberRules h kind m) }
+    requires { HeaderRanges h × MemberRanges kind m × (load.pressure.0 ≡ member_pressure h kind m) }
+    ensures { result ≡ verdict_of (member_rules h kind m) }
 {
     let web = rule4(kind, h.length, m.factor, m.spacing);
     if !gauge::meets(web, m.thickness.0 as u32) {
@@ -145,8 +145,8 @@ pub enum MemberWorked {
 }
 
 fn member_work(h: Header, kind: u8, m: Member, load: Load) -> MemberWork
-    requires { HeaderRanges h × MemberRanges kind m × (toldLoad load ≡ memberNamed h kind m) }
-    ensures { toldWork result ≡ workOf h kind m }
+    requires { HeaderRanges h × MemberRanges kind m × (told_load load ≡ member_named h kind m) }
+    ensures { told_work result ≡ work_of h kind m }
 {
     let borne = loads::line_load(load, m.spacing);
     let web = rule4(kind, h.length, m.factor, m.spacing);
@@ -166,7 +166,7 @@ fn member_work(h: Header, kind: u8, m: Member, load: Load) -> MemberWork
 
 // How a member's scantlings are worked out, or why the header or the member's record is turned away.
 pub fn worked(h: Header, kind: u8, id: u16, m: Member) -> MemberWorked
-    ensures { toldWorked result ≡ judgedBy h (ofMember kind id m) (workOf h kind m) }
+    ensures { told_worked result ≡ judged_by h (of_member kind id m) (work_of h kind m) }
 {
     let admitted = verdict::admitted_member(h, kind, id, m);
     if let Outcome::Refused(r) = admitted {
@@ -177,7 +177,7 @@ pub fn worked(h: Header, kind: u8, id: u16, m: Member) -> MemberWorked
 
 // The verdict on a member and what its pressure comes from, or why the header or the member's record is turned away.
 pub fn judge(h: Header, kind: u8, id: u16, m: Member) -> Judged
-    ensures { toldJudged result ≡ judgedBy h (ofMember kind id m) (memberFinding h kind m) }
+    ensures { told_judged result ≡ judged_by h (of_member kind id m) (member_finding h kind m) }
 {
     let admitted = verdict::admitted_member(h, kind, id, m);
     if let Outcome::Refused(r) = admitted {

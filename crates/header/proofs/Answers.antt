@@ -13,16 +13,16 @@ use borrow.Rule.Slice.PartMut.{mid_of, put_mid}
 use borrow.Author.Tests.{lt-ltb, le-ltb, eq-eqb, ne_eqb, eqb-true}
 use Rattle.layout.specs.Layout.{pack, unpack, bytes}
 use Rattle.layout.specs.Bytes.{read_of, written_of}
-use Rattle.layout.specs.laws.BytesLaws.{read_all, write-all}
-use Rattle.layout.specs.laws.Tail.{mid-tail, put-tail}
-use Rattle.layout.specs.Line.{faultFrom}
-use Rattle.sheet.specs.Versions.{firstBytes, one, two, numbered, versionOf, bytesNeeded, under_first}
-use Rattle.sheet.specs.laws.VersionLaws.{regular, needs-own}
-use Rattle.sheet.specs.Lines.{headerLines, firstWidths, ownWidths}
-use Rattle.sheet.specs.Header.{headerSize, firstValues, ownValues, header_at, rawFault, headerFault, fieldsIn, ownBytes, firstFields, ownFields, versionField, versionIn, headerFields, headerOf, readHeader, headerBytes, headerNeeds, writeHeader}
-use Rattle.sheet.specs.laws.HeaderLaws.{version-at, spareIn, restIn, read-fault}
-use Rattle.sheet.specs.laws.HeaderExactly.{header-read-1, fine-needs}
-use Rattle.sheet.specs.Refusals.{Answer, given, refused, told, toldOutcome, toldHeader, headerRefused}
+use Rattle.layout.specs.laws.BytesLaws.{read_all, write_all_lem}
+use Rattle.layout.specs.laws.Tail.{mid_tail, put_tail}
+use Rattle.layout.specs.Line.{fault_from}
+use Rattle.sheet.specs.Versions.{first_bytes, one, two, numbered, version_of, bytes_needed, under_first}
+use Rattle.sheet.specs.laws.VersionLaws.{regular, needs_own}
+use Rattle.sheet.specs.Lines.{header_lines, first_widths, own_widths}
+use Rattle.sheet.specs.Header.{header_size, first_values, own_values, header_at, raw_fault, header_fault, fields_in, own_bytes, first_fields, own_fields, version_field, version_in, header_fields, header_of, read_header, header_bytes, header_needs, write_header}
+use Rattle.sheet.specs.laws.HeaderLaws.{version_at, spare_in, rest_in, read_fault}
+use Rattle.sheet.specs.laws.HeaderExactly.{header_read_1, fine_needs}
+use Rattle.sheet.specs.Refusals.{Answer, given, refused, told, told_outcome, told_header, header_refused}
 use Rattle.sheet.specs.laws.RefusalLaws.{at_none, says}
 use Rattle.sheet.specs.Writes.{Writes}
 use Rattle.sheet.specs.declared.Header.{Header}
@@ -34,138 +34,138 @@ use Rattle.sheet.specs.declared.Outcome.TheVariants.{Fine, Refused as notFine}
 use Rattle.sheet.specs.declared.HeaderRead.TheVariants.{Good as goodHeader, Refused as no_header}
 
 -- what the refusal of a faulty field says
-abbrev pub refusalOf : ℕ → Refusal
-refusalOf f = cond (eqb f 1) OtherVersion (HeaderField f)
+abbrev pub refusal_of : ℕ → Refusal
+refusal_of f = cond (eqb f 1) OtherVersion (HeaderField f)
 
-refused_says : {A : Type 0} (f : ℕ) (fine : Answer A) → (f ≡ 0 → ⊥) → told (refusalOf f) ≡ headerRefused f fine
+refused_says : {A : Type 0} (f : ℕ) (fine : Answer A) → (f ≡ 0 → ⊥) → told (refusal_of f) ≡ header_refused f fine
 refused_says f fine z = says OtherVersion (HeaderField f) (λ k. refused 3 k) f fine refl z
 
-fine-says : {A : Type 0} (f : ℕ) (fine : Answer A) → f ≡ 0 → fine ≡ headerRefused f fine
-fine-says f fine z = sym (at_none (refused 2 0) (λ k. refused 3 k) f fine z)
+fine_says : {A : Type 0} (f : ℕ) (fine : Answer A) → f ≡ 0 → fine ≡ header_refused f fine
+fine_says f fine z = sym (at_none (refused 2 0) (λ k. refused 3 k) f fine z)
 
-module _ (h : Header) (f : ℕ) (ef : f ≡ headerFault h) where
-  pub fault-fine : f ≡ 0 → toldOutcome Fine ≡ headerRefused (headerFault h) (given tt)
-  fault-fine z = fine-says f (given tt) z ∙ ap (λ (n : ℕ). headerRefused n (given tt)) ef
+module _ (h : Header) (f : ℕ) (ef : f ≡ header_fault h) where
+  pub fault_fine : f ≡ 0 → told_outcome Fine ≡ header_refused (header_fault h) (given tt)
+  fault_fine z = fine_says f (given tt) z ∙ ap (λ (n : ℕ). header_refused n (given tt)) ef
 
-  pub fault-refused : (r : Refusal) → r ≡ refusalOf f → (f ≡ 0 → ⊥) → toldOutcome (notFine r) ≡ headerRefused (headerFault h) (given tt)
-  fault-refused r er z = ap (λ (x : Refusal). told x) er ∙ refused_says f (given tt) z ∙ ap (λ (n : ℕ). headerRefused n (given tt)) ef
+  pub fault_refused : (r : Refusal) → r ≡ refusal_of f → (f ≡ 0 → ⊥) → told_outcome (notFine r) ≡ header_refused (header_fault h) (given tt)
+  fault_refused r er z = ap (λ (x : Refusal). told x) er ∙ refused_says f (given tt) z ∙ ap (λ (n : ℕ). header_refused n (given tt)) ef
 
 -- ---- reading
 
-pub read-few : (s : List ℕ) → length s < firstBytes → toldHeader (no_header SheetShort) ≡ readHeader s
-read-few s l = sym ((header-read-1 s 0).1 (under_first l, refl))
+pub read_few : (s : List ℕ) → length s < first_bytes → told_header (no_header SheetShort) ≡ read_header s
+read_few s l = sym ((header_read_1 s 0).1 (under_first l, refl))
 
 -- what was read: the first bytes as a number of 96 bits, the next as one of 64, and the header that they are
-module _ (s : List ℕ) (l : firstBytes ≤ length s) (n w : ℕ) (h : Header) (en : n ≡ read_of firstBytes s) (ew : w ≡ read_of 8 (drop firstBytes s)) (eh : h ≡ header_at (fieldsIn n w)) where
-  number : n ≡ pack (bytes firstBytes) (take firstBytes s)
-  number = en ∙ read_all firstBytes s l
+module _ (s : List ℕ) (l : first_bytes ≤ length s) (n w : ℕ) (h : Header) (en : n ≡ read_of first_bytes s) (ew : w ≡ read_of 8 (drop first_bytes s)) (eh : h ≡ header_at (fields_in n w)) where
+  number : n ≡ pack (bytes first_bytes) (take first_bytes s)
+  number = en ∙ read_all first_bytes s l
 
   -- it names the version that stands in the bytes, and is of it
-  named : h.version ≡ versionField s
-  named = ap (λ (g : Header). g.version) eh ∙ ap (λ (m : ℕ). get_or (unpack firstWidths m) 0 0) number
+  named : h.version ≡ version_field s
+  named = ap (λ (g : Header). g.version) eh ∙ ap (λ (m : ℕ). get_or (unpack first_widths m) 0 0) number
 
-  kept : versionOf h.own ≡ versionIn s
-  kept = ap (λ (g : Header). versionOf g.own) eh ∙ version-at (get_or (unpack firstWidths n) 0 0) (drop 9 (fieldsIn n w)) ∙ ap (λ (m : ℕ). numbered (get_or (unpack firstWidths m) 0 0)) number
+  kept : version_of h.own ≡ version_in s
+  kept = ap (λ (g : Header). version_of g.own) eh ∙ version_at (get_or (unpack first_widths n) 0 0) (drop 9 (fields_in n w)) ∙ ap (λ (m : ℕ). numbered (get_or (unpack first_widths m) 0 0)) number
 
-  same-needs : headerNeeds h ≡ bytesNeeded (versionField s) (versionIn s)
-  same-needs = ap₂ bytesNeeded named kept
+  same_needs : header_needs h ≡ bytes_needed (version_field s) (version_in s)
+  same_needs = ap₂ bytes_needed named kept
 
-  pub read_under : length s < headerNeeds h → toldHeader (no_header SheetShort) ≡ readHeader s
-  unfolding readHeader
-  read_under u = rw (lt-ltb (length s) (bytesNeeded (versionField s) (versionIn s)) (omega (arith, same-needs)))
+  pub read_under : length s < header_needs h → told_header (no_header SheetShort) ≡ read_header s
+  unfolding read_header
+  read_under u = rw (lt-ltb (length s) (bytes_needed (version_field s) (version_in s)) (omega (arith, same_needs)))
 
-  module _ (enough : headerNeeds h ≤ length s) where
+  module _ (enough : header_needs h ≤ length s) where
     -- in version 2 there are bytes for its own fields
-    own_read : (t : Bool) → eqb (versionField s) two.number ≡ t → unpack (ownWidths (cond t two one)) w ≡ ownFields (cond t two one) s
+    own_read : (t : Bool) → eqb (version_field s) two.number ≡ t → unpack (own_widths (cond t two one)) w ≡ own_fields (cond t two one) s
     own_read true e =
-        let k = eqb-true (versionField s) two.number e in
-        let v : versionIn s ≡ two = ap numbered k in
-        let long : 8 ≤ length (drop firstBytes s) = omega (arith, same-needs, needs-own (versionField s) two k, ap (bytesNeeded (versionField s)) v, length-drop firstBytes s) in
-        ap (unpack (ownWidths two)) (ew ∙ read_all 8 (drop firstBytes s) long)
+        let k = eqb-true (version_field s) two.number e in
+        let v : version_in s ≡ two = ap numbered k in
+        let long : 8 ≤ length (drop first_bytes s) = omega (arith, same_needs, needs_own (version_field s) two k, ap (bytes_needed (version_field s)) v, length-drop first_bytes s) in
+        ap (unpack (own_widths two)) (ew ∙ read_all 8 (drop first_bytes s) long)
     own_read false e = refl
 
-    fields_read : fieldsIn n w ≡ headerFields s
+    fields_read : fields_in n w ≡ header_fields s
     fields_read =
-        ap (λ (m : ℕ). fieldsIn m w) number
-        ∙ ap (λ (us : List ℕ). firstFields s ++ us) (own_read (eqb (versionField s) two.number) refl)
+        ap (λ (m : ℕ). fields_in m w) number
+        ∙ ap (λ (us : List ℕ). first_fields s ++ us) (own_read (eqb (version_field s) two.number) refl)
 
-    is-header : h ≡ headerOf s
-    is-header = eh ∙ ap header_at fields_read
+    is_header : h ≡ header_of s
+    is_header = eh ∙ ap header_at fields_read
 
     -- what stands in the last bits of the word is read in version 2 alone
-    own-rest : (t : Bool) (section : Section) → eqb (versionField s) two.number ≡ t
-        → ownValues (cond t (Two section) One) (w % 2 ^ 27) ≡ ownValues (cond t (Two section) One) (get_or (firstFields s ++ ownFields (cond t two one) s) 11 0)
-    own-rest true section e =
-        let third : w % 2 ^ 27 ≡ get_or (ownFields two s) 2 0 = ap (λ (m : ℕ). m % 2 ^ 27) (sym (div-one w)) ∙ ap (λ (us : List ℕ). get_or us 2 0) (own_read true e) in
+    own_rest : (t : Bool) (section : Section) → eqb (version_field s) two.number ≡ t
+        → own_values (cond t (Two section) One) (w % 2 ^ 27) ≡ own_values (cond t (Two section) One) (get_or (first_fields s ++ own_fields (cond t two one) s) 11 0)
+    own_rest true section e =
+        let third : w % 2 ^ 27 ≡ get_or (own_fields two s) 2 0 = ap (λ (m : ℕ). m % 2 ^ 27) (sym (div-one w)) ∙ ap (λ (us : List ℕ). get_or us 2 0) (own_read true e) in
         ap (λ (m : ℕ). section.inner_modulus ∷ section.depth.0 ∷ m ∷ []) third
-    own-rest false section e = refl
+    own_rest false section e = refl
 
-    rest_read : rawFault (headerOf s) (spareIn s) (w % 2 ^ 27) ≡ rawFault (headerOf s) (spareIn s) (restIn s)
-    unfolding rawFault
+    rest_read : raw_fault (header_of s) (spare_in s) (w % 2 ^ 27) ≡ raw_fault (header_of s) (spare_in s) (rest_in s)
+    unfolding raw_fault
     rest_read =
-        ap (λ (us : List ℕ). faultFrom 1 (headerLines (versionOf (headerOf s).own)) (firstValues (headerOf s) (spareIn s) ++ us))
-        (own-rest (eqb (versionField s) two.number) _ refl)
+        ap (λ (us : List ℕ). fault_from 1 (header_lines (version_of (header_of s).own)) (first_values (header_of s) (spare_in s) ++ us))
+        (own_rest (eqb (version_field s) two.number) _ refl)
 
-    module _ (spare rest f : ℕ) (es : spare ≡ get_or (unpack firstWidths n) 8 0) (er : rest ≡ w % 2 ^ 27) (ef : f ≡ rawFault h spare rest) where
-      found : f ≡ faultFrom 1 (headerLines (versionIn s)) (headerFields s)
+    module _ (spare rest f : ℕ) (es : spare ≡ get_or (unpack first_widths n) 8 0) (er : rest ≡ w % 2 ^ 27) (ef : f ≡ raw_fault h spare rest) where
+      found : f ≡ fault_from 1 (header_lines (version_in s)) (header_fields s)
       found =
-          let spared : spare ≡ spareIn s = es ∙ ap (λ (m : ℕ). get_or (unpack firstWidths m) 8 0) number in
-          ef ∙ ap₂ (λ (g : Header) (x : ℕ). rawFault g x rest) is-header spared ∙ ap (rawFault (headerOf s) (spareIn s)) er ∙ rest_read ∙ sym (read-fault s)
+          let spared : spare ≡ spare_in s = es ∙ ap (λ (m : ℕ). get_or (unpack first_widths m) 8 0) number in
+          ef ∙ ap₂ (λ (g : Header) (x : ℕ). raw_fault g x rest) is_header spared ∙ ap (raw_fault (header_of s) (spare_in s)) er ∙ rest_read ∙ sym (read_fault s)
 
-      read_as : headerRefused f (given h) ≡ readHeader s
-      unfolding readHeader
+      read_as : header_refused f (given h) ≡ read_header s
+      unfolding read_header
       read_as =
-          rw (le-ltb (length s) (bytesNeeded (versionField s) (versionIn s)) (omega (arith, same-needs)))
-          (ap₂ (λ (k : ℕ) (a : Header). headerRefused k (given a)) found is-header)
+          rw (le-ltb (length s) (bytes_needed (version_field s) (version_in s)) (omega (arith, same_needs)))
+          (ap₂ (λ (k : ℕ) (a : Header). header_refused k (given a)) found is_header)
 
-      pub read-good : f ≡ 0 → toldHeader (goodHeader h) ≡ readHeader s
-      read-good z = fine-says f (given h) z ∙ read_as
+      pub read_good : f ≡ 0 → told_header (goodHeader h) ≡ read_header s
+      read_good z = fine_says f (given h) z ∙ read_as
 
-      pub read-bad : (r : Refusal) → r ≡ refusalOf f → (f ≡ 0 → ⊥) → toldHeader (no_header r) ≡ readHeader s
-      read-bad r er z = ap (λ (x : Refusal). told x) er ∙ refused_says f (given h) z ∙ read_as
+      pub read_bad : (r : Refusal) → r ≡ refusal_of f → (f ≡ 0 → ⊥) → told_header (no_header r) ≡ read_header s
+      read_bad r er z = ap (λ (x : Refusal). told x) er ∙ refused_says f (given h) z ∙ read_as
 
 -- ---- writing
 
 module _ (h : Header) (o : List ℕ) where
-  pub write_under : length o < headerNeeds h → Writes (writeHeader h o) (toldOutcome (notFine OutputShort)) o
-  unfolding writeHeader
+  pub write_under : length o < header_needs h → Writes (write_header h o) (told_outcome (notFine OutputShort)) o
+  unfolding write_header
   write_under l = record { answer = rw (lt-ltb _ _ l); bytes = rw (lt-ltb _ _ l) }
 
-  module _ (f : ℕ) (l : headerNeeds h ≤ length o) (ef : f ≡ headerFault h) where
-    pub write-bad : (r : Refusal) → r ≡ refusalOf f → (f ≡ 0 → ⊥) → Writes (writeHeader h o) (toldOutcome (notFine r)) o
-    unfolding writeHeader
-    write-bad r er z =
+  module _ (f : ℕ) (l : header_needs h ≤ length o) (ef : f ≡ header_fault h) where
+    pub write_bad : (r : Refusal) → r ≡ refusal_of f → (f ≡ 0 → ⊥) → Writes (write_header h o) (told_outcome (notFine r)) o
+    unfolding write_header
+    write_bad r er z =
         record {
-          answer = fault-refused h f ef r er z ∙ rw (le-ltb _ _ l);
-          bytes = rw (le-ltb _ _ l, ne_eqb (headerFault h) 0 (λ e. z (ef ∙ e)));
+          answer = fault_refused h f ef r er z ∙ rw (le-ltb _ _ l);
+          bytes = rw (le-ltb _ _ l, ne_eqb (header_fault h) 0 (λ e. z (ef ∙ e)));
         }
 
     module _ (z : f ≡ 0) where
       -- there is room for all of it
-      pub room : headerSize h ≤ length o
-      room = omega (arith, fine-needs h (sym ef ∙ z))
+      pub room : header_size h ≤ length o
+      room = omega (arith, fine_needs h (sym ef ∙ z))
 
-      pub write-good : (after : List ℕ) → after ≡ headerBytes h ++ drop (headerSize h) o → Writes (writeHeader h o) (toldOutcome Fine) after
-      unfolding writeHeader
-      write-good after ea =
+      pub write_good : (after : List ℕ) → after ≡ header_bytes h ++ drop (header_size h) o → Writes (write_header h o) (told_outcome Fine) after
+      unfolding write_header
+      write_good after ea =
           record {
-            answer = fault-fine h f ef z ∙ rw (le-ltb _ _ l);
+            answer = fault_fine h f ef z ∙ rw (le-ltb _ _ l);
             bytes = ea
-                ∙ ap (λ (k : ℕ). headerBytes h ++ drop k o) (sym (fine-needs h (sym ef ∙ z)))
-                ∙ rw (le-ltb _ _ l, eq-eqb (headerFault h) 0 (sym ef ∙ z));
+                ∙ ap (λ (k : ℕ). header_bytes h ++ drop k o) (sym (fine_needs h (sym ef ∙ z)))
+                ∙ rw (le-ltb _ _ l, eq-eqb (header_fault h) 0 (sym ef ∙ z));
           }
 
 -- the first bytes, and then those of the version's own, are the header's
-pub both-parts : (h : Header) (o m e : List ℕ) (n : ℕ) → headerSize h ≤ length o → n ≡ pack firstWidths (firstValues h 0) → m ≡ written_of firstBytes n o
-    → e ≡ unpack (bytes (ownBytes (versionOf h.own))) (pack (ownWidths (versionOf h.own)) (ownValues h.own 0)) ++ drop (ownBytes (versionOf h.own)) (mid_of firstBytes (length m - firstBytes) m)
-    → put_mid firstBytes (length m - firstBytes) m e ≡ headerBytes h ++ drop (headerSize h) o
-both-parts h o m e n l en em ee =
-    let v = versionOf h.own in
-    let all : firstBytes + ownBytes v ≡ v.size = omega (arith, (regular h.own).least) in
-    let first = unpack (bytes firstBytes) (pack firstWidths (firstValues h 0)) in
-    let own = unpack (bytes (ownBytes v)) (pack (ownWidths v) (ownValues h.own 0)) in
-    let m-is : m ≡ first ++ drop firstBytes o = em ∙ write-all firstBytes n o (omega (arith, all)) ∙ ap (λ (k : ℕ). unpack (bytes firstBytes) k ++ drop firstBytes o) en in
-    put-tail firstBytes m e (omega (arith, ap length m-is))
-    ∙ ap₂ (λ (x y : List ℕ). x ++ y) (ap (take firstBytes) m-is) (ee ∙ ap (λ (x : List ℕ). own ++ drop (ownBytes v) x) (mid-tail firstBytes m ∙ ap (drop firstBytes) m-is))
-    ∙ sym (append_assoc first own (drop (ownBytes v) (drop firstBytes o)))
-    ∙ ap (λ (x : List ℕ). first ++ own ++ x) (drop-drop (ownBytes v) firstBytes o ∙ ap (λ (k : ℕ). drop k o) all)
+pub both_parts : (h : Header) (o m e : List ℕ) (n : ℕ) → header_size h ≤ length o → n ≡ pack first_widths (first_values h 0) → m ≡ written_of first_bytes n o
+    → e ≡ unpack (bytes (own_bytes (version_of h.own))) (pack (own_widths (version_of h.own)) (own_values h.own 0)) ++ drop (own_bytes (version_of h.own)) (mid_of first_bytes (length m - first_bytes) m)
+    → put_mid first_bytes (length m - first_bytes) m e ≡ header_bytes h ++ drop (header_size h) o
+both_parts h o m e n l en em ee =
+    let v = version_of h.own in
+    let all : first_bytes + own_bytes v ≡ v.size = omega (arith, (regular h.own).least) in
+    let first = unpack (bytes first_bytes) (pack first_widths (first_values h 0)) in
+    let own = unpack (bytes (own_bytes v)) (pack (own_widths v) (own_values h.own 0)) in
+    let m_is : m ≡ first ++ drop first_bytes o = em ∙ write_all_lem first_bytes n o (omega (arith, all)) ∙ ap (λ (k : ℕ). unpack (bytes first_bytes) k ++ drop first_bytes o) en in
+    put_tail first_bytes m e (omega (arith, ap length m_is))
+    ∙ ap₂ (λ (x y : List ℕ). x ++ y) (ap (take first_bytes) m_is) (ee ∙ ap (λ (x : List ℕ). own ++ drop (own_bytes v) x) (mid_tail first_bytes m ∙ ap (drop first_bytes) m_is))
+    ∙ sym (append_assoc first own (drop (own_bytes v) (drop first_bytes o)))
+    ∙ ap (λ (x : List ℕ). first ++ own ++ x) (drop-drop (own_bytes v) first_bytes o ∙ ap (λ (k : ℕ). drop k o) all)

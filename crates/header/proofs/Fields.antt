@@ -5,8 +5,8 @@ use mathlib.Core.Path.{◌≡◌, refl, ◌∙◌}
 use mathlib.Core.List.{List, [], ◌∷◌}
 use native.Mathlib.Nat.{div-one, div-div-eq-div-mul}
 use Rattle.layout.specs.Layout.{unpack}
-use Rattle.layout.specs.laws.Laws.{unpack-words}
-use Rattle.sheet.specs.Lines.{firstWidths}
+use Rattle.layout.specs.laws.Laws.{unpack_words}
+use Rattle.sheet.specs.Lines.{first_widths}
 
 -- the parts of the two words
 abbrev pub parts : (hi lo : ℕ) → List ℕ
@@ -22,6 +22,6 @@ parts hi lo =
     ∷ lo % 2 ^ 3
     ∷ []
 
-pub first-fields : (hi lo : ℕ) → lo < 2 ^ 32 → unpack firstWidths (hi * 2 ^ 32 + lo) ≡ parts hi lo
-first-fields hi lo h =
-    unpack-words (4 ∷ 14 ∷ 10 ∷ 8 ∷ 1 ∷ 20 ∷ []) (9 ∷ 3 ∷ []) 7 20 32 refl hi lo h ∙ simp (div-one, div-div-eq-div-mul)
+pub first_fields_lem : (hi lo : ℕ) → lo < 2 ^ 32 → unpack first_widths (hi * 2 ^ 32 + lo) ≡ parts hi lo
+first_fields_lem hi lo h =
+    unpack_words (4 ∷ 14 ∷ 10 ∷ 8 ∷ 1 ∷ 20 ∷ []) (9 ∷ 3 ∷ []) 7 20 32 refl hi lo h ∙ simp (div-one, div-div-eq-div-mul)

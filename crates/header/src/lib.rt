@@ -1,12 +1,12 @@
 // The sheet's header: 96 bits in twelve bytes that every version has, and after them the bits that a version has of its own.
 ghost use Rattle.std.specs.Prelude.{◌≡◌, cond, ◌≤◌, ◌++◌, length, drop, eqb};
 ghost use Rattle.layout.specs.Layout.{pack, unpack, bytes, Fit};
-ghost use Rattle.layout.specs.Line.{among, faultFrom};
+ghost use Rattle.layout.specs.Line.{among, fault_from};
 ghost use Rattle.layout.specs.Bytes.{short_of};
-ghost use Rattle.sheet.specs.Versions.{numbered, versionOf};
-ghost use Rattle.sheet.specs.Lines.{waves, firstWidths, ownWidths};
-ghost use Rattle.sheet.specs.Refusals.{given, toldOutcome, toldHeader, headerRefused};
-ghost use Rattle.sheet.specs.Header.{firstValues, ownValues, own_at, header_at, rawFault, headerFault, fieldsIn, ownBytes, headerNeeds, readHeader, writeHeader};
+ghost use Rattle.sheet.specs.Versions.{numbered, version_of};
+ghost use Rattle.sheet.specs.Lines.{waves, first_widths, own_widths};
+ghost use Rattle.sheet.specs.Refusals.{given, told_outcome, told_header, header_refused};
+ghost use Rattle.sheet.specs.Header.{first_values, own_values, own_at, header_at, raw_fault, header_fault, fields_in, own_bytes, header_needs, read_header, write_header};
 ghost use Rattle.sheet.specs.Writes.{Writes};
 
 use layout::Short;
@@ -41,7 +41,7 @@ fn wave_fault(x: u16, field: u8, rest: u8) -> u8
 
 // The first field of its own that is outside its values, or 0.
 fn own_fault(own: Own, rest: u32) -> u8
-    ensures { result ≡ faultFrom 10 (versionOf own).lines (ownValues own rest) }
+    ensures { result ≡ fault_from 10 (version_of own).lines (own_values own rest) }
 {
     match own {
         Own::One => 0,
@@ -55,7 +55,7 @@ fn own_fault(own: Own, rest: u32) -> u8
 
 // The first field outside its values, version being 1, or 0. It goes from the last field to the first, so that the first has the last word.
 fn fault(h: Header, spare: u32, rest: u32) -> u8
-    ensures { result ≡ rawFault h spare rest }
+    ensures { result ≡ raw_fault h spare rest }
 {
     let own = h.own;
     let version = own.version();
@@ -73,7 +73,7 @@ fn fault(h: Header, spare: u32, rest: u32) -> u8
 
 // What a version has of its own in a number of 64 bits, whatever its values.
 fn own_of(version: u8, n: u64) -> Own
-    ensures { result ≡ own_at version (unpack (ownWidths (numbered version)) n) }
+    ensures { result ≡ own_at version (unpack (own_widths (numbered version)) n) }
 {
     if version == 2 {
         let inner_modulus = (n / P37 % P27) as u32;
@@ -88,7 +88,7 @@ fn own_of(version: u8, n: u64) -> Own
 
 // The header in a number of 96 bits and one of 64, whatever its values.
 fn header_of(n: Short, rest: u64) -> Header
-    ensures { result ≡ header_at (fieldsIn (short_of n) rest) }
+    ensures { result ≡ header_at (fields_in (short_of n) rest) }
 {
     let hi = n.hi;
     let lo = n.lo as u64;
@@ -116,8 +116,8 @@ fn header_of(n: Short, rest: u64) -> Header
 
 // What every version has, as a number.
 fn number_of(h: Header) -> Short
-    requires { Fit firstWidths (firstValues h 0) }
-    ensures { short_of result ≡ pack firstWidths (firstValues h 0) }
+    requires { Fit first_widths (first_values h 0) }
+    ensures { short_of result ≡ pack first_widths (first_values h 0) }
 {
     let modulus = h.bottom_modulus as u64;
     let top = (h.version as u64) * P60 + (h.length.0 as u64) * P46 + (h.draught.0 as u64) * P36;
@@ -139,7 +139,7 @@ fn refuse(f: u8) -> Refusal
 }
 
 pub fn header_fault(h: Header) -> Outcome
-    ensures { toldOutcome result ≡ headerRefused (headerFault h) (given tt) }
+    ensures { told_outcome result ≡ header_refused (header_fault h) (given tt) }
 {
     let f = fault(h, 0, 0);
     if f == 0 {
@@ -150,7 +150,7 @@ pub fn header_fault(h: Header) -> Outcome
 
 // How many bytes a header needs: twelve, in which its version stands, and the version's own where that goes with what the header holds.
 fn needs(h: Header) -> usize
-    ensures { result ≡ headerNeeds h }
+    ensures { result ≡ header_needs h }
 {
     let own = h.own;
     let version = own.version();
@@ -163,7 +163,7 @@ fn needs(h: Header) -> usize
 
 // The header in the first bytes, or why there is none. Its version is looked at before there have to be more than twelve bytes.
 pub fn read_header(s: &[u8]) -> HeaderRead
-    ensures { toldHeader result ≡ readHeader s.now }
+    ensures { told_header result ≡ read_header s.now }
 {
     if s.len() < FIRST {
         return HeaderRead::Refused(Refusal::SheetShort);
@@ -184,8 +184,8 @@ pub fn read_header(s: &[u8]) -> HeaderRead
 
 // What a version has of its own, as a number.
 fn own_number(own: Own) -> u64
-    requires { Fit (ownWidths (versionOf own)) (ownValues own 0) }
-    ensures { result ≡ pack (ownWidths (versionOf own)) (ownValues own 0) }
+    requires { Fit (own_widths (version_of own)) (own_values own 0) }
+    ensures { result ≡ pack (own_widths (version_of own)) (own_values own 0) }
 {
     match own {
         Own::One => 0,
@@ -195,8 +195,8 @@ fn own_number(own: Own) -> u64
 
 // What a version has of its own into the first bytes.
 fn write_own(own: Own, out: &mut [u8])
-    requires { Fit (ownWidths (versionOf own)) (ownValues own 0) × (ownBytes (versionOf own) ≤ length out.old) }
-    ensures { out.new ≡ unpack (bytes (ownBytes (versionOf own))) (pack (ownWidths (versionOf own)) (ownValues own 0)) ++ drop (ownBytes (versionOf own)) out.old }
+    requires { Fit (own_widths (version_of own)) (own_values own 0) × (own_bytes (version_of own) ≤ length out.old) }
+    ensures { out.new ≡ unpack (bytes (own_bytes (version_of own))) (pack (own_widths (version_of own)) (own_values own 0)) ++ drop (own_bytes (version_of own)) out.old }
 {
     let n = own_number(own);
     let version = own.version();
@@ -207,7 +207,7 @@ fn write_own(own: Own, out: &mut [u8])
 
 // The header into the first bytes, or why not.
 pub fn write_header(h: Header, out: &mut [u8]) -> Outcome
-    ensures { Writes (writeHeader h out.old) (toldOutcome result) out.new }
+    ensures { Writes (write_header h out.old) (told_outcome result) out.new }
 {
     let least = needs(h);
     if out.len() < least {

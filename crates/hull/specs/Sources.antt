@@ -5,21 +5,21 @@ use Rattle.sheet.specs.declared.Header.{Header}
 use Rattle.sheet.specs.declared.Record.{Record}
 use Rattle.sheet.specs.declared.Body.{Body}
 use Rattle.sheet.specs.declared.Body.TheVariants.{Plate as isPlate, Member as isMember}
-use Rattle.plating.specs.Rules.{platePressure, plateLoads}
-use Rattle.framing.specs.Rules.{memberPressure, memberLoads}
+use Rattle.plating.specs.Rules.{plate_pressure, plate_loads}
+use Rattle.framing.specs.Rules.{member_pressure, member_loads}
 
 -- those of a plate, or of a member
-abbrev pub bodyLoads : Header → ℕ → Body → List Named
-bodyLoads h kind (isPlate p) = plateLoads h kind p
-bodyLoads h kind (isMember m) = memberLoads h kind m
+abbrev pub body_loads : Header → ℕ → Body → List Named
+body_loads h kind (isPlate p) = plate_loads h kind p
+body_loads h kind (isMember m) = member_loads h kind m
 
-abbrev pub loadsOn : Header → Record → List Named
-loadsOn h r = bodyLoads h r.kind r.body
+abbrev pub loads_on : Header → Record → List Named
+loads_on h r = body_loads h r.kind r.body
 
 -- P, which rule 2 of a plate, and through q rules 5 and 6 of a member, go by
-abbrev pub bodyPressure : Header → ℕ → Body → ℕ
-bodyPressure h kind (isPlate p) = platePressure h kind p
-bodyPressure h kind (isMember m) = memberPressure h kind m
+abbrev pub body_pressure : Header → ℕ → Body → ℕ
+body_pressure h kind (isPlate p) = plate_pressure h kind p
+body_pressure h kind (isMember m) = member_pressure h kind m
 
-abbrev pub pressureOn : Header → Record → ℕ
-pressureOn h r = bodyPressure h r.kind r.body
+abbrev pub pressure_on : Header → Record → ℕ
+pressure_on h r = body_pressure h r.kind r.body

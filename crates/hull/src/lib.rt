@@ -1,6 +1,6 @@
 // One record against Part 3: a plate answers to rules 1, 2 and 3, a member to rules 4, 5 and 6.
 ghost use Rattle.std.specs.Prelude.{◌≡◌};
-ghost use Rattle.verdict.specs.Judged.{toldJudged, judgedBy};
+ghost use Rattle.verdict.specs.Judged.{told_judged, judged_by};
 ghost use Rattle.hull.specs.Hull.{finding};
 
 use sheet::{Body, Header, Record};
@@ -8,7 +8,7 @@ use verdict::Judged;
 
 // The verdict and what the record's pressure comes from, or why the header or the record is turned away.
 pub fn judge(h: Header, r: Record) -> Judged
-    ensures { toldJudged result ≡ judgedBy h r (finding h r) }
+    ensures { told_judged result ≡ judged_by h r (finding h r) }
 {
     let kind = r.kind;
     let id = r.id;

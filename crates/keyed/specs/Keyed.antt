@@ -42,23 +42,23 @@ module _ {A : Type 0} (key : A → ℕ) where
     out : (k : ℕ) → Edit
 
   -- a plain map after an edit: the new thing at its key, or nothing at the key; every other key as before
-  unfoldable pub mapAfter : Edit → (ℕ → Option A) → ℕ → Option A
-  mapAfter (put new) m k = cond (eqb (key new) k) (some new) (m k)
-  mapAfter (out j) m k = cond (eqb j k) none (m k)
+  unfoldable pub map_after : Edit → (ℕ → Option A) → ℕ → Option A
+  map_after (put new) m k = cond (eqb (key new) k) (some new) (m k)
+  map_after (out j) m k = cond (eqb j k) none (m k)
 
   -- and after edits in turn
-  unfoldable pub mapAll : List Edit → (ℕ → Option A) → ℕ → Option A
-  mapAll [] m = m
-  mapAll (e ∷ es) m = mapAll es (mapAfter e m)
+  unfoldable pub map_all : List Edit → (ℕ → Option A) → ℕ → Option A
+  map_all [] m = m
+  map_all (e ∷ es) m = map_all es (map_after e m)
 
   -- the list after an edit, and after edits in turn
-  unfoldable pub listAfter : Edit → List A → List A
-  listAfter (put new) rs = put_of new rs
-  listAfter (out j) rs = out_of j rs
+  unfoldable pub list_after : Edit → List A → List A
+  list_after (put new) rs = put_of new rs
+  list_after (out j) rs = out_of j rs
 
-  unfoldable pub listAll : List Edit → List A → List A
-  listAll [] rs = rs
-  listAll (e ∷ es) rs = listAll es (listAfter e rs)
+  unfoldable pub list_all : List Edit → List A → List A
+  list_all [] rs = rs
+  list_all (e ∷ es) rs = list_all es (list_after e rs)
 
   -- every thing that is put in has a key above 0
   abbrev pub Keys : List Edit → Type 0

@@ -9,8 +9,8 @@ abbrev pub short_of : Short → ℕ
 short_of n = n.hi * 2 ^ 32 + n.lo
 
 -- the number of 128 bits that a `Long` stands for
-abbrev pub longOf : Long → ℕ
-longOf n = n.hi * 2 ^ 64 + n.lo
+abbrev pub long_of : Long → ℕ
+long_of n = n.hi * 2 ^ 64 + n.lo
 
 -- the number in the first k bytes; 0 where there are fewer
 unfoldable pub read_of : ℕ → List ℕ → ℕ

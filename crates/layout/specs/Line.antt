@@ -38,31 +38,31 @@ Allowed (l ∷ ls) [] = ⊥
 Allowed (l ∷ ls) (v ∷ vs) = (allows l v ≡ true) × Allowed ls vs
 
 -- whether the line at an index, from 0, allows the value there; where either is missing it does not
-abbrev pub allowsAt : ℕ → List Line → List ℕ → Bool
-allowsAt i [] vs = false
-allowsAt i (l ∷ ls) [] = false
-allowsAt zero (l ∷ ls) (v ∷ vs) = allows l v
-allowsAt (suc i) (l ∷ ls) (v ∷ vs) = allowsAt i ls vs
+abbrev pub allows_at : ℕ → List Line → List ℕ → Bool
+allows_at i [] vs = false
+allows_at i (l ∷ ls) [] = false
+allows_at zero (l ∷ ls) (v ∷ vs) = allows l v
+allows_at (suc i) (l ∷ ls) (v ∷ vs) = allows_at i ls vs
 
 -- the number of the first field at fault, the first of the fields being k; 0 where there is none
-abbrev pub faultFrom : ℕ → List Line → List ℕ → ℕ
-faultFrom k [] [] = 0
-faultFrom k [] (v ∷ vs) = k
-faultFrom k (l ∷ ls) [] = k
-faultFrom k (l ∷ ls) (v ∷ vs) = cond (allows l v) (faultFrom (suc k) ls vs) k
+abbrev pub fault_from : ℕ → List Line → List ℕ → ℕ
+fault_from k [] [] = 0
+fault_from k [] (v ∷ vs) = k
+fault_from k (l ∷ ls) [] = k
+fault_from k (l ∷ ls) (v ∷ vs) = cond (allows l v) (fault_from (suc k) ls vs) k
 
 -- the field at an index, from 0, is at fault and no earlier one is
 pub record FirstFault (i : ℕ) (ls : List Line) (vs : List ℕ) : Type 0 where
   pub inside : i < length ls
-  pub faulty : allowsAt i ls vs ≡ false
-  pub earlier : (j : ℕ) → j < i → allowsAt j ls vs ≡ true
+  pub faulty : allows_at i ls vs ≡ false
+  pub earlier : (j : ℕ) → j < i → allows_at j ls vs ≡ true
 
 -- whether all ranges end below a number
-abbrev pub endBelow : ℕ → List Range → Bool
-endBelow m [] = true
-endBelow m (r ∷ rs) = ltb r.high m && endBelow m rs
+abbrev pub end_below : ℕ → List Range → Bool
+end_below m [] = true
+end_below m (r ∷ rs) = ltb r.high m && end_below m rs
 
 -- whether every value that the lines allow fits its width
-abbrev pub linesFit : List Line → Bool
-linesFit [] = true
-linesFit (l ∷ ls) = endBelow (2 ^ l.width) l.values && linesFit ls
+abbrev pub lines_fit : List Line → Bool
+lines_fit [] = true
+lines_fit (l ∷ ls) = end_below (2 ^ l.width) l.values && lines_fit ls

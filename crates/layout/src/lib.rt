@@ -5,7 +5,7 @@ pub mod powers;
 ghost use Rattle.std.specs.Prelude.{◌≡◌, cond, ◌≤◌, ◌<◌, length, take, drop, ◌++◌, reverse};
 ghost use Rattle.quantity.specs.Range.{within, from};
 ghost use Rattle.layout.specs.Layout.{pack, unpack, bytes, Fit};
-ghost use Rattle.layout.specs.Bytes.{short_of, longOf, read_of, written_of};
+ghost use Rattle.layout.specs.Bytes.{short_of, long_of, read_of, written_of};
 
 use crate::powers::{P8, P16, P24, P32, P40, P48, P56};
 
@@ -142,7 +142,7 @@ pub fn write_short(out: &mut [u8], n: Short)
 }
 
 pub fn read_long(s: &[u8]) -> Long
-    ensures { longOf result ≡ read_of 16 s.now }
+    ensures { long_of result ≡ read_of 16 s.now }
 {
     if s.len() < 16 {
         return Long { hi: 0, lo: 0 };
@@ -153,7 +153,7 @@ pub fn read_long(s: &[u8]) -> Long
 }
 
 pub fn write_long(out: &mut [u8], n: Long)
-    ensures { out.new ≡ written_of 16 (longOf n) out.old }
+    ensures { out.new ≡ written_of 16 (long_of n) out.old }
 {
     if 16 <= out.len() {
         put_word(out, n.hi);

@@ -1,7 +1,7 @@
 // The pressures on the bottom, in thousandths of a Pa, each with the load that it comes from, and the line load that a member bears.
 ghost use Rattle.std.specs.Prelude.{◌≡◌, cond, ◌-◌, max};
-ghost use Rattle.loads.specs.Loads.{water, wind as windOf, ballast as ballastOf, relief as reliefOf, twoRunWater};
-ghost use Rattle.loads.specs.Sources.{number_of, toldLoad, toldLine, lineNamed, heavier as heavierOf, seaNamed, tankNamed, bottomNamed, innerNamed, deepNamed};
+ghost use Rattle.loads.specs.Loads.{water, wind as windOf, ballast as ballastOf, relief as reliefOf, two_run_water};
+ghost use Rattle.loads.specs.Sources.{number_of, told_load, told_line, line_named, heavier as heavierOf, sea_named, tank_named, bottom_named, inner_named, deep_named};
 
 use quantity::{LineLoad, Pressure, Spacing, Span};
 
@@ -56,7 +56,7 @@ fn greater(a: u64, b: u64) -> u64
 }
 
 fn load_of(p: u64, source: Source) -> Load
-    ensures { toldLoad result ≡ record { pressure = p; source = number_of source } }
+    ensures { told_load result ≡ record { pressure = p; source = number_of source } }
 {
     let pressure = Pressure(p);
     Load { pressure, source }
@@ -64,7 +64,7 @@ fn load_of(p: u64, source: Source) -> Load
 
 // The load that decides: the greater one, and of two equal ones that of the lower number.
 fn heavier(a: Load, b: Load) -> Load
-    ensures { toldLoad result ≡ heavierOf (toldLoad a) (toldLoad b) }
+    ensures { told_load result ≡ heavierOf (told_load a) (told_load b) }
 {
     if a.pressure.0 < b.pressure.0 {
         return b;
@@ -99,7 +99,7 @@ fn wind(wave: Span) -> u64
 
 // The sea at height z. Just above the draught it is more than just below it.
 pub fn sea(draught: Span, wave: Span, z: Span) -> Load
-    ensures { toldLoad result ≡ seaNamed draught.0 wave.0 z.0 }
+    ensures { told_load result ≡ sea_named draught.0 wave.0 z.0 }
 {
     let d = draught.0 as u64;
     let h = wave.0 as u64;
@@ -126,7 +126,7 @@ fn relief(draught: Span, wave: Span) -> u64
 
 // A ballast tank's pressure on the bottom, less what the sea takes off it.
 fn relieved(draught: Span, wave: Span, z: Span, tank_top: Span) -> Load
-    ensures { toldLoad result ≡ tankNamed (ballastOf tank_top.0 z.0 - reliefOf draught.0 wave.0) }
+    ensures { told_load result ≡ tank_named (ballastOf tank_top.0 z.0 - reliefOf draught.0 wave.0) }
 {
     load_of(
         cut(tank(tank_top, z), relief(draught, wave)),
@@ -136,7 +136,7 @@ fn relieved(draught: Span, wave: Span, z: Span, tank_top: Span) -> Load
 
 // Kinds 1 and 2.
 pub fn bottom(draught: Span, wave: Span, z: Span, ballast: bool, tank_top: Span) -> Load
-    ensures { toldLoad result ≡ bottomNamed draught.0 wave.0 z.0 ballast tank_top.0 }
+    ensures { told_load result ≡ bottom_named draught.0 wave.0 z.0 ballast tank_top.0 }
 {
     let outside = sea(draught, wave, z);
     if ballast {
@@ -148,7 +148,7 @@ pub fn bottom(draught: Span, wave: Span, z: Span, ballast: bool, tank_top: Span)
 
 // Kinds 3 and 4. Cargo is in whole Pa.
 pub fn inner(cargo: u32, z: Span, ballast: bool, tank_top: Span) -> Load
-    ensures { toldLoad result ≡ innerNamed cargo z.0 ballast tank_top.0 }
+    ensures { told_load result ≡ inner_named cargo z.0 ballast tank_top.0 }
 {
     let loaded = load_of(cargo as u64 * 1000, Source::Cargo);
     if ballast {
@@ -159,7 +159,7 @@ pub fn inner(cargo: u32, z: Span, ballast: bool, tank_top: Span) -> Load
 
 // The whole draught; in two runs 56407.5 mPa for each cm, rounded up.
 fn still_water(draught: Span, two_runs: bool) -> u64
-    ensures { result ≡ cond two_runs (twoRunWater draught.0) (water draught.0) }
+    ensures { result ≡ cond two_runs (two_run_water draught.0) (water draught.0) }
 {
     let d = draught.0 as u64;
     if two_runs {
@@ -170,7 +170,7 @@ fn still_water(draught: Span, two_runs: bool) -> u64
 
 // Kinds 6 to 8.
 pub fn deep(draught: Span, wave: Span, two_runs: bool) -> Load
-    ensures { toldLoad result ≡ deepNamed draught.0 wave.0 two_runs }
+    ensures { told_load result ≡ deep_named draught.0 wave.0 two_runs }
 {
     let h = wave.0 as u64;
     load_of(still_water(draught, two_runs) + WAVE * h, Source::SeaBelow)
@@ -178,7 +178,7 @@ pub fn deep(draught: Span, wave: Span, two_runs: bool) -> Load
 
 // P.S / 1,000,000, rounded up. The whole parts are taken out first, so that no product is past 64 bits.
 pub fn line_load(load: Load, s: Spacing) -> Line
-    ensures { toldLine result ≡ lineNamed (toldLoad load) s.0 }
+    ensures { told_line result ≡ line_named (told_load load) s.0 }
 {
     let p = load.pressure.0;
     let w = s.0 as u64;

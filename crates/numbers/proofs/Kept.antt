@@ -11,47 +11,47 @@ use Rattle.truth.specs.laws.Tests.{both, clash, false_of}
 use Rattle.quantity.specs.Range.{Range, within, from}
 use Rattle.quantity.specs.Made.{Held, held as is_held, refused, Makes}
 use Rattle.layout.specs.Line.{among}
-use Rattle.quantity.specs.laws.RangeLaws.{low-high}
-use Rattle.numbers.specs.Held.{held, heldIn}
+use Rattle.quantity.specs.laws.RangeLaws.{low_high}
+use Rattle.numbers.specs.Held.{held, held_in}
 
 -- whether a range lies within another
-abbrev pub liesIn : (r s : Range) → Bool
-liesIn r s = leb r.low s.low && leb s.high r.high
+abbrev pub lies_in : (r s : Range) → Bool
+lies_in r s = leb r.low s.low && leb s.high r.high
 
 -- whether all ranges lie within one, and end below the number that is held for every number outside it
 abbrev pub keeps : (top : ℕ) → Range → List Range → Bool
 keeps top r [] = true
-keeps top r (s ∷ rs) = (liesIn r s && ltb s.high top) && keeps top r rs
+keeps top r (s ∷ rs) = (lies_in r s && ltb s.high top) && keeps top r rs
 
 -- what lies within a range lies within one around it
-pub around : (r s : Range) (x : ℕ) → liesIn r s ≡ true → within s x ≡ true → within r x ≡ true
+pub around : (r s : Range) (x : ℕ) → lies_in r s ≡ true → within s x ≡ true → within r x ≡ true
 around r s x f a =
     let h = both (leb r.low s.low) (leb s.high r.high) f in
-    let b = low-high s x a in
+    let b = low_high s x a in
     let l = leb-true r.low s.low h.0 in
     let k = leb-true s.high r.high h.1 in
     rw (le-leb r.low x (omega arith), le-leb x r.high (omega arith))
 
 -- what a line that is kept allows lies within the range, and below the number that is held for the others
-kept-one : (top : ℕ) (r s : Range) (x : ℕ) → (liesIn r s && ltb s.high top) ≡ true → within s x ≡ true → (within r x ≡ true) × (x < top)
-kept-one top r s x f a =
-    let h = both (liesIn r s) (ltb s.high top) f in
-    (around r s x h.0 a, omega (arith, ltb-true s.high top h.1, low-high s x a))
+kept_one : (top : ℕ) (r s : Range) (x : ℕ) → (lies_in r s && ltb s.high top) ≡ true → within s x ≡ true → (within r x ≡ true) × (x < top)
+kept_one top r s x f a =
+    let h = both (lies_in r s) (ltb s.high top) f in
+    (around r s x h.0 a, omega (arith, ltb-true s.high top h.1, low_high s x a))
 
 kept : (top : ℕ) (r : Range) (rs : List Range) (x : ℕ) → keeps top r rs ≡ true → among rs x ≡ true → (within r x ≡ true) × (x < top)
 kept top r [] x f a = clash a refl
-kept top r (s ∷ []) x f a = kept-one top r s x (both (liesIn r s && ltb s.high top) true f).0 a
+kept top r (s ∷ []) x f a = kept_one top r s x (both (lies_in r s && ltb s.high top) true f).0 a
 kept top r (s ∷ t ∷ rs) x f a =
-    let h = both (liesIn r s && ltb s.high top) (keeps top r (t ∷ rs)) f in
-    go (within s x) refl (kept-one top r s x h.0) (kept top r (t ∷ rs) x h.1) a
+    let h = both (lies_in r s && ltb s.high top) (keeps top r (t ∷ rs)) f in
+    go (within s x) refl (kept_one top r s x h.0) (kept top r (t ∷ rs) x h.1) a
   where
     go : {A : Type 0} (b : Bool) → within s x ≡ b → (within s x ≡ true → A) → (among (t ∷ rs) x ≡ true → A) → (b || among (t ∷ rs) x) ≡ true → A
     go true q here on e = here q
     go false q here on e = on e
 
 -- lines that lie within a range allow a number exactly when they allow what it is held as
-pub held-allows : (top : ℕ) (r : Range) (rs : List Range) (x : ℕ) → keeps top r rs ≡ true → among rs x ≡ among rs (heldIn r top x)
-held-allows top r rs x f = go (within r x) refl
+pub held_allows : (top : ℕ) (r : Range) (rs : List Range) (x : ℕ) → keeps top r rs ≡ true → among rs x ≡ among rs (held_in r top x)
+held_allows top r rs x f = go (within r x) refl
   where
     go : (b : Bool) → within r x ≡ b → among rs x ≡ among rs (cond b x top)
     go true e = refl
@@ -60,12 +60,12 @@ held-allows top r rs x f = go (within r x) refl
         ∙ sym (false_of (among rs top) (λ a. absurd (omega (arith, (kept top r rs top f a).1))))
 
 -- and one that they allow is held as it is
-pub held_in : (top : ℕ) (r : Range) (rs : List Range) (x : ℕ) → keeps top r rs ≡ true → among rs x ≡ true → heldIn r top x ≡ x
-held_in top r rs x f a = rw (kept top r rs x f a).0
+pub held_in_lem : (top : ℕ) (r : Range) (rs : List Range) (x : ℕ) → keeps top r rs ≡ true → among rs x ≡ true → held_in r top x ≡ x
+held_in_lem top r rs x f a = rw (kept top r rs x f a).0
 
 -- where a line may allow what is held for other numbers, the number itself has to lie within the range too
-pub held-alone : (top : ℕ) (r s : Range) (x : ℕ) → liesIn r s ≡ true → within s x ≡ (within r x && within s (heldIn r top x))
-held-alone top r s x f = go (within r x) refl
+pub held_alone : (top : ℕ) (r s : Range) (x : ℕ) → lies_in r s ≡ true → within s x ≡ (within r x && within s (held_in r top x))
+held_alone top r s x f = go (within r x) refl
   where
     go : (b : Bool) → within r x ≡ b → within s x ≡ (b && within s (cond b x top))
     go true e = refl
@@ -74,22 +74,22 @@ held-alone top r s x f = go (within r x) refl
 -- ---- a maker's answer
 
 -- the number that an answer holds, or another
-abbrev pub heldOr : ℕ → Held → ℕ
-heldOr other (is_held x) = x
-heldOr other refused = other
+abbrev pub held_or : ℕ → Held → ℕ
+held_or other (is_held x) = x
+held_or other refused = other
 
 -- it is the number as it is held
-pub made_held : (top : ℕ) (r : Range) {low high y : ℕ} {a : Held} → Makes r low high y a → heldOr top a ≡ heldIn r top y
-made_held top r {y = y} m = ap (heldOr top) m.answered ∙ go (within r y)
+pub made_held : (top : ℕ) (r : Range) {low high y : ℕ} {a : Held} → Makes r low high y a → held_or top a ≡ held_in r top y
+made_held top r {y = y} m = ap (held_or top) m.answered ∙ go (within r y)
   where
-    go : (b : Bool) → heldOr top (cond b (is_held y) refused) ≡ cond b y top
+    go : (b : Bool) → held_or top (cond b (is_held y) refused) ≡ cond b y top
     go true = refl
     go false = refl
 
 -- also where the number is first held in the field
-pub made-short : (top : ℕ) (r : Range) (x : ℕ) {low high y : ℕ} {a : Held} → keeps top (from 0 top) (r ∷ []) ≡ true → y ≡ held top x → Makes r low high y a
-    → heldOr top a ≡ heldIn r top x
-made-short top r x f e m = made_held top r m ∙ ap (heldIn r top) e ∙ go (within (from 0 top) x) refl
+pub made_short : (top : ℕ) (r : Range) (x : ℕ) {low high y : ℕ} {a : Held} → keeps top (from 0 top) (r ∷ []) ≡ true → y ≡ held top x → Makes r low high y a
+    → held_or top a ≡ held_in r top x
+made_short top r x f e m = made_held top r m ∙ ap (held_in r top) e ∙ go (within (from 0 top) x) refl
   where
     same : (b : Bool) → cond b top top ≡ top
     same true = refl
@@ -98,6 +98,6 @@ made-short top r x f e m = made_held top r m ∙ ap (heldIn r top) e ∙ go (wit
     outside : within (from 0 top) x ≡ false → within r x ≡ false
     outside q = false_of (within r x) (λ a. clash (kept top (from 0 top) (r ∷ []) x f a).0 q)
 
-    go : (b : Bool) → within (from 0 top) x ≡ b → heldIn r top (cond b x top) ≡ heldIn r top x
+    go : (b : Bool) → within (from 0 top) x ≡ b → held_in r top (cond b x top) ≡ held_in r top x
     go true q = refl
     go false q = same (within r top) ∙ sym (ap (λ (b : Bool). cond b x top) (outside q))

@@ -8,31 +8,31 @@ use Rattle.sheet.specs.declared.Member.{Member}
 use Rattle.sheet.specs.declared.Body.{Body}
 use Rattle.sheet.specs.declared.Body.TheVariants.{Plate as isPlate, Member as isMember}
 use Rattle.sheet.specs.declared.Record.{Record}
-use Rattle.sheet.specs.Record.{plateValues, memberValues}
+use Rattle.sheet.specs.Record.{plate_values, member_values}
 
 -- what a version has of its own: ZDB and depth, and in version 1 two that are 0
-abbrev pub ownNumbers : Own → List ℕ
-ownNumbers One = 0 ∷ 0 ∷ []
-ownNumbers (Two s) = s.inner_modulus ∷ s.depth.0 ∷ []
+abbrev pub own_numbers : Own → List ℕ
+own_numbers One = 0 ∷ 0 ∷ []
+own_numbers (Two s) = s.inner_modulus ∷ s.depth.0 ∷ []
 
 -- a header: version, L, D0, H, runs, M, ZB, n, and those; ten in either version
-abbrev pub headerNumbers : Header → List ℕ
-headerNumbers h =
-    h.version ∷ h.length.0 ∷ h.draught.0 ∷ h.wave.0 ∷ cond h.two_runs 1 0 ∷ h.moment ∷ h.bottom_modulus ∷ h.count ∷ ownNumbers h.own
+abbrev pub header_numbers : Header → List ℕ
+header_numbers h =
+    h.version ∷ h.length.0 ∷ h.draught.0 ∷ h.wave.0 ∷ cond h.two_runs 1 0 ∷ h.moment ∷ h.bottom_modulus ∷ h.count ∷ own_numbers h.own
 
 -- a plate: kind, id, K, z, S, T, b1, b2, ballast, zL, cargo pressure, and two that are 0
-abbrev pub plateNumbers : (kind id : ℕ) → Plate → List ℕ
-plateNumbers kind id p = plateValues kind id p 0 ++ 0 ∷ []
+abbrev pub plate_numbers : (kind id : ℕ) → Plate → List ℕ
+plate_numbers kind id p = plate_values kind id p 0 ++ 0 ∷ []
 
 -- a member: kind, id, z, S, l, T, βb, βs, η, σ1, W, A, K
-abbrev pub memberNumbers : (kind id : ℕ) → Member → List ℕ
-memberNumbers kind id m = memberValues kind id m
+abbrev pub member_numbers : (kind id : ℕ) → Member → List ℕ
+member_numbers kind id m = member_values kind id m
 
 -- the same by what the record carries
-abbrev pub bodyNumbers : (kind id : ℕ) → Body → List ℕ
-bodyNumbers kind id (isPlate p) = plateNumbers kind id p
-bodyNumbers kind id (isMember m) = memberNumbers kind id m
+abbrev pub body_numbers : (kind id : ℕ) → Body → List ℕ
+body_numbers kind id (isPlate p) = plate_numbers kind id p
+body_numbers kind id (isMember m) = member_numbers kind id m
 
 -- a record: thirteen in either case
-abbrev pub recordNumbers : Record → List ℕ
-recordNumbers r = bodyNumbers r.kind r.id r.body
+abbrev pub record_numbers : Record → List ℕ
+record_numbers r = body_numbers r.kind r.id r.body

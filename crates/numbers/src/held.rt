@@ -1,8 +1,8 @@
 // Numbers from outside as the fields of a header and a record hold them. What is too great for a field, and what a quantity's maker refuses, is held as
 // the greatest number of the field, never as a cut one: it is outside every line but that of σ1, so that the field is found faulty at its own place.
 ghost use Rattle.std.specs.Prelude.{◌≡◌};
-ghost use Rattle.quantity.specs.Range.{span, spacing, thickness, modulus, shearArea, steelFactor};
-ghost use Rattle.numbers.specs.Held.{held, heldIn};
+ghost use Rattle.quantity.specs.Range.{span, spacing, thickness, modulus, shear_area, steel_factor};
+ghost use Rattle.numbers.specs.Held.{held, held_in};
 
 use quantity::{
     MadeModulus, MadeShearArea, MadeSpacing, MadeSpan, MadeSteelFactor, MadeThickness, Modulus,
@@ -25,7 +25,7 @@ pub fn short(x: u32) -> u16
 
 // A length, a height or a span; where the number is none, one that no line allows.
 pub fn span_of(x: u32) -> Span
-    ensures { result ≡ record { 0 = heldIn span 65535 x } }
+    ensures { result ≡ record { 0 = held_in span 65535 x } }
 {
     let made = Span::make(short(x));
     match made {
@@ -36,7 +36,7 @@ pub fn span_of(x: u32) -> Span
 
 // A spacing, in the same way.
 pub fn spacing_of(x: u32) -> Spacing
-    ensures { result ≡ record { 0 = heldIn spacing 65535 x } }
+    ensures { result ≡ record { 0 = held_in spacing 65535 x } }
 {
     let made = Spacing::make(short(x));
     match made {
@@ -47,7 +47,7 @@ pub fn spacing_of(x: u32) -> Spacing
 
 // A thickness.
 pub fn thickness_of(x: u32) -> Thickness
-    ensures { result ≡ record { 0 = heldIn thickness 65535 x } }
+    ensures { result ≡ record { 0 = held_in thickness 65535 x } }
 {
     let made = Thickness::make(short(x));
     match made {
@@ -58,7 +58,7 @@ pub fn thickness_of(x: u32) -> Thickness
 
 // A shear area.
 pub fn shear_area_of(x: u32) -> ShearArea
-    ensures { result ≡ record { 0 = heldIn shearArea 65535 x } }
+    ensures { result ≡ record { 0 = held_in shear_area 65535 x } }
 {
     let made = ShearArea::make(short(x));
     match made {
@@ -69,7 +69,7 @@ pub fn shear_area_of(x: u32) -> ShearArea
 
 // A steel factor.
 pub fn factor_of(x: u32) -> SteelFactor
-    ensures { result ≡ record { 0 = heldIn steelFactor 65535 x } }
+    ensures { result ≡ record { 0 = held_in steel_factor 65535 x } }
 {
     let made = SteelFactor::make(short(x));
     match made {
@@ -80,7 +80,7 @@ pub fn factor_of(x: u32) -> SteelFactor
 
 // A section modulus, whose field has 32 bits.
 pub fn modulus_of(x: u32) -> Modulus
-    ensures { result ≡ record { 0 = heldIn modulus 4294967295 x } }
+    ensures { result ≡ record { 0 = held_in modulus 4294967295 x } }
 {
     let made = Modulus::make(x);
     match made {

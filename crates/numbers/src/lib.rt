@@ -4,10 +4,10 @@ mod held;
 mod values;
 
 ghost use Rattle.std.specs.Prelude.{◌≡◌, cond, eqb};
-ghost use Rattle.sheet.specs.Refusals.{number_of, place_of, toldOutcome, toldHeader, toldRecord};
-ghost use Rattle.numbers.specs.Fields.{ownNumbers, headerNumbers, plateNumbers, memberNumbers, recordNumbers};
-ghost use Rattle.numbers.specs.From.{namedSize, headerFrom, recordFrom};
-ghost use Rattle.numbers.specs.Held.{earlierOf, ownHeld, headerHeld, headerApart, plateHeld, memberHeld, recordHeld, plateApart, recordApart};
+ghost use Rattle.sheet.specs.Refusals.{number_of, place_of, told_outcome, told_header, told_record};
+ghost use Rattle.numbers.specs.Fields.{own_numbers, header_numbers, plate_numbers, member_numbers, record_numbers};
+ghost use Rattle.numbers.specs.From.{named_size, header_from, record_from};
+ghost use Rattle.numbers.specs.Held.{earlier_of, own_held, header_held, header_apart, plate_held, member_held, record_held, plate_apart, record_apart};
 
 use sheet::{
     Body, Header, HeaderRead, Member, Outcome, Own, Plate, Record, RecordRead, Refusal, Section,
@@ -15,7 +15,7 @@ use sheet::{
 
 // The two numbers of what a version has of its own; version 1 has none, and they are 0.
 fn own_numbers(own: Own) -> [u32; 2]
-    ensures { result ≡ ownNumbers own }
+    ensures { result ≡ own_numbers own }
 {
     match own {
         Own::One => [0, 0],
@@ -27,7 +27,7 @@ fn own_numbers(own: Own) -> [u32; 2]
 }
 
 pub fn header_numbers(h: Header) -> [u32; 10]
-    ensures { result ≡ headerNumbers h }
+    ensures { result ≡ header_numbers h }
 {
     let version = h.version as u32;
     let length = h.length.0 as u32;
@@ -52,7 +52,7 @@ pub fn header_numbers(h: Header) -> [u32; 10]
 }
 
 fn plate_numbers(kind: u8, id: u16, p: Plate) -> [u32; 13]
-    ensures { result ≡ plateNumbers kind id p }
+    ensures { result ≡ plate_numbers kind id p }
 {
     let factor = values::short(p.factor.0);
     let z = values::short(p.z.0);
@@ -80,7 +80,7 @@ fn plate_numbers(kind: u8, id: u16, p: Plate) -> [u32; 13]
 }
 
 fn member_numbers(kind: u8, id: u16, m: Member) -> [u32; 13]
-    ensures { result ≡ memberNumbers kind id m }
+    ensures { result ≡ member_numbers kind id m }
 {
     let z = values::short(m.z.0);
     let spacing = values::short(m.spacing.0);
@@ -110,7 +110,7 @@ fn member_numbers(kind: u8, id: u16, m: Member) -> [u32; 13]
 }
 
 pub fn record_numbers(r: Record) -> [u32; 13]
-    ensures { result ≡ recordNumbers r }
+    ensures { result ≡ record_numbers r }
 {
     let kind = r.kind;
     let id = r.id;
@@ -124,7 +124,7 @@ pub fn record_numbers(r: Record) -> [u32; 13]
 // What was found at fault, or the refusal of a field that was tested by itself, 0 being none, where that stands earlier: the place grows with the field, and
 // that of a first field is below all others.
 fn earlier(found: Outcome, field: u8, here: Refusal) -> Outcome
-    ensures { toldOutcome result ≡ cond (eqb field 0) (toldOutcome found) (earlierOf (toldOutcome found) (number_of here) (place_of here)) }
+    ensures { told_outcome result ≡ cond (eqb field 0) (told_outcome found) (earlier_of (told_outcome found) (number_of here) (place_of here)) }
 {
     if field == 0 {
         return found;
@@ -141,7 +141,7 @@ fn earlier(found: Outcome, field: u8, here: Refusal) -> Outcome
 }
 
 fn own_held(f: [u32; 10]) -> Own
-    ensures { result ≡ ownHeld f }
+    ensures { result ≡ own_held f }
 {
     if f[0] == 2 {
         let inner_modulus = f[8];
@@ -155,7 +155,7 @@ fn own_held(f: [u32; 10]) -> Own
 }
 
 fn header_held(f: [u32; 10]) -> Header
-    ensures { result ≡ headerHeld f }
+    ensures { result ≡ header_held f }
 {
     let version = held::byte(f[0]);
     let length = held::span_of(f[1]);
@@ -181,7 +181,7 @@ fn header_held(f: [u32; 10]) -> Header
 
 // How many bytes the header takes whose version the numbers name: those of version 1 also where there is no such version.
 pub fn header_size(f: [u32; 10]) -> usize
-    ensures { result ≡ namedSize f }
+    ensures { result ≡ named_size f }
 {
     let own = own_held(f);
     let version = own.version();
@@ -190,7 +190,7 @@ pub fn header_size(f: [u32; 10]) -> usize
 
 // The first field of a header that is at fault although what it was held as is not, or 0: runs, and the numbers past n in version 1, which are 0.
 fn header_apart(f: [u32; 10]) -> u8
-    ensures { result ≡ headerApart f }
+    ensures { result ≡ header_apart f }
 {
     if f[0] == 2 {
         return layout::fault_unless(f[4], 0, 1, 5, 0);
@@ -202,7 +202,7 @@ fn header_apart(f: [u32; 10]) -> u8
 
 // The header that numbers are, or why they are none.
 pub fn header_from(f: [u32; 10]) -> HeaderRead
-    ensures { toldHeader result ≡ headerFrom f }
+    ensures { told_header result ≡ header_from f }
 {
     let h = header_held(f);
     let found = header::header_fault(h);
@@ -216,7 +216,7 @@ pub fn header_from(f: [u32; 10]) -> HeaderRead
 }
 
 fn plate_held(f: [u32; 13]) -> Plate
-    ensures { result ≡ plateHeld f }
+    ensures { result ≡ plate_held f }
 {
     let factor = held::factor_of(f[2]);
     let z = held::span_of(f[3]);
@@ -241,7 +241,7 @@ fn plate_held(f: [u32; 13]) -> Plate
 }
 
 fn member_held(f: [u32; 13]) -> Member
-    ensures { result ≡ memberHeld f }
+    ensures { result ≡ member_held f }
 {
     let z = held::span_of(f[2]);
     let spacing = held::spacing_of(f[3]);
@@ -270,7 +270,7 @@ fn member_held(f: [u32; 13]) -> Member
 }
 
 fn record_held(f: [u32; 13]) -> Record
-    ensures { result ≡ recordHeld f }
+    ensures { result ≡ record_held f }
 {
     let kind = held::byte(f[0]);
     let id = held::short(f[1]);
@@ -293,7 +293,7 @@ fn record_held(f: [u32; 13]) -> Record
 
 // The first field of a plate that is at fault although what it was held as is not, or 0: ballast, and the numbers past the cargo, which are 0.
 fn plate_apart(f: [u32; 13]) -> u8
-    ensures { result ≡ plateApart f }
+    ensures { result ≡ plate_apart f }
 {
     let past = layout::fault_unless(f[12], 0, 0, 12, 0);
     let past = layout::fault_unless(f[11], 0, 0, 12, past);
@@ -301,7 +301,7 @@ fn plate_apart(f: [u32; 13]) -> u8
 }
 
 fn record_apart(f: [u32; 13]) -> u8
-    ensures { result ≡ recordApart f }
+    ensures { result ≡ record_apart f }
 {
     if f[0] < 5 {
         return plate_apart(f);
@@ -312,7 +312,7 @@ fn record_apart(f: [u32; 13]) -> u8
 
 // The record that numbers are, as record i of a sheet, or why they are none.
 pub fn record_from(f: [u32; 13], i: u16) -> RecordRead
-    ensures { toldRecord result ≡ recordFrom i f }
+    ensures { told_record result ≡ record_from i f }
 {
     let a = record_held(f);
     let found = record::record_fault(a, i);

@@ -14,5 +14,5 @@ bit true = omega arith
 bit false = omega arith
 
 -- a number and a bit
-pub with-bit : (n : ℕ) (b : Bool) → n + bool_byte b ≤ n + 1
-with-bit n b = omega (arith, bit b)
+pub with_bit : (n : ℕ) (b : Bool) → n + bool_byte b ≤ n + 1
+with_bit n b = omega (arith, bit b)

@@ -62,8 +62,8 @@ abbrev pub moment : ℕ
 moment = 13
 
 -- ZB or ZDB
-abbrev pub hullModulus : ℕ
-hullModulus = 14
+abbrev pub hull_modulus : ℕ
+hull_modulus = 14
 
 -- σ1
 abbrev pub sigma : ℕ
@@ -86,8 +86,8 @@ abbrev pub spacing : ℕ
 spacing = 19
 
 -- zL
-abbrev pub tankTop : ℕ
-tankTop = 21
+abbrev pub tank_top : ℕ
+tank_top = 21
 
 -- of the verdict, or a refusal's number
 abbrev pub rule : ℕ
@@ -140,7 +140,7 @@ wind = 38
 abbrev pub above : ℕ
 above = 39
 
--- pB, 14715D0, pM and pB − pM
+-- pB, 14715D0, p_m and pB − p_m
 abbrev pub tank : ℕ
 tank = 41
 
@@ -161,21 +161,21 @@ loaded = 45
 abbrev pub deep : ℕ
 deep = 46
 
-abbrev pub oneRun : ℕ
-oneRun = 47
+abbrev pub one_run : ℕ
+one_run = 47
 
 -- 564075D0/10, the remainder, rounded up, and with the waves
 abbrev pub half : ℕ
 half = 48
 
-abbrev pub halfLeft : ℕ
-halfLeft = 49
+abbrev pub half_left : ℕ
+half_left = 49
 
-abbrev pub halfUp : ℕ
-halfUp = 50
+abbrev pub half_up : ℕ
+half_up = 50
 
-abbrev pub twoRuns : ℕ
-twoRuns = 51
+abbrev pub two_runs : ℕ
+two_runs = 51
 
 -- ---- of a rule
 
@@ -200,28 +200,28 @@ per = 37
 abbrev pub over : ℕ
 over = 38
 
-abbrev pub overLeft : ℕ
-overLeft = 39
+abbrev pub over_left : ℕ
+over_left = 39
 
 abbrev pub first : ℕ
 first = 40
 
 -- X of the first number, and its square
-abbrev pub firstX : ℕ
-firstX = 41
+abbrev pub first_x : ℕ
+first_x = 41
 
-abbrev pub firstSquare : ℕ
-firstSquare = 42
+abbrev pub first_square : ℕ
+first_square = 42
 
 -- one less, or one more; its X, and the square
 abbrev pub other : ℕ
 other = 43
 
-abbrev pub otherX : ℕ
-otherX = 44
+abbrev pub other_x : ℕ
+other_x = 44
 
-abbrev pub otherSquare : ℕ
-otherSquare = 45
+abbrev pub other_square : ℕ
+other_square = 45
 
 -- the least number, 0 where there is none; the margin, or what is short; what the member has; the gauge's last
 abbrev pub least : ℕ
@@ -240,15 +240,15 @@ top = 49
 abbrev pub ratio : ℕ
 ratio = 50
 
-abbrev pub ratioLeft : ℕ
-ratioLeft = 51
+abbrev pub ratio_left : ℕ
+ratio_left = 51
 
 -- K2 before it is cut off, and the remainder
 abbrev pub side : ℕ
 side = 52
 
-abbrev pub sideLeft : ℕ
-sideLeft = 53
+abbrev pub side_left : ℕ
+side_left = 53
 
 -- 1156KR or 6084KR
 abbrev pub fork : ℕ
@@ -258,8 +258,8 @@ fork = 54
 abbrev pub limit : ℕ
 limit = 55
 
-abbrev pub limitLeft : ℕ
-limitLeft = 56
+abbrev pub limit_left : ℕ
+limit_left = 56
 
 -- X = step·T − short
 abbrev pub step : ℕ

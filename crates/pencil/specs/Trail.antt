@@ -1,28 +1,28 @@
 -- The trail of a member: how its least scantlings are worked out, as sections of lines, each line by its template's number.
 use Rattle.std.specs.Prelude.{ℕ, ◌+◌, ◌-◌, ◌*◌, ◌/◌, ◌%◌, ◌≡◌, Bool, false, cond, List, [], ◌∷◌, ◌++◌, length, replicate, get_or, leb, ltb, eqb}
 use mir.Val.{bool_byte}
-use Rattle.quantity.specs.Range.{thickness, modulus, shearArea}
+use Rattle.quantity.specs.Range.{thickness, modulus, shear_area}
 use Rattle.gauge.specs.declared.Shape.{Shape}
 use Rattle.gauge.specs.Least.{number_of}
-use Rattle.gauge.specs.Shape.{leastOf}
-use Rattle.gauge.specs.Worked.{firstIn}
+use Rattle.gauge.specs.Shape.{least_of}
+use Rattle.gauge.specs.Worked.{first_in}
 use Rattle.sheet.specs.declared.Header.{Header}
 use Rattle.sheet.specs.declared.Record.{Record}
 use Rattle.sheet.specs.declared.Plate.{Plate}
 use Rattle.sheet.specs.declared.Member.{Member}
 use Rattle.sheet.specs.declared.Body.{Body}
 use Rattle.sheet.specs.declared.Body.TheVariants.{Plate as isPlate, Member as isMember}
-use Rattle.sheet.specs.Kinds.{isLong, isDeep}
-use Rattle.sheet.specs.Record.{ofPlate, ofMember}
+use Rattle.sheet.specs.Kinds.{is_long, is_deep}
+use Rattle.sheet.specs.Record.{of_plate, of_member}
 use Rattle.sheet.specs.Refusals.{Answer, given as isGiven, refused}
 use Rattle.verdict.specs.declared.Verdict.{Verdict}
 use Rattle.verdict.specs.Verdict.{Rule}
-use Rattle.verdict.specs.Judged.{judgedBy, Sound}
+use Rattle.verdict.specs.Judged.{judged_by, Sound}
 use Rattle.loads.specs.Sources.{Named}
-use Rattle.plating.specs.Rules.{plateLoads, asked1, asked2, asked3, plateVerdict}
-use Rattle.plating.specs.Work.{Work as PlateWork, workOf as plateWork}
-use Rattle.framing.specs.Rules.{isShort, memberNamed, webRule, bendingRule, shearRule, memberVerdict}
-use Rattle.framing.specs.Work.{Work as MemberWork, workOf as memberWork}
+use Rattle.plating.specs.Rules.{plate_loads, asked1, asked2, asked3, plate_verdict}
+use Rattle.plating.specs.Work.{Work as PlateWork, work_of as plateWork}
+use Rattle.framing.specs.Rules.{is_short, member_named, web_rule, bending_rule, shear_rule, member_verdict}
+use Rattle.framing.specs.Work.{Work as MemberWork, work_of as memberWork}
 use Rattle.wording.specs.Words.{pieces}
 use Rattle.wording.specs.Writes.{text_of}
 use Rattle.pencil.specs.declared.Section.{Section}
@@ -30,7 +30,7 @@ use Rattle.pencil.specs.declared.Work.{Work}
 use Rattle.pencil.specs.declared.Trail.{Trail}
 use Rattle.pencil.specs.Glossary.{Facts}
 use Rattle.pencil.specs.Templates.{text, Holds}
-use Rattle.pencil.specs.Numbers.{product, isNever, ruleNumbers, no_more, withRatio, loadNumbers}
+use Rattle.pencil.specs.Numbers.{product, is_never, rule_numbers, no_more, with_ratio, load_numbers}
 
 -- ---- lines of text
 
@@ -39,9 +39,9 @@ abbrev pub longest : ℕ
 longest = 704
 
 -- what the templates of these numbers become
-unfoldable pub linePieces : (given own lines : List ℕ) → List (List ℕ)
-linePieces given own [] = []
-linePieces given own (t ∷ ts) = pieces given own 0 (text t) ++ linePieces given own ts
+unfoldable pub line_pieces : (given own lines : List ℕ) → List (List ℕ)
+line_pieces given own [] = []
+line_pieces given own (t ∷ ts) = pieces given own 0 (text t) ++ line_pieces given own ts
 
 -- a section: its lines, 0 for none, and its own registers
 pub record Told : Type 0 where
@@ -56,37 +56,37 @@ pub record Tells (t : Told) (s : Section) : Type 0 where
 
 -- D0, H, z, zL and the cargo, and whether there is ballast: on the bottom the sea and a tank, on the inner bottom cargo and a tank, on a longitudinal the sea,
 -- on others the whole draught
-unfoldable pub head_of : (kind D0 H : ℕ) (twoRuns : Bool) (z zL cargo : ℕ) (ballast : Bool) → Told
-head_of kind D0 H twoRuns z zL cargo ballast =
-    let own = loadNumbers D0 H z zL cargo in
+unfoldable pub head_of : (kind D0 H : ℕ) (two_runs : Bool) (z zL cargo : ℕ) (ballast : Bool) → Told
+head_of kind D0 H two_runs z zL cargo ballast =
+    let own = load_numbers D0 H z zL cargo in
     let above = bool_byte (ltb D0 z) in
     let tank = bool_byte ballast in
-    let onSea = kind ∷ 23 ∷ (9 + above) ∷ above * (11 + bool_byte (eqb H 120)) ∷ tank * 13 ∷ tank * (14 + bool_byte (ltb (get_or own 10 0) (get_or own 2 0)))
+    let on_sea = kind ∷ 23 ∷ (9 + above) ∷ above * (11 + bool_byte (eqb H 120)) ∷ tank * 13 ∷ tank * (14 + bool_byte (ltb (get_or own 10 0) (get_or own 2 0)))
     ∷ tank * (16 + bool_byte (ltb (get_or own 9 0) (get_or own 11 0))) ∷ 22 ∷ 0 ∷ [] in
     let inner = kind ∷ 23 ∷ 18 ∷ tank * 19 ∷ 22 ∷ 0 ∷ 0 ∷ 0 ∷ 0 ∷ [] in
-    let deep = kind ∷ 23 ∷ (20 + bool_byte twoRuns) ∷ 22 ∷ 0 ∷ 0 ∷ 0 ∷ 0 ∷ 0 ∷ [] in
-    record { lines = cond (leb kind 2) onSea (cond (ltb kind 5) inner (cond (eqb kind 5) onSea deep)); own = own }
+    let deep = kind ∷ 23 ∷ (20 + bool_byte two_runs) ∷ 22 ∷ 0 ∷ 0 ∷ 0 ∷ 0 ∷ 0 ∷ [] in
+    record { lines = cond (leb kind 2) on_sea (cond (ltb kind 5) inner (cond (eqb kind 5) on_sea deep)); own = own }
 
 -- ---- the lines of a rule
 
 -- the last step: 1 meets the rule; the first number past the gauge, or its last, which does not; the first meets it, or the next
-abbrev pub stepLine : (tried unit : ℕ) (never : Bool) (first least top : ℕ) → ℕ
-stepLine tried unit never first least top =
+abbrev pub step_line : (tried unit : ℕ) (never : Bool) (first least top : ℕ) → ℕ
+step_line tried unit never first least top =
     cond never 0
     (cond (eqb least 1) (71 + unit)
     (cond (eqb least 0) (cond (ltb top first) (74 + unit) (tried + 2)) (cond (eqb least first) tried (tried + 1))))
 
 -- nothing meets the rule; met; not met
-abbrev pub resultLine : (base least has : ℕ) → ℕ
-resultLine base least has = base + bool_byte (ltb 0 least) * (1 + bool_byte (ltb has least))
+abbrev pub result_line : (base least has : ℕ) → ℕ
+result_line base least has = base + bool_byte (ltb 0 least) * (1 + bool_byte (ltb has least))
 
 -- up to six lines, the last step, the result and a last line; tried is the first template of the step, unit 0 for T, 1 for W, 2 for A
 unfoldable pub ruled : (front : List ℕ) (tried unit last p a per : ℕ) (d : Shape) (top has : ℕ) (more : List ℕ) → Told
 ruled front tried unit last p a per d top has more = record {
   lines = get_or front 0 0 ∷ get_or front 1 0 ∷ get_or front 2 0 ∷ get_or front 3 0 ∷ get_or front 4 0 ∷ get_or front 5 0
-      ∷ stepLine tried unit (isNever d) (firstIn d) (number_of (leastOf d top)) top
-      ∷ resultLine (77 + 3 * unit) (number_of (leastOf d top)) has ∷ last ∷ [];
-  own = ruleNumbers p a per d top has more;
+      ∷ step_line tried unit (is_never d) (first_in d) (number_of (least_of d top)) top
+      ∷ result_line (77 + 3 * unit) (number_of (least_of d top)) has ∷ last ∷ [];
+  own = rule_numbers p a per d top has more;
 }
 
 -- two lines
@@ -94,22 +94,22 @@ abbrev pub both : ℕ → ℕ → List ℕ
 both t u = t ∷ u ∷ 0 ∷ 0 ∷ 0 ∷ 0 ∷ []
 
 -- a pass; nothing will do; what is required, in the rule's unit
-abbrev pub verdictLine : (rule required : ℕ) → ℕ
-verdictLine rule required =
+abbrev pub verdict_line : (rule required : ℕ) → ℕ
+verdict_line rule required =
     cond (eqb rule 0) 86 (cond (eqb required 0) 87 (cond (eqb rule 5) 89 (cond (eqb rule 6) 90 88)))
 
 -- ---- a plate
 
-abbrev pub plateGiven : Header → (kind id : ℕ) → Plate → PlateWork → List ℕ
-plateGiven h kind id p w =
+abbrev pub plate_given : Header → (kind id : ℕ) → Plate → PlateWork → List ℕ
+plate_given h kind id p w =
     kind ∷ 0 ∷ 0 ∷ p.cargo ∷ h.draught.0 ∷ 0 ∷ w.load.source ∷ 0
     ∷ h.wave.0 ∷ id ∷ 0 ∷ p.factor.0 ∷ h.length.0 ∷ h.moment ∷ w.modulus ∷ 0
     ∷ w.load.pressure ∷ 0 ∷ w.stress ∷ p.spacing.0 ∷ 0 ∷ p.tank_top.0 ∷ w.verdict.rule ∷ 0
     ∷ p.b1.0 ∷ p.b2.0 ∷ p.z.0 ∷ w.k2 ∷ 0 ∷ w.verdict.required ∷ h.version ∷ 0 ∷ []
 
 -- rule 1
-unfoldable pub plateFirst : Header → ℕ → Plate → PlateWork → Told
-plateFirst h kind p w =
+unfoldable pub plate_first : Header → ℕ → Plate → PlateWork → Told
+plate_first h kind p w =
     let LLK = h.length.0 * h.length.0 * p.factor.0 in
     let by : (t q a : ℕ) → Told = λ t q a. ruled (both t 0) 65 0 0 q a (36 * p.spacing.0) w.first thickness.high p.thickness.0 no_more in
     cond (eqb kind 1) (by 24 (9 * LLK) 1000) (cond (eqb kind 2) (by 25 (9 * LLK) 1000) (by 26 (8 * LLK) 3125))
@@ -119,15 +119,15 @@ abbrev pub pressed : (S K P : ℕ) → ℕ
 pressed S K P = product (S * S * K) P
 
 -- rule 2
-unfoldable pub plateSecond : ℕ → Plate → PlateWork → Told
-plateSecond kind p w =
+unfoldable pub plate_second : ℕ → Plate → PlateWork → Told
+plate_second kind p w =
     let n = pressed p.spacing.0 p.factor.0 w.load.pressure in
     let by : (t q a : ℕ) → Told = λ t q a. ruled (both t 0) 68 0 0 q a 0 w.second thickness.high p.thickness.0 no_more in
-    cond (isLong kind) (by 28 (product 9 n) 625000000000) (by 27 n 39062500000)
+    cond (is_long kind) (by 28 (product 9 n) 625000000000) (by 27 n 39062500000)
 
 -- rule 3: up to R, by the kind and the version; K2; the fork; the form
-abbrev pub bendingLines : (kind version side : ℕ) (second never : Bool) → List ℕ
-bendingLines kind version side second never =
+abbrev pub bending_lines : (kind version side : ℕ) (second never : Bool) → List ℕ
+bending_lines kind version side second never =
     let own = bool_byte (ltb 1 version) in
     let wide = bool_byte (ltb 26000 side) in
     let later = bool_byte second in
@@ -142,8 +142,8 @@ pub record FormParts : Type 0 where
   pub a : ℕ
   pub panel : ℕ
 
-unfoldable pub formOf : (long second : Bool) (S K K2 R : ℕ) → FormParts
-formOf long second S K K2 R =
+unfoldable pub form_of : (long second : Bool) (S K K2 R : ℕ) → FormParts
+form_of long second S K K2 R =
     let left = 210000 - R in
     cond second
     (cond long
@@ -154,58 +154,58 @@ formOf long second S K K2 R =
     (record { p = product (1156 * (S * S)) R; a = product 25 (product K2 K2); panel = 1156 * (S * S) }))
 
 -- R and K2 before they are rounded, the fork, and R at the gauge's last
-abbrev pub bendingMore : (kind K M Z R b1 b2 a panel : ℕ) → List ℕ
-bendingMore kind K M Z R b1 b2 a panel =
+abbrev pub bending_more : (kind K M Z R b1 b2 a panel : ℕ) → List ℕ
+bending_more kind K M Z R b1 b2 a panel =
     1000000 * M / Z ∷ 1000000 * M % Z
     ∷ 1000 * (b1 * b1 + b2 * b2) / (b1 * b1) ∷ 1000 * (b1 * b1 + b2 * b2) % (b1 * b1)
     ∷ product ((6084 - bool_byte (eqb kind 1) * 4928) * K) R ∷ product a 16000000 / panel ∷ product a 16000000 % panel ∷ []
 
-unfoldable pub plateThird : Header → ℕ → Plate → PlateWork → Told
-plateThird h kind p w =
-    let f = formOf (isLong kind) w.isSecond p.spacing.0 p.factor.0 w.k2 w.stress in
+unfoldable pub plate_third : Header → ℕ → Plate → PlateWork → Told
+plate_third h kind p w =
+    let f = form_of (is_long kind) w.is_second p.spacing.0 p.factor.0 w.k2 w.stress in
     let b1 = p.b1.0 in
     let b2 = p.b2.0 in
-    ruled (bendingLines kind h.version (1000 * (b1 * b1 + b2 * b2) / (b1 * b1)) w.isSecond (isNever w.third))
-    68 0 (verdictLine w.verdict.rule w.verdict.required) f.p f.a 0 w.third thickness.high p.thickness.0
-    (bendingMore kind p.factor.0 h.moment w.modulus w.stress b1 b2 f.a f.panel)
+    ruled (bending_lines kind h.version (1000 * (b1 * b1 + b2 * b2) / (b1 * b1)) w.is_second (is_never w.third))
+    68 0 (verdict_line w.verdict.rule w.verdict.required) f.p f.a 0 w.third thickness.high p.thickness.0
+    (bending_more kind p.factor.0 h.moment w.modulus w.stress b1 b2 f.a f.panel)
 
 -- ---- a member
 
-abbrev pub memberGiven : Header → (kind id : ℕ) → Member → MemberWork → List ℕ
-memberGiven h kind id m w =
+abbrev pub member_given : Header → (kind id : ℕ) → Member → MemberWork → List ℕ
+member_given h kind id m w =
     kind ∷ 0 ∷ m.bending ∷ 0 ∷ h.draught.0 ∷ m.eta ∷ w.load.source ∷ m.shear
     ∷ h.wave.0 ∷ id ∷ m.span.0 ∷ m.factor.0 ∷ h.length.0 ∷ 0 ∷ 0 ∷ m.stress
     ∷ w.load.pressure ∷ w.line ∷ 0 ∷ m.spacing.0 ∷ 0 ∷ 0 ∷ w.verdict.rule ∷ 0
     ∷ 0 ∷ 0 ∷ m.z.0 ∷ 0 ∷ 0 ∷ w.verdict.required ∷ h.version ∷ 0 ∷ []
 
 -- rule 4
-unfoldable pub memberFirst : Header → ℕ → Member → MemberWork → Told
-memberFirst h kind m w =
+unfoldable pub member_first : Header → ℕ → Member → MemberWork → Told
+member_first h kind m w =
     let L = h.length.0 in
     let K = m.factor.0 in
     let by : (t q a : ℕ) → Told = λ t q a. ruled (both t 0) 65 0 0 q a (45 * m.spacing.0) w.web thickness.high m.thickness.0 no_more in
-    cond (isDeep kind) (by 53 (product (8 * (L * L)) K) 3125) (cond (isShort L) (by 51 (product (L * L) K) 6250) (by 52 (product 15210 K) 1))
+    cond (is_deep kind) (by 53 (product (8 * (L * L)) K) 3125) (cond (is_short L) (by 51 (product (L * L) K) 6250) (by 52 (product 15210 K) 1))
 
 -- n·q·x
 abbrev pub spread : (n q x : ℕ) → ℕ
 spread n q x = product (product n q) x
 
 -- rule 5
-unfoldable pub memberSecond : ℕ → Member → MemberWork → Told
-memberSecond kind m w =
+unfoldable pub member_second : ℕ → Member → MemberWork → Told
+member_second kind m w =
     let ll = m.span.0 * m.span.0 in
     let q = w.line in
-    let never = 3 * bool_byte (isNever w.bending) in
-    let by : (t u n a : ℕ) → Told = λ t u n a. ruled (both t u) 0 1 0 n a 0 w.bending modulus.high m.modulus.0 (withRatio (product w.load.pressure m.spacing.0) 1000000) in
+    let never = 3 * bool_byte (is_never w.bending) in
+    let by : (t u n a : ℕ) → Told = λ t u n a. ruled (both t u) 0 1 0 n a 0 w.bending modulus.high m.modulus.0 (with_ratio (product w.load.pressure m.spacing.0) 1000000) in
     cond (ltb kind 6) (by 54 (57 + never) (spread (833 * m.bending * m.eta) q ll) (100000000000 * (214 - m.stress)))
     (cond (ltb kind 8) (by 56 59 (spread (29 * m.bending) q ll) 5000000000) (by 55 (58 + never) (spread (25 * m.bending * m.eta) q ll) (2000000000 * (197 - m.stress))))
 
 -- rule 6
-unfoldable pub memberThird : ℕ → Member → MemberWork → Told
-memberThird kind m w =
+unfoldable pub member_third : ℕ → Member → MemberWork → Told
+member_third kind m w =
     let l = m.span.0 in
     let q = w.line in
-    let by : (t n a : ℕ) → Told = λ t n a. ruled (both t 0) 0 2 (verdictLine w.verdict.rule w.verdict.required) n a 0 w.shear shearArea.high m.area.0 no_more in
+    let by : (t n a : ℕ) → Told = λ t n a. ruled (both t 0) 0 2 (verdict_line w.verdict.rule w.verdict.required) n a 0 w.shear shear_area.high m.area.0 no_more in
     cond (ltb kind 6) (by 62 (spread (9 * m.shear * m.eta) q l) 2000000000)
     (cond (ltb kind 8) (by 63 (spread (9 * m.shear) q l) 20000000) (by 64 (spread (7 * m.shear) q l) 12500000))
 
@@ -230,22 +230,22 @@ pub record Shows (t : Sections) (w : Work) : Type 0 where
 abbrev pub nothing : Told
 nothing = record { lines = replicate 9 0; own = replicate 32 0 }
 
-unfoldable pub plateTrail : Header → (kind id : ℕ) → Plate → PlateWork → Sections
-plateTrail h kind id p w = record {
-  given = plateGiven h kind id p w;
+unfoldable pub plate_trail : Header → (kind id : ℕ) → Plate → PlateWork → Sections
+plate_trail h kind id p w = record {
+  given = plate_given h kind id p w;
   head = head_of kind h.draught.0 h.wave.0 h.two_runs p.z.0 p.tank_top.0 p.cargo p.ballast;
-  one = plateFirst h kind p w;
-  two = plateSecond kind p w;
-  three = plateThird h kind p w;
+  one = plate_first h kind p w;
+  two = plate_second kind p w;
+  three = plate_third h kind p w;
 }
 
-unfoldable pub memberTrail : Header → (kind id : ℕ) → Member → MemberWork → Sections
-memberTrail h kind id m w = record {
-  given = memberGiven h kind id m w;
+unfoldable pub member_trail : Header → (kind id : ℕ) → Member → MemberWork → Sections
+member_trail h kind id m w = record {
+  given = member_given h kind id m w;
   head = head_of kind h.draught.0 h.wave.0 h.two_runs m.z.0 0 0 false;
-  one = memberFirst h kind m w;
-  two = memberSecond kind m w;
-  three = memberThird kind m w;
+  one = member_first h kind m w;
+  two = member_second kind m w;
+  three = member_third kind m w;
 }
 
 -- a refusal alone
@@ -262,43 +262,43 @@ refusal number place = record {
 }
 
 -- the sections, or the refusal
-abbrev pub trailBy : Answer Sections → Sections
-trailBy (isGiven t) = t
-trailBy (refused number place) = refusal number place
+abbrev pub trail_by : Answer Sections → Sections
+trail_by (isGiven t) = t
+trail_by (refused number place) = refusal number place
 
-unfoldable pub plateExplained : Header → (kind id : ℕ) → Plate → Sections
-plateExplained h kind id p = trailBy (judgedBy h (ofPlate kind id p) (plateTrail h kind id p (plateWork h kind p)))
+unfoldable pub plate_explained : Header → (kind id : ℕ) → Plate → Sections
+plate_explained h kind id p = trail_by (judged_by h (of_plate kind id p) (plate_trail h kind id p (plateWork h kind p)))
 
-unfoldable pub memberExplained : Header → (kind id : ℕ) → Member → Sections
-memberExplained h kind id m = trailBy (judgedBy h (ofMember kind id m) (memberTrail h kind id m (memberWork h kind m)))
+unfoldable pub member_explained : Header → (kind id : ℕ) → Member → Sections
+member_explained h kind id m = trail_by (judged_by h (of_member kind id m) (member_trail h kind id m (memberWork h kind m)))
 
-abbrev pub bodyExplained : Header → (kind id : ℕ) → Body → Sections
-bodyExplained h kind id (isPlate p) = plateExplained h kind id p
-bodyExplained h kind id (isMember m) = memberExplained h kind id m
+abbrev pub body_explained : Header → (kind id : ℕ) → Body → Sections
+body_explained h kind id (isPlate p) = plate_explained h kind id p
+body_explained h kind id (isMember m) = member_explained h kind id m
 
 -- the trail of a record, or why it or its header is turned away
 abbrev pub explained : Header → Record → Sections
-explained h r = bodyExplained h r.kind r.id r.body
+explained h r = body_explained h r.kind r.id r.body
 
 -- ---- its text
 
-abbrev pub sectionPieces : (given : List ℕ) → Told → List (List ℕ)
-sectionPieces given t = linePieces given t.own t.lines
+abbrev pub section_pieces : (given : List ℕ) → Told → List (List ℕ)
+section_pieces given t = line_pieces given t.own t.lines
 
 -- those of a whole work
-abbrev pub workPieces : Work → List (List ℕ)
-workPieces w =
-    linePieces w.given w.head.own w.head.lines ++ linePieces w.given w.one.own w.one.lines ++ linePieces w.given w.two.own w.two.lines
-    ++ linePieces w.given w.three.own w.three.lines
+abbrev pub work_pieces : Work → List (List ℕ)
+work_pieces w =
+    line_pieces w.given w.head.own w.head.lines ++ line_pieces w.given w.one.own w.one.lines ++ line_pieces w.given w.two.own w.two.lines
+    ++ line_pieces w.given w.three.own w.three.lines
 
-abbrev pub allPieces : Sections → List (List ℕ)
-allPieces t = sectionPieces t.given t.head ++ sectionPieces t.given t.one ++ sectionPieces t.given t.two ++ sectionPieces t.given t.three
+abbrev pub all_pieces : Sections → List (List ℕ)
+all_pieces t = section_pieces t.given t.head ++ section_pieces t.given t.one ++ section_pieces t.given t.two ++ section_pieces t.given t.three
 
-abbrev pub sectionsText : Sections → List ℕ
-sectionsText t = text_of (allPieces t)
+abbrev pub sections_text : Sections → List ℕ
+sections_text t = text_of (all_pieces t)
 
-abbrev pub trailText : Header → Record → List ℕ
-trailText h r = sectionsText (explained h r)
+abbrev pub trail_text : Header → Record → List ℕ
+trail_text h r = sections_text (explained h r)
 
 -- room for four sections of nine templates
 abbrev pub room : ℕ
@@ -320,10 +320,10 @@ pub record AllHold (loads : List Named) (verdict : Verdict) (first second third 
 
 -- of the rules, the loads and the verdict of this record
 abbrev pub BodyHolds : Header → (kind : ℕ) → Body → Sections → Type 0
-BodyHolds h kind (isPlate p) t = AllHold (plateLoads h kind p) (plateVerdict h kind p) (asked1 h kind p) (asked2 h kind p) (asked3 h kind p) t
-BodyHolds h kind (isMember m) t = AllHold (memberNamed h kind m ∷ []) (memberVerdict h kind m) (webRule h kind m) (bendingRule h kind m) (shearRule h kind m) t
+BodyHolds h kind (isPlate p) t = AllHold (plate_loads h kind p) (plate_verdict h kind p) (asked1 h kind p) (asked2 h kind p) (asked3 h kind p) t
+BodyHolds h kind (isMember m) t = AllHold (member_named h kind m ∷ []) (member_verdict h kind m) (web_rule h kind m) (bending_rule h kind m) (shear_rule h kind m) t
 
 -- the trail's text, and of a sound record each of its lines holds
 pub record Trails (h : Header) (r : Record) (t : Trail) : Type 0 where
-  pub written : Written (trailText h r) t
+  pub written : Written (trail_text h r) t
   pub holds : Sound h r → BodyHolds h r.kind r.body (explained h r)

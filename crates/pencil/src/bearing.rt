@@ -1,7 +1,7 @@
 // The loads that bear on a member: their numbers, and their lines.
 ghost use Rattle.std.specs.Prelude.{◌≡◌};
 ghost use Rattle.loads.specs.Loads.{wind};
-ghost use Rattle.pencil.specs.Numbers.{loadNumbers};
+ghost use Rattle.pencil.specs.Numbers.{load_numbers};
 ghost use Rattle.pencil.specs.Trail.{Tells, head_of};
 
 use crate::Section;
@@ -19,7 +19,7 @@ fn wind_of(wave: Span) -> u64
 }
 
 fn load_numbers(draught: Span, wave: Span, z: Span, tank_top: Span, cargo: u32) -> [u64; 32]
-    ensures { result ≡ loadNumbers draught.0 wave.0 z.0 tank_top.0 cargo }
+    ensures { result ≡ load_numbers draught.0 wave.0 z.0 tank_top.0 cargo }
 {
     let d = draught.0 as u64;
     let h = wave.0 as u64;

@@ -11,10 +11,10 @@ mod writing;
 
 ghost use Rattle.std.specs.Prelude.{◌≡◌};
 ghost use Rattle.sheet.specs.Refusals.{number_of as refusalNumber, place_of};
-ghost use Rattle.plating.specs.Work.{toldWork as toldPlate};
-ghost use Rattle.framing.specs.Work.{toldWork as toldMember};
-ghost use Rattle.pencil.specs.Templates.{headWords};
-ghost use Rattle.pencil.specs.Trail.{Shows, plateTrail, memberTrail, refusal, plateExplained, memberExplained, explained, Trails};
+ghost use Rattle.plating.specs.Work.{told_work as toldPlate};
+ghost use Rattle.framing.specs.Work.{told_work as toldMember};
+ghost use Rattle.pencil.specs.Templates.{head_words};
+ghost use Rattle.pencil.specs.Trail.{Shows, plate_trail, member_trail, refusal, plate_explained, member_explained, explained, Trails};
 
 use crate::bearing::head_of;
 use crate::members::{member_first, member_second, member_third};
@@ -83,7 +83,7 @@ struct Form {
 }
 
 fn plate_work(h: Header, kind: u8, id: u16, p: Plate, w: PlateWork) -> Work
-    ensures { Shows (plateTrail h kind id p (toldPlate w)) result }
+    ensures { Shows (plate_trail h kind id p (toldPlate w)) result }
 {
     let load = w.load;
     let source = load.source;
@@ -139,7 +139,7 @@ fn plate_work(h: Header, kind: u8, id: u16, p: Plate, w: PlateWork) -> Work
 }
 
 fn member_work(h: Header, kind: u8, id: u16, m: Member, w: MemberWork) -> Work
-    ensures { Shows (memberTrail h kind id m (toldMember w)) result }
+    ensures { Shows (member_trail h kind id m (toldMember w)) result }
 {
     let load = w.load;
     let source = load.source;
@@ -213,7 +213,7 @@ fn refused(r: Refusal) -> Work
 }
 
 fn plate_explained(h: Header, kind: u8, id: u16, p: Plate) -> Work
-    ensures { Shows (plateExplained h kind id p) result }
+    ensures { Shows (plate_explained h kind id p) result }
 {
     let worked = plating::worked(h, kind, id, p);
     match worked {
@@ -223,7 +223,7 @@ fn plate_explained(h: Header, kind: u8, id: u16, p: Plate) -> Work
 }
 
 fn member_explained(h: Header, kind: u8, id: u16, m: Member) -> Work
-    ensures { Shows (memberExplained h kind id m) result }
+    ensures { Shows (member_explained h kind id m) result }
 {
     let worked = framing::worked(h, kind, id, m);
     match worked {
@@ -256,7 +256,7 @@ pub fn trail_of(h: Header, r: Record) -> Trail
 
 // What stands once before the first trail: which letter here is which in the class rules, and which entries are the designer's.
 pub fn head() -> [u8; words::HEAD]
-    ensures { result ≡ headWords }
+    ensures { result ≡ head_words }
 {
     words::LETTERS
 }

@@ -1,6 +1,6 @@
 // Which lines a rule has, and which the verdict.
 ghost use Rattle.std.specs.Prelude.{◌≡◌, ◌<◌};
-ghost use Rattle.pencil.specs.Trail.{Tells, stepLine, ruled as ruledOf, verdictLine};
+ghost use Rattle.pencil.specs.Trail.{Tells, step_line, ruled as ruledOf, verdict_line};
 
 use crate::Section;
 use crate::numbers::{rule_numbers, taken_apart};
@@ -9,7 +9,7 @@ use verdict::Verdict;
 
 fn step_line(tried: u8, unit: u8, never: bool, first: u64, least: u64, top: u64) -> u8
     requires { (tried < 100) × (unit < 100) }
-    ensures { result ≡ stepLine tried unit never first least top }
+    ensures { result ≡ step_line tried unit never first least top }
 {
     if never {
         return 0;
@@ -58,7 +58,7 @@ pub fn ruled(
 }
 
 pub fn verdict_line(v: Verdict) -> u8
-    ensures { result ≡ verdictLine v.rule v.required }
+    ensures { result ≡ verdict_line v.rule v.required }
 {
     if v.rule == 0 {
         return 86;

@@ -1,6 +1,6 @@
 // The lines of rules 4, 5 and 6.
-ghost use Rattle.framing.specs.Work.{toldWork as toldMember};
-ghost use Rattle.pencil.specs.Trail.{Tells, memberFirst, memberSecond, memberThird};
+ghost use Rattle.framing.specs.Work.{told_work as toldMember};
+ghost use Rattle.pencil.specs.Trail.{Tells, member_first, member_second, member_third};
 
 use crate::Section;
 use crate::lines::{ruled, verdict_line};
@@ -10,7 +10,7 @@ use quantity::{Modulus, ShearArea, Thickness};
 use sheet::{Header, Member};
 
 pub fn member_first(h: Header, kind: u8, m: Member, w: MemberWork) -> Section
-    ensures { Tells (memberFirst h kind m (toldMember w)) result }
+    ensures { Tells (member_first h kind m (toldMember w)) result }
 {
     let l2 = h.length.0 as u64 * h.length.0 as u64;
     let factor = m.factor;
@@ -57,7 +57,7 @@ pub fn member_first(h: Header, kind: u8, m: Member, w: MemberWork) -> Section
 }
 
 pub fn member_second(kind: u8, m: Member, w: MemberWork) -> Section
-    ensures { Tells (memberSecond kind m (toldMember w)) result }
+    ensures { Tells (member_second kind m (toldMember w)) result }
 {
     let l2 = m.span.0 as u64 * m.span.0 as u64;
     let q = w.line.0;
@@ -121,7 +121,7 @@ pub fn member_second(kind: u8, m: Member, w: MemberWork) -> Section
 }
 
 pub fn member_third(kind: u8, m: Member, w: MemberWork) -> Section
-    ensures { Tells (memberThird kind m (toldMember w)) result }
+    ensures { Tells (member_third kind m (toldMember w)) result }
 {
     let l = m.span.0 as u64;
     let q = w.line.0;

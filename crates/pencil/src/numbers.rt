@@ -1,6 +1,6 @@
 // Numbers that the lines of a trail show: products, quotients, and what is worked out of a rule's shape.
 ghost use Rattle.std.specs.Prelude.{◌-◌, max, ◌≡◌};
-ghost use Rattle.pencil.specs.Numbers.{product, apart as apartOf, ruleNumbers};
+ghost use Rattle.pencil.specs.Numbers.{product, apart as apartOf, rule_numbers};
 ghost use Rattle.pencil.specs.Code.{Divided, PartsOf, Tries};
 
 use crate::{Parts, Quotient, Tried};
@@ -89,7 +89,7 @@ pub fn rule_numbers(
     has: u32,
     more: [u64; 7],
 ) -> [u64; 32]
-    ensures { result ≡ ruleNumbers p a per d top has more }
+    ensures { result ≡ rule_numbers p a per d top has more }
 {
     let worked = gauge::worked_in(d, top);
     let root = worked.root;

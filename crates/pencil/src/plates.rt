@@ -1,7 +1,7 @@
 // The lines of rules 1, 2 and 3.
 ghost use Rattle.std.specs.Prelude.{◌≡◌};
-ghost use Rattle.plating.specs.Work.{toldWork as toldPlate};
-ghost use Rattle.pencil.specs.Trail.{Tells, plateFirst, plateSecond, bendingLines, formOf, plateThird};
+ghost use Rattle.plating.specs.Work.{told_work as toldPlate};
+ghost use Rattle.pencil.specs.Trail.{Tells, plate_first, plate_second, bending_lines, form_of, plate_third};
 ghost use Rattle.pencil.specs.Code.{FormTold};
 
 use crate::lines::{ruled, verdict_line};
@@ -13,7 +13,7 @@ use sheet::kinds::is_long;
 use sheet::{Header, Plate};
 
 pub fn plate_first(h: Header, kind: u8, p: Plate, w: PlateWork) -> Section
-    ensures { Tells (plateFirst h kind p (toldPlate w)) result }
+    ensures { Tells (plate_first h kind p (toldPlate w)) result }
 {
     let n = h.length.0 as u64 * h.length.0 as u64 * p.factor.0 as u64;
     let per = 36 * p.spacing.0 as u64;
@@ -65,7 +65,7 @@ pub fn plate_first(h: Header, kind: u8, p: Plate, w: PlateWork) -> Section
 }
 
 pub fn plate_second(kind: u8, p: Plate, w: PlateWork) -> Section
-    ensures { Tells (plateSecond kind p (toldPlate w)) result }
+    ensures { Tells (plate_second kind p (toldPlate w)) result }
 {
     let s = p.spacing.0 as u64;
     let load = w.load;
@@ -107,7 +107,7 @@ pub fn plate_second(kind: u8, p: Plate, w: PlateWork) -> Section
 
 // The lines of rule 3: up to R, K2, the fork and the form.
 fn bending_lines(kind: u8, version: u8, side: u64, second: bool, never: bool) -> [u8; 6]
-    ensures { result ≡ bendingLines kind version side second never }
+    ensures { result ≡ bending_lines kind version side second never }
 {
     let own = (1 < version) as u8;
     let wide = (26000 < side) as u8;
@@ -122,7 +122,7 @@ fn bending_lines(kind: u8, version: u8, side: u64, second: bool, never: bool) ->
 }
 
 fn form_of(long: bool, second: bool, spacing: Spacing, factor: SteelFactor, k2: u64, r: u64) -> Form
-    ensures { FormTold (formOf long second spacing.0 factor.0 k2 r) result }
+    ensures { FormTold (form_of long second spacing.0 factor.0 k2 r) result }
 {
     let s = spacing.0 as u64;
     let n = s * s * factor.0 as u64;
@@ -157,7 +157,7 @@ fn form_of(long: bool, second: bool, spacing: Spacing, factor: SteelFactor, k2: 
 }
 
 pub fn plate_third(h: Header, kind: u8, p: Plate, w: PlateWork) -> Section
-    ensures { Tells (plateThird h kind p (toldPlate w)) result }
+    ensures { Tells (plate_third h kind p (toldPlate w)) result }
 {
     let r = w.stress;
     let d = w.third;

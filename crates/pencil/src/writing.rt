@@ -3,7 +3,7 @@ ghost use Rattle.std.specs.Prelude.{◌*◌, length};
 ghost use Rattle.wording.specs.Words.{pieces};
 ghost use Rattle.wording.specs.Writes.{Writes, spot};
 ghost use Rattle.pencil.specs.Templates.{text};
-ghost use Rattle.pencil.specs.Trail.{longest, linePieces, workPieces};
+ghost use Rattle.pencil.specs.Trail.{longest, line_pieces, work_pieces};
 
 use crate::{Section, Work, words};
 
@@ -22,7 +22,7 @@ fn put_line(t: u8, given: &[u64; 32], own: &[u64; 32], page: &mut [u8], at: usiz
 }
 
 fn put_lines(lines: &[u8], given: &[u64; 32], own: &[u64; 32], page: &mut [u8], at: usize) -> usize
-    ensures { Writes (linePieces given.now own.now lines.now) (longest * length lines.now) (spot page.old at) (spot page.new result) }
+    ensures { Writes (line_pieces given.now own.now lines.now) (longest * length lines.now) (spot page.old at) (spot page.new result) }
 {
     let mut next = at;
     let mut i: usize = 0;
@@ -35,7 +35,7 @@ fn put_lines(lines: &[u8], given: &[u64; 32], own: &[u64; 32], page: &mut [u8], 
 }
 
 fn put_section(given: &[u64; 32], s: Section, page: &mut [u8], at: usize) -> usize
-    ensures { Writes (linePieces given.now s.own s.lines) (longest * 9) (spot page.old at) (spot page.new result) }
+    ensures { Writes (line_pieces given.now s.own s.lines) (longest * 9) (spot page.old at) (spot page.new result) }
 {
     let lines = s.lines;
     let own = s.own;
@@ -44,7 +44,7 @@ fn put_section(given: &[u64; 32], s: Section, page: &mut [u8], at: usize) -> usi
 
 // The sections one behind another.
 pub fn put_work(w: Work, page: &mut [u8], at: usize) -> usize
-    ensures { Writes (workPieces w) (longest * 36) (spot page.old at) (spot page.new result) }
+    ensures { Writes (work_pieces w) (longest * 36) (spot page.old at) (spot page.new result) }
 {
     let given = w.given;
     let head = w.head;

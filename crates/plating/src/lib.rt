@@ -1,17 +1,17 @@
 // Plates of the bottom and the inner bottom: rules 1, 2 and 3.
 ghost use Rattle.std.specs.Prelude.{◌≡◌, false, ◌*◌, ◌^◌, ◌≤◌, ◌<◌};
-ghost use Rattle.quantity.specs.Range.{thickness, pressure, steelFactor};
-ghost use Rattle.loads.specs.Sources.{toldLoad};
-ghost use Rattle.sheet.specs.Kinds.{isLong};
-ghost use Rattle.sheet.specs.Lines.{plateSpacing};
-ghost use Rattle.sheet.specs.Record.{ofPlate};
+ghost use Rattle.quantity.specs.Range.{thickness, pressure, steel_factor};
+ghost use Rattle.loads.specs.Sources.{told_load};
+ghost use Rattle.sheet.specs.Kinds.{is_long};
+ghost use Rattle.sheet.specs.Lines.{plate_spacing};
+ghost use Rattle.sheet.specs.Record.{of_plate};
 ghost use Rattle.sheet.specs.Ranges.{HeaderRanges, PlateRanges};
-ghost use Rattle.verdict.specs.Verdict.{verdictOf};
-ghost use Rattle.verdict.specs.Judged.{toldJudged, judgedBy};
-ghost use Rattle.plating.specs.Rules.{R, plateModulus, K2, allowance, isSecond, platePressure, plateNamed, plateRules, plateFinding};
-ghost use Rattle.plating.specs.Shapes.{squareShape, overShape, excessShape, shape1, shape2, firstShape, secondShape, shape3};
-ghost use Rattle.plating.specs.Work.{panelK2, toldWork, workOf, toldWorked};
-ghost use Rattle.plating.specs.Bounds.{Panel, greatestR};
+ghost use Rattle.verdict.specs.Verdict.{verdict_of};
+ghost use Rattle.verdict.specs.Judged.{told_judged, judged_by};
+ghost use Rattle.plating.specs.Rules.{R, plate_modulus, K2, allowance, is_second, plate_pressure, plate_named, plate_rules, plate_finding};
+ghost use Rattle.plating.specs.Shapes.{square_shape, over_shape, excess_shape, shape1, shape2, first_shape, second_shape, shape3};
+ghost use Rattle.plating.specs.Work.{panel_k2, told_work, work_of, told_worked};
+ghost use Rattle.plating.specs.Bounds.{Panel, greatest_r};
 
 use gauge::Shape;
 use loads::Load;
@@ -28,7 +28,7 @@ const K2_HIGH: u64 = 26000;
 
 // typeof.a.T² ≥ n.
 fn square(a: u64, n: u64) -> Shape
-    ensures { result ≡ squareShape a n }
+    ensures { result ≡ square_shape a n }
 {
     gauge::squared(1, 0, n, a)
 }
@@ -36,7 +36,7 @@ fn square(a: u64, n: u64) -> Shape
 // typeof.a.T² ≥ b·c, where b·c may be past 64 bits: it is formed only where the thickest plate of the gauge meets the rule.
 fn square_over(a: u64, b: u64, c: u64) -> Shape
     requires { (0 < a) × (0 < b) × (a * (thickness.high * thickness.high) < 2 ^ 64) }
-    ensures { result ≡ overShape a b c }
+    ensures { result ≡ over_shape a b c }
 {
     let top = Thickness::HIGH as u64;
     if a * (top * top) / b < c {
@@ -47,7 +47,7 @@ fn square_over(a: u64, b: u64, c: u64) -> Shape
 
 // X = 100T − short, X ≥ 0 and typeof.a.X² ≥ n.
 fn excess(short: u32, a: u64, n: u64) -> Shape
-    ensures { result ≡ excessShape short a n }
+    ensures { result ≡ excess_shape short a n }
 {
     gauge::squared(100, short, n, a)
 }
@@ -80,7 +80,7 @@ fn rule1(kind: u8, length: Span, factor: SteelFactor, spacing: Spacing) -> Shape
 
 // Rule 2: what the pressure asks.
 fn rule2(kind: u8, factor: SteelFactor, spacing: Spacing, load: Load) -> Shape
-    requires { (factor.0 ≤ steelFactor.high) × (spacing.0 ≤ plateSpacing.high) × (load.pressure.0 ≤ pressure.high) }
+    requires { (factor.0 ≤ steel_factor.high) × (spacing.0 ≤ plate_spacing.high) × (load.pressure.0 ≤ pressure.high) }
     ensures { result ≡ shape2 kind factor.0 spacing.0 load.pressure.0 }
 {
     let k = factor.0 as u64;
@@ -94,7 +94,7 @@ fn rule2(kind: u8, factor: SteelFactor, spacing: Spacing, load: Load) -> Shape
 
 // The modulus at the plate: the bottom's, or the inner bottom's.
 fn plate_modulus(h: Header, kind: u8) -> u32
-    ensures { result ≡ plateModulus h kind }
+    ensures { result ≡ plate_modulus h kind }
 {
     let inner = h.inner_modulus();
     if is_bottom(kind) {
@@ -124,8 +124,8 @@ fn k2(b1: Span, b2: Span) -> u64
 
 // Whether the second form of rule 3 replaces the first.
 fn is_second(kind: u8, factor: SteelFactor, r: u64) -> bool
-    requires { (factor.0 ≤ steelFactor.high) × (r ≤ greatestR) }
-    ensures { result ≡ isSecond kind factor.0 r }
+    requires { (factor.0 ≤ steel_factor.high) × (r ≤ greatest_r) }
+    ensures { result ≡ is_second kind factor.0 r }
 {
     let k = factor.0 as u64;
     match kind {
@@ -138,7 +138,7 @@ fn is_second(kind: u8, factor: SteelFactor, r: u64) -> bool
 // Rule 3 while the hull's stress is small.
 fn first_form(kind: u8, spacing: Spacing, b1: Span, b2: Span, r: u64) -> Shape
     requires { Panel kind spacing.0 b1.0 }
-    ensures { result ≡ firstShape kind spacing.0 (K2 b1.0 b2.0) r }
+    ensures { result ≡ first_shape kind spacing.0 (K2 b1.0 b2.0) r }
 {
     let s = spacing.0 as u64;
     let n = s * s;
@@ -151,8 +151,8 @@ fn first_form(kind: u8, spacing: Spacing, b1: Span, b2: Span, r: u64) -> Shape
 
 // Rule 3 on the bottom where the hull's stress is great.
 fn second_form(kind: u8, factor: SteelFactor, spacing: Spacing, b1: Span, b2: Span, r: u64) -> Shape
-    requires { Panel kind spacing.0 b1.0 × (factor.0 ≤ steelFactor.high) }
-    ensures { result ≡ secondShape kind factor.0 spacing.0 (K2 b1.0 b2.0) r }
+    requires { Panel kind spacing.0 b1.0 × (factor.0 ≤ steel_factor.high) }
+    ensures { result ≡ second_shape kind factor.0 spacing.0 (K2 b1.0 b2.0) r }
 {
     if LIMIT <= r {
         return Shape::Never;
@@ -170,7 +170,7 @@ fn second_form(kind: u8, factor: SteelFactor, spacing: Spacing, b1: Span, b2: Sp
 
 // Rule 3: what the hull's bending asks. A greater moment may ask for less, where the second form sets in.
 fn rule3(kind: u8, factor: SteelFactor, spacing: Spacing, b1: Span, b2: Span, r: u64) -> Shape
-    requires { Panel kind spacing.0 b1.0 × (factor.0 ≤ steelFactor.high) × (r ≤ greatestR) }
+    requires { Panel kind spacing.0 b1.0 × (factor.0 ≤ steel_factor.high) × (r ≤ greatest_r) }
     ensures { result ≡ shape3 kind factor.0 spacing.0 (K2 b1.0 b2.0) r }
 {
     if is_second(kind, factor, r) {
@@ -181,7 +181,7 @@ fn rule3(kind: u8, factor: SteelFactor, spacing: Spacing, b1: Span, b2: Span, r:
 
 // P on the plate, and what it comes from.
 fn load(h: Header, kind: u8, p: Plate) -> Load
-    ensures { toldLoad result ≡ plateNamed h kind p }
+    ensures { told_load result ≡ plate_named h kind p }
 {
     if is_bottom(kind) {
         return loads::bottom(h.draught, h.wave, p.z, p.ballast, p.tank_top);
@@ -191,8 +191,8 @@ fn load(h: Header, kind: u8, p: Plate) -> Load
 
 // The first rule that the plate fails under its load, and the thickness that this rule requires. A later rule is formed only where the earlier ones pass.
 fn plate_verdict(h: Header, kind: u8, p: Plate, load: Load) -> Verdict
-    requires { HeaderRanges h × PlateRanges kind p × (load.pressure.0 ≡ platePressure h kind p) }
-    ensures { result ≡ verdictOf (plateRules h kind p) }
+    requires { HeaderRanges h × PlateRanges kind p × (load.pressure.0 ≡ plate_pressure h kind p) }
+    ensures { result ≡ verdict_of (plate_rules h kind p) }
 {
     let top = Thickness::HIGH as u32;
     let t = p.thickness.0 as u32;
@@ -241,8 +241,8 @@ pub enum PlateWorked {
 
 // K2 where the plate's framing is transverse.
 fn panel_k2(kind: u8, b1: Span, b2: Span) -> u64
-    requires { isLong kind ≡ false → 0 < b1.0 }
-    ensures { result ≡ panelK2 kind b1.0 b2.0 }
+    requires { is_long kind ≡ false → 0 < b1.0 }
+    ensures { result ≡ panel_k2 kind b1.0 b2.0 }
 {
     if is_long(kind) {
         return 0;
@@ -251,8 +251,8 @@ fn panel_k2(kind: u8, b1: Span, b2: Span) -> u64
 }
 
 fn plate_work(h: Header, kind: u8, p: Plate, load: Load) -> PlateWork
-    requires { HeaderRanges h × PlateRanges kind p × (toldLoad load ≡ plateNamed h kind p) }
-    ensures { toldWork result ≡ workOf h kind p }
+    requires { HeaderRanges h × PlateRanges kind p × (told_load load ≡ plate_named h kind p) }
+    ensures { told_work result ≡ work_of h kind p }
 {
     let modulus = plate_modulus(h, kind);
     let stress = hull_stress(h.moment, modulus);
@@ -277,7 +277,7 @@ fn plate_work(h: Header, kind: u8, p: Plate, load: Load) -> PlateWork
 
 // How a plate's thickness is worked out, or why the header or the plate's record is turned away.
 pub fn worked(h: Header, kind: u8, id: u16, p: Plate) -> PlateWorked
-    ensures { toldWorked result ≡ judgedBy h (ofPlate kind id p) (workOf h kind p) }
+    ensures { told_worked result ≡ judged_by h (of_plate kind id p) (work_of h kind p) }
 {
     let admitted = verdict::admitted_plate(h, kind, id, p);
     if let Outcome::Refused(r) = admitted {
@@ -288,7 +288,7 @@ pub fn worked(h: Header, kind: u8, id: u16, p: Plate) -> PlateWorked
 
 // The verdict on a plate and what its pressure comes from, or why the header or the plate's record is turned away.
 pub fn judge(h: Header, kind: u8, id: u16, p: Plate) -> Judged
-    ensures { toldJudged result ≡ judgedBy h (ofPlate kind id p) (plateFinding h kind p) }
+    ensures { told_judged result ≡ judged_by h (of_plate kind id p) (plate_finding h kind p) }
 {
     let admitted = verdict::admitted_plate(h, kind, id, p);
     if let Outcome::Refused(r) = admitted {

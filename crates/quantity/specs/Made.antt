@@ -33,34 +33,34 @@ pub record Makes (r : Range) (low high x : ℕ) (answer : Held) : Type 0 where
   pub highest : high ≡ r.high
   pub answered : answer ≡ held_of r x
 
-abbrev pub toldSpan : MadeSpan → Held
-toldSpan (isSpan x) = held x.0
-toldSpan noSpan = refused
+abbrev pub told_span : MadeSpan → Held
+told_span (isSpan x) = held x.0
+told_span noSpan = refused
 
-abbrev pub toldSpacing : MadeSpacing → Held
-toldSpacing (isSpacing x) = held x.0
-toldSpacing noSpacing = refused
+abbrev pub told_spacing : MadeSpacing → Held
+told_spacing (isSpacing x) = held x.0
+told_spacing noSpacing = refused
 
-abbrev pub toldThickness : MadeThickness → Held
-toldThickness (isThickness x) = held x.0
-toldThickness noThickness = refused
+abbrev pub told_thickness : MadeThickness → Held
+told_thickness (isThickness x) = held x.0
+told_thickness noThickness = refused
 
-abbrev pub toldModulus : MadeModulus → Held
-toldModulus (isModulus x) = held x.0
-toldModulus noModulus = refused
+abbrev pub told_modulus : MadeModulus → Held
+told_modulus (isModulus x) = held x.0
+told_modulus noModulus = refused
 
-abbrev pub toldShearArea : MadeShearArea → Held
-toldShearArea (isShearArea x) = held x.0
-toldShearArea noShearArea = refused
+abbrev pub told_shear_area : MadeShearArea → Held
+told_shear_area (isShearArea x) = held x.0
+told_shear_area noShearArea = refused
 
-abbrev pub toldPressure : MadePressure → Held
-toldPressure (isPressure x) = held x.0
-toldPressure noPressure = refused
+abbrev pub told_pressure : MadePressure → Held
+told_pressure (isPressure x) = held x.0
+told_pressure noPressure = refused
 
-abbrev pub toldLineLoad : MadeLineLoad → Held
-toldLineLoad (isLineLoad x) = held x.0
-toldLineLoad noLineLoad = refused
+abbrev pub told_line_load : MadeLineLoad → Held
+told_line_load (isLineLoad x) = held x.0
+told_line_load noLineLoad = refused
 
-abbrev pub toldSteelFactor : MadeSteelFactor → Held
-toldSteelFactor (isSteelFactor x) = held x.0
-toldSteelFactor noSteelFactor = refused
+abbrev pub told_steel_factor : MadeSteelFactor → Held
+told_steel_factor (isSteelFactor x) = held x.0
+told_steel_factor noSteelFactor = refused

@@ -30,17 +30,17 @@ abbrev pub modulus : Range
 modulus = from 1 100000
 
 -- shear area A, hundredths of a cm²
-abbrev pub shearArea : Range
-shearArea = from 1 16000
+abbrev pub shear_area : Range
+shear_area = from 1 16000
 
 -- pressure P, thousandths of a Pa; the highest is that of the greatest cargo
 abbrev pub pressure : Range
 pressure = from 0 200000000
 
 -- line load q, N/m; the highest is that of the greatest sea pressure on the widest spacing, rounded up
-abbrev pub lineLoad : Range
-lineLoad = from 0 416415
+abbrev pub line_load : Range
+line_load = from 0 416415
 
 -- K = 1000k
-abbrev pub steelFactor : Range
-steelFactor = from 500 1000
+abbrev pub steel_factor : Range
+steel_factor = from 500 1000

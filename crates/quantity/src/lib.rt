@@ -1,7 +1,7 @@
 // The eight quantities of the sheet. Each is a type of its own, so that none can be handed over for another; each has its lowest and
 // highest value, and a maker that refuses what lies outside them.
-ghost use Rattle.quantity.specs.Range.{span, spacing, thickness, modulus, shearArea, pressure, lineLoad, steelFactor};
-ghost use Rattle.quantity.specs.Made.{Makes, toldSpan, toldSpacing, toldThickness, toldModulus, toldShearArea, toldPressure, toldLineLoad, toldSteelFactor};
+ghost use Rattle.quantity.specs.Range.{span, spacing, thickness, modulus, shear_area, pressure, line_load, steel_factor};
+ghost use Rattle.quantity.specs.Made.{Makes, told_span, told_spacing, told_thickness, told_modulus, told_shear_area, told_pressure, told_line_load, told_steel_factor};
 
 // A length, a height or a span, in cm.
 #[derive(Drop)]
@@ -19,7 +19,7 @@ impl Span {
     pub const HIGH: u16 = 13500;
 
     pub fn make(x: u16) -> MadeSpan
-        ensures* { do ⌜ Makes span (← (⟦Span::LOW⟧).entry) (← (⟦Span::HIGH⟧).entry) x (toldSpan result) ⌝ }
+        ensures* { do ⌜ Makes span (← (⟦Span::LOW⟧).entry) (← (⟦Span::HIGH⟧).entry) x (told_span result) ⌝ }
     {
         if x < Span::LOW {
             return MadeSpan::Refused;
@@ -47,7 +47,7 @@ impl Spacing {
     pub const HIGH: u16 = 4000;
 
     pub fn make(x: u16) -> MadeSpacing
-        ensures* { do ⌜ Makes spacing (← (⟦Spacing::LOW⟧).entry) (← (⟦Spacing::HIGH⟧).entry) x (toldSpacing result) ⌝ }
+        ensures* { do ⌜ Makes spacing (← (⟦Spacing::LOW⟧).entry) (← (⟦Spacing::HIGH⟧).entry) x (told_spacing result) ⌝ }
     {
         if x < Spacing::LOW {
             return MadeSpacing::Refused;
@@ -75,7 +75,7 @@ impl Thickness {
     pub const HIGH: u16 = 4000;
 
     pub fn make(x: u16) -> MadeThickness
-        ensures* { do ⌜ Makes thickness (← (⟦Thickness::LOW⟧).entry) (← (⟦Thickness::HIGH⟧).entry) x (toldThickness result) ⌝ }
+        ensures* { do ⌜ Makes thickness (← (⟦Thickness::LOW⟧).entry) (← (⟦Thickness::HIGH⟧).entry) x (told_thickness result) ⌝ }
     {
         if x < Thickness::LOW {
             return MadeThickness::Refused;
@@ -103,7 +103,7 @@ impl Modulus {
     pub const HIGH: u32 = 100000;
 
     pub fn make(x: u32) -> MadeModulus
-        ensures* { do ⌜ Makes modulus (← (⟦Modulus::LOW⟧).entry) (← (⟦Modulus::HIGH⟧).entry) x (toldModulus result) ⌝ }
+        ensures* { do ⌜ Makes modulus (← (⟦Modulus::LOW⟧).entry) (← (⟦Modulus::HIGH⟧).entry) x (told_modulus result) ⌝ }
     {
         if x < Modulus::LOW {
             return MadeModulus::Refused;
@@ -131,7 +131,7 @@ impl ShearArea {
     pub const HIGH: u16 = 16000;
 
     pub fn make(x: u16) -> MadeShearArea
-        ensures* { do ⌜ Makes shearArea (← (⟦ShearArea::LOW⟧).entry) (← (⟦ShearArea::HIGH⟧).entry) x (toldShearArea result) ⌝ }
+        ensures* { do ⌜ Makes shear_area (← (⟦ShearArea::LOW⟧).entry) (← (⟦ShearArea::HIGH⟧).entry) x (told_shear_area result) ⌝ }
     {
         if x < ShearArea::LOW {
             return MadeShearArea::Refused;
@@ -159,7 +159,7 @@ impl Pressure {
     pub const HIGH: u64 = 200000000;
 
     pub fn make(x: u64) -> MadePressure
-        ensures* { do ⌜ Makes pressure (← (⟦Pressure::LOW⟧).entry) (← (⟦Pressure::HIGH⟧).entry) x (toldPressure result) ⌝ }
+        ensures* { do ⌜ Makes pressure (← (⟦Pressure::LOW⟧).entry) (← (⟦Pressure::HIGH⟧).entry) x (told_pressure result) ⌝ }
     {
         if x < Pressure::LOW {
             return MadePressure::Refused;
@@ -187,7 +187,7 @@ impl LineLoad {
     pub const HIGH: u64 = 416415;
 
     pub fn make(x: u64) -> MadeLineLoad
-        ensures* { do ⌜ Makes lineLoad (← (⟦LineLoad::LOW⟧).entry) (← (⟦LineLoad::HIGH⟧).entry) x (toldLineLoad result) ⌝ }
+        ensures* { do ⌜ Makes line_load (← (⟦LineLoad::LOW⟧).entry) (← (⟦LineLoad::HIGH⟧).entry) x (told_line_load result) ⌝ }
     {
         if x < LineLoad::LOW {
             return MadeLineLoad::Refused;
@@ -215,7 +215,7 @@ impl SteelFactor {
     pub const HIGH: u16 = 1000;
 
     pub fn make(x: u16) -> MadeSteelFactor
-        ensures* { do ⌜ Makes steelFactor (← (⟦SteelFactor::LOW⟧).entry) (← (⟦SteelFactor::HIGH⟧).entry) x (toldSteelFactor result) ⌝ }
+        ensures* { do ⌜ Makes steel_factor (← (⟦SteelFactor::LOW⟧).entry) (← (⟦SteelFactor::HIGH⟧).entry) x (told_steel_factor result) ⌝ }
     {
         if x < SteelFactor::LOW {
             return MadeSteelFactor::Refused;

@@ -5,9 +5,9 @@ mod plate;
 
 ghost use Rattle.std.specs.Prelude.{◌≡◌, cond, ◌+◌, ◌*◌, eqb};
 ghost use Rattle.layout.specs.Layout.{Fit};
-ghost use Rattle.layout.specs.Bytes.{longOf, read_of};
-ghost use Rattle.sheet.specs.Refusals.{given, toldOutcome, toldRecord, recordRefused};
-ghost use Rattle.sheet.specs.Record.{ofPlate, ofMember, recordFault, readRecord, writeRecord, widthsIn, valuesIn, recordNumber, recordAt, spareAt, rawAt};
+ghost use Rattle.layout.specs.Bytes.{long_of, read_of};
+ghost use Rattle.sheet.specs.Refusals.{given, told_outcome, told_record, record_refused};
+ghost use Rattle.sheet.specs.Record.{of_plate, of_member, record_fault, read_record, write_record, widths_in, values_in, record_number, record_at, spare_at, raw_at};
 ghost use Rattle.sheet.specs.Writes.{Writes};
 
 use layout::Long;
@@ -16,7 +16,7 @@ use sheet::{Body, Member, Outcome, Plate, Raw, Record, RecordRead, Refusal};
 
 // The first field outside its values, kind being 1, or 0, with what stands in the bits that carry nothing.
 fn fault(r: Record, spare: u32) -> u8
-    ensures { result ≡ recordFault r spare }
+    ensures { result ≡ record_fault r spare }
 {
     let kind = r.kind;
     let id = r.id;
@@ -29,7 +29,7 @@ fn fault(r: Record, spare: u32) -> u8
 
 // The record in a number, whatever its values: up to kind 4 a plate, else a member.
 fn record_of(n: Long) -> Record
-    ensures { result ≡ recordAt (longOf n) }
+    ensures { result ≡ record_at (long_of n) }
 {
     let hi = n.hi;
     let kind = (hi / P60 % 16) as u8;
@@ -53,15 +53,15 @@ fn record_of(n: Long) -> Record
 
 // What stands in the bits that carry nothing.
 fn spare_of(n: Long) -> u32
-    ensures { result ≡ spareAt (longOf n) }
+    ensures { result ≡ spare_at (long_of n) }
 {
     let kind = n.hi / P60 % 16;
     if kind < 5 { (n.lo % P20) as u32 } else { 0 }
 }
 
 fn number_of(r: Record) -> Long
-    requires { Fit (widthsIn r.body) (valuesIn r.kind r.id r.body) }
-    ensures { longOf result ≡ recordNumber r }
+    requires { Fit (widths_in r.body) (values_in r.kind r.id r.body) }
+    ensures { long_of result ≡ record_number r }
 {
     let kind = r.kind;
     let id = r.id;
@@ -85,7 +85,7 @@ fn refuse(i: u16, f: u8) -> Refusal
 
 // What the first fault of record i says, or nothing where there is none.
 fn outcome(i: u16, f: u8) -> Outcome
-    ensures { toldOutcome result ≡ recordRefused i f (given tt) }
+    ensures { told_outcome result ≡ record_refused i f (given tt) }
 {
     if f == 0 {
         return Outcome::Fine;
@@ -95,28 +95,28 @@ fn outcome(i: u16, f: u8) -> Outcome
 
 // The first fault of a record that is record i of a sheet.
 pub fn record_fault(r: Record, i: u16) -> Outcome
-    ensures { toldOutcome result ≡ recordRefused i (recordFault r 0) (given tt) }
+    ensures { told_outcome result ≡ record_refused i (record_fault r 0) (given tt) }
 {
     outcome(i, fault(r, 0))
 }
 
 // `record_fault` of a plate that stands as record 0.
 pub fn plate_outcome(kind: u8, id: u16, p: Plate) -> Outcome
-    ensures { toldOutcome result ≡ recordRefused 0 (recordFault (ofPlate kind id p) 0) (given tt) }
+    ensures { told_outcome result ≡ record_refused 0 (record_fault (of_plate kind id p) 0) (given tt) }
 {
     outcome(0, plate::fault(kind, id, p, 0))
 }
 
 // `record_fault` of a member that stands as record 0.
 pub fn member_outcome(kind: u8, id: u16, m: Member) -> Outcome
-    ensures { toldOutcome result ≡ recordRefused 0 (recordFault (ofMember kind id m) 0) (given tt) }
+    ensures { told_outcome result ≡ record_refused 0 (record_fault (of_member kind id m) 0) (given tt) }
 {
     outcome(0, member::fault(kind, id, m))
 }
 
 // The record in the first sixteen bytes, as record i of a sheet, or why there is none.
 pub fn read_record_as(s: &[u8], i: u16) -> RecordRead
-    ensures { toldRecord result ≡ readRecord i s.now }
+    ensures { told_record result ≡ read_record i s.now }
 {
     if s.len() < 16 {
         return RecordRead::Refused(Refusal::SheetShort);
@@ -132,7 +132,7 @@ pub fn read_record_as(s: &[u8], i: u16) -> RecordRead
 
 // The record in the first sixteen bytes as it stands, for whoever has it judged next; fewer bytes are read as 0.
 pub fn record_in(s: &[u8]) -> Raw
-    ensures { result ≡ rawAt (read_of 16 s.now) }
+    ensures { result ≡ raw_at (read_of 16 s.now) }
 {
     let n = layout::read_long(s);
     let values = record_of(n);
@@ -142,14 +142,14 @@ pub fn record_in(s: &[u8]) -> Raw
 
 // `read_record_as` of a record alone, which is record 0.
 pub fn read_record(s: &[u8]) -> RecordRead
-    ensures { toldRecord result ≡ readRecord 0 s.now }
+    ensures { told_record result ≡ read_record 0 s.now }
 {
     read_record_as(s, 0)
 }
 
 // The record into the first sixteen bytes, or why not.
 pub fn write_record(r: Record, out: &mut [u8]) -> Outcome
-    ensures { Writes (writeRecord r out.old) (toldOutcome result) out.new }
+    ensures { Writes (write_record r out.old) (told_outcome result) out.new }
 {
     if out.len() < 16 {
         return Outcome::Refused(Refusal::OutputShort);

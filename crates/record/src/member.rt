@@ -1,10 +1,10 @@
 // A member's record in 128 bits, and the first of its fields that is outside its values.
 ghost use Rattle.std.specs.Prelude.{◌≡◌, cond};
-ghost use Rattle.quantity.specs.Range.{within, modulus, shearArea, steelFactor};
+ghost use Rattle.quantity.specs.Range.{within, modulus, shear_area, steel_factor};
 ghost use Rattle.layout.specs.Layout.{pack, unpack, Fit};
-ghost use Rattle.layout.specs.Bytes.{longOf};
-ghost use Rattle.sheet.specs.Lines.{memberWidths};
-ghost use Rattle.sheet.specs.Record.{memberValues, memberAt, memberFault};
+ghost use Rattle.layout.specs.Bytes.{long_of};
+ghost use Rattle.sheet.specs.Lines.{member_widths};
+ghost use Rattle.sheet.specs.Record.{member_values, member_at, member_fault};
 
 use crate::choice::pick;
 use layout::Long;
@@ -14,7 +14,7 @@ use sheet::{Member, kinds};
 
 // The same of a member's last three fields: W, A and K.
 fn scantling_fault(m: Member) -> u8
-    ensures { result ≡ cond (within modulus m.modulus.0) (cond (within shearArea m.area.0) (cond (within steelFactor m.factor.0) 0 13) 12) 11 }
+    ensures { result ≡ cond (within modulus m.modulus.0) (cond (within shear_area m.area.0) (cond (within steel_factor m.factor.0) 0 13) 12) 11 }
 {
     let f = layout::fault_unless(
         m.factor.0 as u32,
@@ -34,7 +34,7 @@ fn scantling_fault(m: Member) -> u8
 }
 
 pub fn fault(kind: u8, id: u16, m: Member) -> u8
-    ensures { result ≡ memberFault kind id m }
+    ensures { result ≡ member_fault kind id m }
 {
     let floor = kinds::is_floor(kind);
     let f = scantling_fault(m);
@@ -70,7 +70,7 @@ pub fn fault(kind: u8, id: u16, m: Member) -> u8
 
 // The member in a number, whatever its values.
 pub fn of_number(n: Long) -> Member
-    ensures { result ≡ memberAt (unpack memberWidths (longOf n)) }
+    ensures { result ≡ member_at (unpack member_widths (long_of n)) }
 {
     let hi = n.hi;
     let lo = n.lo;
@@ -101,8 +101,8 @@ pub fn of_number(n: Long) -> Member
 }
 
 pub fn number(kind: u8, id: u16, m: Member) -> Long
-    requires { Fit memberWidths (memberValues kind id m) }
-    ensures { longOf result ≡ pack memberWidths (memberValues kind id m) }
+    requires { Fit member_widths (member_values kind id m) }
+    ensures { long_of result ≡ pack member_widths (member_values kind id m) }
 {
     let bending = m.bending as u64;
     let top = (kind as u64) * P60 + (id as u64) * P50 + (m.z.0 as u64) * P40;

@@ -1,9 +1,9 @@
 // A plate's record in 128 bits, and the first of its fields that is outside its values.
 ghost use Rattle.std.specs.Prelude.{◌≡◌};
 ghost use Rattle.layout.specs.Layout.{pack, unpack, Fit};
-ghost use Rattle.layout.specs.Bytes.{longOf};
-ghost use Rattle.sheet.specs.Lines.{plateWidths};
-ghost use Rattle.sheet.specs.Record.{plateValues, plateAt, plateFault};
+ghost use Rattle.layout.specs.Bytes.{long_of};
+ghost use Rattle.sheet.specs.Lines.{plate_widths};
+ghost use Rattle.sheet.specs.Record.{plate_values, plate_at, plate_fault};
 
 use crate::choice::{bit, pick};
 use layout::Long;
@@ -13,7 +13,7 @@ use sheet::{Plate, kinds};
 
 // The first field outside its values, kind being 1, or 0. It goes from the last field to the first, so that the first has the last word.
 pub fn fault(kind: u8, id: u16, p: Plate, spare: u32) -> u8
-    ensures { result ≡ plateFault kind id p spare }
+    ensures { result ≡ plate_fault kind id p spare }
 {
     let long = kinds::is_long(kind);
     let ballast = p.ballast;
@@ -53,7 +53,7 @@ pub fn fault(kind: u8, id: u16, p: Plate, spare: u32) -> u8
 
 // The plate in a number, whatever its values.
 pub fn of_number(n: Long) -> Plate
-    ensures { result ≡ plateAt (unpack plateWidths (longOf n)) }
+    ensures { result ≡ plate_at (unpack plate_widths (long_of n)) }
 {
     let hi = n.hi;
     let lo = n.lo;
@@ -80,8 +80,8 @@ pub fn of_number(n: Long) -> Plate
 }
 
 pub fn number(kind: u8, id: u16, p: Plate) -> Long
-    requires { Fit plateWidths (plateValues kind id p 0) }
-    ensures { longOf result ≡ pack plateWidths (plateValues kind id p 0) }
+    requires { Fit plate_widths (plate_values kind id p 0) }
+    ensures { long_of result ≡ pack plate_widths (plate_values kind id p 0) }
 {
     let b1 = p.b1.0 as u64;
     let top = (kind as u64) * P60 + (id as u64) * P50 + (p.factor.0 as u64) * P40;

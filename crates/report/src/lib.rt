@@ -1,13 +1,13 @@
 // What the programs print of a sheet, as text: a line with id, rule, required and source for each record, then one with n and the failures; of a
 // sheet that is turned away the refusal's number and place.
 ghost use Rattle.std.specs.Prelude.{[], ◌∷◌, ◌++◌, ◌+◌, ◌*◌, ◌≤◌, length};
-ghost use Rattle.decimal.specs.Decimal.{decimalOf};
+ghost use Rattle.decimal.specs.Decimal.{decimal_of};
 ghost use Rattle.decimal.specs.Laid.{Laid};
 ghost use Rattle.decimal.specs.Line.{line_of};
-ghost use Rattle.checker.specs.Entry.{entryValues};
+ghost use Rattle.checker.specs.Entry.{entry_values};
 ghost use Rattle.report.specs.Text.{line, text_of};
-ghost use Rattle.report.specs.Page.{longestLine, Tells, Pages};
-ghost use Rattle.report.specs.Pieces.{verdictText, verdictsText, refusalText, checkedText, Roomy, TellsRefusal};
+ghost use Rattle.report.specs.Page.{longest_line, Tells, Pages};
+ghost use Rattle.report.specs.Pieces.{verdict_text, verdicts_text, refusal_text, checked_text, Roomy, TellsRefusal};
 
 use checker::{Checked, Entry, EntryRead};
 use sheet::{MOST, Refusal};
@@ -33,8 +33,8 @@ pub enum Told {
 }
 
 fn put_number(page: &mut [u8], at: usize, n: u32, after: &[u8]) -> usize
-    requires { at + length (decimalOf n ++ after.now) ≤ length page.old }
-    ensures { Laid page.old at (decimalOf n ++ after.now) result page.new }
+    requires { at + length (decimal_of n ++ after.now) ≤ length page.old }
+    ensures { Laid page.old at (decimal_of n ++ after.now) result page.new }
 {
     at + decimal::write_number(n as u64, after, &mut page[at..])
 }
@@ -50,8 +50,8 @@ fn put_pair(page: &mut [u8], at: usize, m: u32, n: u32, after: &[u8]) -> usize
 
 // A verdict's line.
 fn put_entry(page: &mut [u8], at: usize, e: Entry) -> usize
-    requires { at + length (line (entryValues e)) ≤ length page.old }
-    ensures { Laid page.old at (line (entryValues e)) result page.new }
+    requires { at + length (line (entry_values e)) ≤ length page.old }
+    ensures { Laid page.old at (line (entry_values e)) result page.new }
 {
     let next = put_pair(page, at, e.id as u32, e.rule as u32, b" ");
     put_pair(page, next, e.required, e.source as u32, b"\n")
@@ -59,8 +59,8 @@ fn put_entry(page: &mut [u8], at: usize, e: Entry) -> usize
 
 // The line of the verdict in four bytes of the output. In the output of a check there always is one.
 fn put_verdict(verdict: &[u8], page: &mut [u8], at: usize) -> usize
-    requires { at + longestLine ≤ length page.old }
-    ensures { Laid page.old at (verdictText verdict.now) result page.new }
+    requires { at + longest_line ≤ length page.old }
+    ensures { Laid page.old at (verdict_text verdict.now) result page.new }
 {
     let read = checker::read_verdict(verdict);
     match read {
@@ -70,8 +70,8 @@ fn put_verdict(verdict: &[u8], page: &mut [u8], at: usize) -> usize
 }
 
 fn put_verdicts(out: &[u8], n: u16, page: &mut [u8]) -> usize
-    requires { (4 * n ≤ length out.now) × (longestLine * n ≤ length page.old) }
-    ensures { Laid page.old 0 (verdictsText out.now 0 n) result page.new }
+    requires { (4 * n ≤ length out.now) × (longest_line * n ≤ length page.old) }
+    ensures { Laid page.old 0 (verdicts_text out.now 0 n) result page.new }
 {
     let mut at: usize = 0;
     let mut i: u16 = 0;
@@ -86,7 +86,7 @@ fn put_verdicts(out: &[u8], n: u16, page: &mut [u8]) -> usize
 
 fn put_refusal(page: &mut [u8], r: Refusal) -> usize
     requires { 22 ≤ length page.old }
-    ensures { Laid page.old 0 (refusalText r) result page.new }
+    ensures { Laid page.old 0 (refusal_text r) result page.new }
 {
     let number = r.number() as u32;
     let place = r.place();
@@ -97,7 +97,7 @@ fn put_refusal(page: &mut [u8], r: Refusal) -> usize
 // The text of what a check answered, with the output that it left.
 fn put_checked(checked: Checked, out: &[u8], page: &mut [u8]) -> usize
     requires { Roomy checked out.now page.old }
-    ensures { Laid page.old 0 (checkedText checked out.now) result page.new }
+    ensures { Laid page.old 0 (checked_text checked out.now) result page.new }
 {
     match checked {
         Checked::Refused(r) => put_refusal(page, r),

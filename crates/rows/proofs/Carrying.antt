@@ -11,7 +11,7 @@ use lib.ListN.{length, get_or, take, drop, set, length-set, drop_of_length-le}
 use lib.Seq.{drop-cons, set_split, take-set-le, take-take, drop_at, length-take-le}
 use Rattle.layout.specs.Layout.{pack, unpack, bytes}
 use Rattle.rows.specs.Pack.{appended}
-use Rattle.rows.specs.laws.PackLaws.{beyond, turn-bytes, turn-carry}
+use Rattle.rows.specs.laws.PackLaws.{beyond, turn_bytes, turn_carry}
 
 -- a byte times a limit
 pub product : (b l : ℕ) → b < 256 → l < 4294967296 → b * l ≤ 1095216660225
@@ -49,8 +49,8 @@ begin o l v h =
 
 module _ (o₀ : List ℕ) (l v : ℕ) (o : List ℕ) (carry i : ℕ) (c : Carrying o₀ l v o carry i) where
   -- the byte in front of the place is the one that was there
-  byte-same : (j : ℕ) → suc j ≡ i → get_or o j 0 ≡ get_or o₀ j 0
-  byte-same j e =
+  byte_same : (j : ℕ) → suc j ≡ i → get_or o j 0 ≡ get_or o₀ j 0
+  byte_same j e =
       sym (get_d_take (suc j) o j (omega arith)) ∙ ap (λ (k : ℕ). get_or (take k o) j 0) e ∙ ap (λ (t : List ℕ). get_or t j 0) c.front
       ∙ ap (λ (k : ℕ). get_or (take k o₀) j 0) (sym e) ∙ get_d_take (suc j) o₀ j (omega arith)
     where
@@ -70,7 +70,7 @@ module _ (o₀ : List ℕ) (l v : ℕ) (o : List ℕ) (carry i : ℕ) (c : Carry
       let more : length o₀ - j ≡ suc k = omega (arith, c.inside) in
       let cut : drop j o₀ ≡ b ∷ drop i o₀ = drop-cons o₀ j 0 sj ∙ ap (λ (x : ℕ). b ∷ drop x o₀) e in
       let number : low o₀ j ≡ b * beyond k + n = ap₂ (λ (x : ℕ) (y : List ℕ). pack (bytes x) y) more cut in
-      let is : t ≡ b * l + (n * l + v) / beyond k = f ∙ ap₂ (λ (x y : ℕ). x * l + y) (byte-same j e) c.over in
+      let is : t ≡ b * l + (n * l + v) / beyond k = f ∙ ap₂ (λ (x y : ℕ). x * l + y) (byte_same j e) c.over in
       let made : low o₀ j * l + v ≡ (b * beyond k + n) * l + v = ap (λ (x : ℕ). x * l + v) number in
       let sets : drop j (set o j (t % 256)) ≡ t % 256 ∷ drop i o =
       ap (drop j) (set_split o j (t % 256) (omega (arith, c.same))) ∙ drop_at (take j o) (t % 256 ∷ drop (suc j) o) j (length-take-le j o (omega (arith, c.same))) ∙ ap (λ (x : ℕ). t % 256 ∷ drop x o) e in
@@ -78,8 +78,8 @@ module _ (o₀ : List ℕ) (l v : ℕ) (o : List ℕ) (carry i : ℕ) (c : Carry
         inside = omega arith;
         same = length-set o j (t % 256) ∙ c.same;
         front = take-set-le j o j (t % 256) (omega arith) ∙ front_less j e;
-        done = sets ∙ ap₂ {C = List ℕ} (λ x xs. x % 256 ∷ xs) is c.done ∙ sym (turn-bytes k b n l v) ∙ ap₂ (λ (x y : ℕ). unpack (bytes x) y) (sym more) (sym made);
-        over = ap (λ (x : ℕ). x / 256) is ∙ sym (turn-carry k b n l v) ∙ ap₂ (λ (x y : ℕ). y / beyond x) (sym more) (sym made);
+        done = sets ∙ ap₂ {C = List ℕ} (λ x xs. x % 256 ∷ xs) is c.done ∙ sym (turn_bytes k b n l v) ∙ ap₂ (λ (x y : ℕ). unpack (bytes x) y) (sym more) (sym made);
+        over = ap (λ (x : ℕ). x / 256) is ∙ sym (turn_carry k b n l v) ∙ ap₂ (λ (x y : ℕ). y / beyond x) (sym more) (sym made);
         small = omega (arith, product (get_or o j 0) l h m, c.small);
       }
     where

@@ -7,12 +7,12 @@ unfoldable pub appended : (limit value : ℕ) → List ℕ → List ℕ
 appended l v o = unpack (bytes (length o)) (pack (bytes (length o)) o * l + v)
 
 -- so many elements of a list from the one at i on
-abbrev pub fieldsFrom : (i count : ℕ) → List ℕ → List ℕ
-fieldsFrom i zero ns = []
-fieldsFrom i (suc count) ns = get_or ns i 0 ∷ fieldsFrom (i + 1) count ns
+abbrev pub fields_from : (i count : ℕ) → List ℕ → List ℕ
+fields_from i zero ns = []
+fields_from i (suc count) ns = get_or ns i 0 ∷ fields_from (i + 1) count ns
 
 abbrev pub fields_of : (count : ℕ) → List ℕ → List ℕ
-fields_of count ns = fieldsFrom 0 count ns
+fields_of count ns = fields_from 0 count ns
 
 -- whether each value is below its limit, and there are as many of them
 unfoldable pub below : (limits values : List ℕ) → Bool
@@ -28,8 +28,8 @@ joined (l ∷ ls) [] n = n
 joined (l ∷ ls) (v ∷ vs) n = joined ls vs (n * l + v)
 
 -- the same in bytes
-unfoldable pub packedOn : (limits values : List ℕ) → List ℕ → List ℕ
-packedOn ls vs o = unpack (bytes (length o)) (joined ls vs (pack (bytes (length o)) o))
+unfoldable pub packed_on : (limits values : List ℕ) → List ℕ → List ℕ
+packed_on ls vs o = unpack (bytes (length o)) (joined ls vs (pack (bytes (length o)) o))
 
 -- two to the power of each width
 abbrev pub powers : List ℕ → List ℕ

@@ -3,9 +3,9 @@
 use Rattle.std.specs.Prelude.{ℕ, ◌+◌, ◌-◌, Bool, cond, not, ◌&&◌, List, [], ◌∷◌, ◌++◌, length, get_or, replicate, eqb}
 use Rattle.quantity.specs.Range.{Range, within, from}
 use Rattle.layout.specs.Layout.{pack, unpack, bytes}
-use Rattle.sheet.specs.Versions.{Version, firstBytes, versionNumbers, numbered}
-use Rattle.sheet.specs.Lines.{firstWidths, ownWidths}
-use Rattle.sheet.specs.Header.{ownBytes}
+use Rattle.sheet.specs.Versions.{Version, first_bytes, version_numbers, numbered}
+use Rattle.sheet.specs.Lines.{first_widths, own_widths}
+use Rattle.sheet.specs.Header.{own_bytes}
 use Rattle.sheet.specs.Refusals.{Answer, given, refused, told}
 use Rattle.text.specs.declared.LineEnd.{LineEnd}
 use Rattle.text.specs.declared.LineEnd.TheVariants as LineEnd
@@ -13,8 +13,8 @@ use Rattle.text.specs.Line.{Numbers}
 use Rattle.rows.specs.declared.Row.{Row}
 use Rattle.rows.specs.declared.RowEnd.{RowEnd}
 use Rattle.rows.specs.declared.RowEnd.TheVariants as RowEnd
-use Rattle.rows.specs.Pack.{fieldsFrom, fields_of, below, powers}
-use Rattle.rows.specs.Forms.{firstCount, ownCount, recordWidths, recordCount}
+use Rattle.rows.specs.Pack.{fields_from, fields_of, below, powers}
+use Rattle.rows.specs.Forms.{first_count, own_count, record_widths, record_count}
 
 -- so many zeros
 abbrev pub zeros : ℕ → List ℕ
@@ -33,45 +33,45 @@ abbrev pub taken : (known : Bool) → List ℕ → List ℕ
 taken known vs = cond known vs (first_of vs ∷ zeros 12)
 
 -- a line: 15 where there are more or fewer fields than its version or kind has; then 14 where a field is too wide
-abbrev pub lineBy : (line : ℕ) (miscounted fits : Bool) → List ℕ → Answer (List ℕ)
-lineBy line miscounted fits b = cond miscounted (refused 15 line) (cond fits (given b) (refused 14 line))
+abbrev pub line_by : (line : ℕ) (miscounted fits : Bool) → List ℕ → Answer (List ℕ)
+line_by line miscounted fits b = cond miscounted (refused 15 line) (cond fits (given b) (refused 14 line))
 
 -- ---- a header
 
 -- the numbers as values of the fields that every version has, and then their zero bits; behind them those of a version's own
-abbrev pub firstsOf : List ℕ → List ℕ
-firstsOf vs = fields_of firstCount vs ++ 0 ∷ []
+abbrev pub firsts_of : List ℕ → List ℕ
+firsts_of vs = fields_of first_count vs ++ 0 ∷ []
 
-abbrev pub ownsOf : Version → List ℕ → List ℕ
-ownsOf v vs = fieldsFrom firstCount (length (ownWidths v)) vs
+abbrev pub owns_of : Version → List ℕ → List ℕ
+owns_of v vs = fields_from first_count (length (own_widths v)) vs
 
 -- the bytes of a header with these numbers, whatever they are
-abbrev pub headerMade : Version → List ℕ → List ℕ
-headerMade v vs = unpack (bytes firstBytes) (pack firstWidths (firstsOf vs)) ++ unpack (bytes (ownBytes v)) (pack (ownWidths v) (ownsOf v vs))
+abbrev pub header_made : Version → List ℕ → List ℕ
+header_made v vs = unpack (bytes first_bytes) (pack first_widths (firsts_of vs)) ++ unpack (bytes (own_bytes v)) (pack (own_widths v) (owns_of v vs))
 
 -- the line of so many fields with these numbers
-unfoldable pub headerLine : (line count : ℕ) → List ℕ → Answer (List ℕ)
-headerLine line count vs =
+unfoldable pub header_line : (line count : ℕ) → List ℕ → Answer (List ℕ)
+header_line line count vs =
     let v = numbered (first_of vs) in
-    let known = within versionNumbers (first_of vs) in
+    let known = within version_numbers (first_of vs) in
     let ns = taken known vs in
-    lineBy line (known && not (eqb count (firstCount + ownCount v))) (below (powers firstWidths) (firstsOf ns) && below (powers (ownWidths v)) (ownsOf v ns)) (headerMade v ns)
+    line_by line (known && not (eqb count (first_count + own_count v))) (below (powers first_widths) (firsts_of ns) && below (powers (own_widths v)) (owns_of v ns)) (header_made v ns)
 
 -- ---- a record
 
 -- the numbers as values of its fields; a plate's zero bits, for which a line has no number, are missing
-abbrev pub recordsOf : (kind : ℕ) → List ℕ → List ℕ
-recordsOf kind vs = fields_of (length (recordWidths kind)) vs
+abbrev pub records_of : (kind : ℕ) → List ℕ → List ℕ
+records_of kind vs = fields_of (length (record_widths kind)) vs
 
-abbrev pub recordMade : (kind : ℕ) → List ℕ → List ℕ
-recordMade kind vs = unpack (bytes 16) (pack (recordWidths kind) (recordsOf kind vs))
+abbrev pub record_made : (kind : ℕ) → List ℕ → List ℕ
+record_made kind vs = unpack (bytes 16) (pack (record_widths kind) (records_of kind vs))
 
-unfoldable pub recordLine : (line count : ℕ) → List ℕ → Answer (List ℕ)
-recordLine line count vs =
+unfoldable pub record_line : (line count : ℕ) → List ℕ → Answer (List ℕ)
+record_line line count vs =
     let kind = first_of vs in
     let known = within kinds kind in
     let ns = taken known vs in
-    lineBy line (known && not (eqb count (recordCount kind))) (below (powers (recordWidths kind)) (recordsOf kind ns)) (recordMade kind ns)
+    line_by line (known && not (eqb count (record_count kind))) (below (powers (record_widths kind)) (records_of kind ns)) (record_made kind ns)
 
 -- ---- a line of a text
 
@@ -81,21 +81,21 @@ pub record Made : Type 0 where
   pub end : LineEnd
 
 -- what becomes of a line that ends so: 14 for a fault of its quotes, before anything else
-abbrev pub endedBy : LineEnd → Answer (List ℕ) → Answer Made
-endedBy e (given b) = given (record { bytes = b; end = e })
-endedBy e (refused k p) = refused k p
+abbrev pub ended_by : LineEnd → Answer (List ℕ) → Answer Made
+ended_by e (given b) = given (record { bytes = b; end = e })
+ended_by e (refused k p) = refused k p
 
 abbrev pub row_by : (line : ℕ) → LineEnd → Answer (List ℕ) → Answer Made
 row_by line LineEnd.Fault a = refused 14 line
-row_by line LineEnd.Last a = endedBy LineEnd.Last a
-row_by line (LineEnd.More next) a = endedBy (LineEnd.More next) a
+row_by line LineEnd.Last a = ended_by LineEnd.Last a
+row_by line (LineEnd.More next) a = ended_by (LineEnd.More next) a
 
 -- the same from its numbers
-unfoldable pub headerRow : (line : ℕ) → Numbers → Answer Made
-headerRow line l = row_by line l.end (headerLine line (length l.values) l.values)
+unfoldable pub header_row : (line : ℕ) → Numbers → Answer Made
+header_row line l = row_by line l.end (header_line line (length l.values) l.values)
 
-unfoldable pub recordRow : (line : ℕ) → Numbers → Answer Made
-recordRow line l = row_by line l.end (recordLine line (length l.values) l.values)
+unfoldable pub record_row : (line : ℕ) → Numbers → Answer Made
+record_row line l = row_by line l.end (record_line line (length l.values) l.values)
 
 -- ---- what the code answers
 
@@ -106,13 +106,13 @@ pub record Shown : Type 0 where
   pub bytes : List ℕ
 
 -- what the code's answer says
-abbrev pub toldEnd : RowEnd → Answer LineEnd
-toldEnd (RowEnd.More next) = given (LineEnd.More next)
-toldEnd RowEnd.Last = given LineEnd.Last
-toldEnd (RowEnd.Refused r) = told r
+abbrev pub told_end : RowEnd → Answer LineEnd
+told_end (RowEnd.More next) = given (LineEnd.More next)
+told_end RowEnd.Last = given LineEnd.Last
+told_end (RowEnd.Refused r) = told r
 
-abbrev pub toldRow : Row → Shown
-toldRow r = record { answer = toldEnd r.end; size = r.size; bytes = r.bytes }
+abbrev pub told_row : Row → Shown
+told_row r = record { answer = told_end r.end; size = r.size; bytes = r.bytes }
 
 -- a line's bytes in front of zeros; of one that is turned away nothing
 abbrev pub shown : Answer Made → Shown

@@ -1,6 +1,6 @@
 // The forms of a line: how wide its fields are, the zero bits at the end being one of them.
 ghost use Rattle.std.specs.Prelude.{◌≡◌, cond, ltb, eqb};
-ghost use Rattle.rows.specs.Forms.{firstForm, ownForm, recordForm};
+ghost use Rattle.rows.specs.Forms.{first_form, own_form, record_form};
 
 // The fields' limits, two to the power of their bits, and how many there are; of these so many are written as numbers; the bytes that they fill.
 #[derive(Drop)]
@@ -13,7 +13,7 @@ pub struct Form {
 
 // What every version of the header has: bits 4, 14, 10, 8, 1, 20, 27, 9, and 3 that are zero.
 pub fn first() -> Form
-    ensures { result ≡ firstForm }
+    ensures { result ≡ first_form }
 {
     Form {
         limits: [
@@ -27,7 +27,7 @@ pub fn first() -> Form
 
 // What a version has of its own. Version 2: bits 27, 10, and 27 that are zero.
 pub fn own(version: u32) -> Form
-    ensures { result ≡ ownForm version }
+    ensures { result ≡ own_form version }
 {
     if version == 2 {
         return Form {
@@ -47,7 +47,7 @@ pub fn own(version: u32) -> Form
 
 // A plate: bits 4, 10, 10, 10, 12, 12, 10, 10, 1, 11, 18, and 20 that are zero; a member: bits 4, 10, 10, 12, 10, 12, 7, 7, 7, 8, 17, 14, 10.
 pub fn record(kind: u32) -> Form
-    ensures { result ≡ recordForm kind }
+    ensures { result ≡ record_form kind }
 {
     if kind < 5 {
         return Form {

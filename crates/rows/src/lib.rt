@@ -5,10 +5,10 @@ mod pack;
 ghost use Rattle.std.specs.Prelude.{◌≡◌, not, ◌&&◌, ◌+◌, ◌≤◌, eqb};
 ghost use Rattle.quantity.specs.Range.{within, from};
 ghost use Rattle.sheet.specs.Refusals.{told};
-ghost use Rattle.filling.specs.Filling.{lineLeft};
+ghost use Rattle.filling.specs.Filling.{line_left};
 ghost use Rattle.rows.specs.Pack.{below, fields_of};
-ghost use Rattle.rows.specs.Rows.{taken as taken_of, headerLine, recordLine, row_by, headerRow, recordRow, shown, toldRow};
-ghost use Rattle.rows.specs.Steps.{isFault, rowEnd, firstPart, ownPart, placed_of};
+ghost use Rattle.rows.specs.Rows.{taken as taken_of, header_line, record_line, row_by, header_row, record_row, shown, told_row};
+ghost use Rattle.rows.specs.Steps.{is_fault, row_end, first_part, own_part, placed_of};
 
 use form::Form;
 use sheet::Refusal;
@@ -52,7 +52,7 @@ fn taken(known: bool, nums: [u32; 13]) -> [u32; 13]
 
 // The numbers of the fields that every version of the header has.
 fn first_part(n: [u32; 13]) -> [u32; 13]
-    ensures { result ≡ firstPart n }
+    ensures { result ≡ first_part n }
 {
     [
         n[0], n[1], n[2], n[3], n[4], n[5], n[6], n[7], 0, 0, 0, 0, 0,
@@ -61,13 +61,13 @@ fn first_part(n: [u32; 13]) -> [u32; 13]
 
 // The numbers behind them.
 fn own_part(n: [u32; 13]) -> [u32; 13]
-    ensures { result ≡ ownPart n }
+    ensures { result ≡ own_part n }
 {
     [n[8], n[9], n[10], n[11], n[12], 0, 0, 0, 0, 0, 0, 0, 0]
 }
 
 fn is_fault(end: LineEnd) -> bool
-    ensures { result ≡ isFault end }
+    ensures { result ≡ is_fault end }
 {
     match end {
         LineEnd::More(_) => false,
@@ -77,7 +77,7 @@ fn is_fault(end: LineEnd) -> bool
 }
 
 fn refused(x: Refusal) -> Row
-    ensures { toldRow result ≡ shown (told x) }
+    ensures { told_row result ≡ shown (told x) }
 {
     Row {
         bytes: [0u8; 20],
@@ -87,7 +87,7 @@ fn refused(x: Refusal) -> Row
 }
 
 fn row_end(end: LineEnd) -> RowEnd
-    ensures { result ≡ rowEnd end }
+    ensures { result ≡ row_end end }
 {
     match end {
         LineEnd::More(next) => RowEnd::More(next),
@@ -120,7 +120,7 @@ fn placed(nums: [u32; 13], form: Form, at: usize, bytes: [u8; 20]) -> [u8; 20]
 }
 
 fn record_row(nums: [u32; 13], count: usize, line: u32, end: LineEnd) -> Row
-    ensures { toldRow result ≡ shown (row_by line end (recordLine line count nums)) }
+    ensures { told_row result ≡ shown (row_by line end (record_line line count nums)) }
 {
     if is_fault(end) {
         return refused(Refusal::Text(line));
@@ -146,7 +146,7 @@ fn record_row(nums: [u32; 13], count: usize, line: u32, end: LineEnd) -> Row
 
 // The line of a text that starts at a place, as a record; where it is filled up, without its filling.
 pub fn record_at(text: &[u8], at: usize, line: u32, filled: bool) -> Row
-    ensures { toldRow result ≡ shown (recordRow line (lineLeft filled text.now at)) }
+    ensures { told_row result ≡ shown (record_row line (line_left filled text.now at)) }
 {
     let mut nums = [0u32; 13];
     let read = filling::line_at(text, at, filled, &mut nums);
@@ -169,7 +169,7 @@ fn both_fit(first: [u32; 13], f: Form, own: [u32; 13], o: Form) -> bool
 }
 
 fn header_row(nums: [u32; 13], count: usize, line: u32, end: LineEnd) -> Row
-    ensures { toldRow result ≡ shown (row_by line end (headerLine line count nums)) }
+    ensures { told_row result ≡ shown (row_by line end (header_line line count nums)) }
 {
     if is_fault(end) {
         return refused(Refusal::Text(line));
@@ -198,7 +198,7 @@ fn header_row(nums: [u32; 13], count: usize, line: u32, end: LineEnd) -> Row
 
 // The first line of a text, as a header, likewise.
 pub fn header_at(text: &[u8], filled: bool) -> Row
-    ensures { toldRow result ≡ shown (headerRow 1 (lineLeft filled text.now 0)) }
+    ensures { told_row result ≡ shown (header_row 1 (line_left filled text.now 0)) }
 {
     let mut nums = [0u32; 13];
     let read = filling::line_at(text, 0, filled, &mut nums);

@@ -1,7 +1,7 @@
 // Numbers packed into bytes, most significant bit first: the bytes are one number, and each further field is appended at its low end. A field's limit is two
 // to the power of its bits.
 ghost use Rattle.std.specs.Prelude.{◌≡◌, ◌+◌, ◌*◌, ◌<◌, ◌≤◌, ◌^◌};
-ghost use Rattle.rows.specs.Pack.{appended, below, packedOn, fields_of};
+ghost use Rattle.rows.specs.Pack.{appended, below, packed_on, fields_of};
 
 // A byte of the number times the limit, and what is carried from the byte behind it.
 fn turn(byte: u8, limit: u32, carry: u64) -> u64
@@ -43,7 +43,7 @@ pub fn fits(nums: [u32; 13], limits: [u32; 13], count: usize) -> bool
 // The first numbers, one behind the other; what the bytes held before goes out at the front.
 pub fn put(nums: [u32; 13], limits: [u32; 13], count: usize, out: &mut [u8])
     requires { count ≤ 13 }
-    ensures { out.new ≡ packedOn (fields_of count limits) (fields_of count nums) out.old }
+    ensures { out.new ≡ packed_on (fields_of count limits) (fields_of count nums) out.old }
 {
     let mut i: usize = 0;
     while i < count {

@@ -1,7 +1,7 @@
 -- Exactly when: the case in which an answer is given, over any lines, by the first faulty field, and for a slice that may be too short.
 use Rattle.std.specs.Prelude.{ℕ, suc, ◌+◌, ◌*◌, ◌≡◌, refl, false, cond, List, length, ltb, eqb}
-use Rattle.layout.specs.Line.{Line, faultFrom, FirstFault}
-use Rattle.sheet.specs.Refusals.{Answer, given, refused, refusedAt}
+use Rattle.layout.specs.Line.{Line, fault_from, FirstFault}
+use Rattle.sheet.specs.Refusals.{Answer, given, refused, refused_at}
 
 -- the one holds exactly when the other does
 abbrev pub Exactly : Type 0 → Type 0 → Type 0
@@ -24,18 +24,18 @@ pub record Cases : Type 0 where
 
 -- the answer by the number of the first faulty field, 0 being none; by the lines and the values; and before
 -- that, with the number for a slice that is too short, by its length
-abbrev pub byFault : {A : Type 0} → Cases → ℕ → A → Answer A
-byFault c f a = refusedAt (refused c.first c.at) (λ k. refused c.later (c.place k)) f (given a)
+abbrev pub by_fault : {A : Type 0} → Cases → ℕ → A → Answer A
+by_fault c f a = refused_at (refused c.first c.at) (λ k. refused c.later (c.place k)) f (given a)
 
-abbrev pub byFields : {A : Type 0} → Cases → List Line → List ℕ → A → Answer A
-byFields c ls vs a = byFault c (faultFrom 1 ls vs) a
+abbrev pub by_fields : {A : Type 0} → Cases → List Line → List ℕ → A → Answer A
+by_fields c ls vs a = by_fault c (fault_from 1 ls vs) a
 
-abbrev pub bySlice : {A : Type 0} (short : ℕ) → Cases → List ℕ → Answer A → Answer A
-bySlice short c s inner = cond (ltb (length s) c.size) (refused short 0) inner
+abbrev pub by_slice : {A : Type 0} (short : ℕ) → Cases → List ℕ → Answer A → Answer A
+by_slice short c s inner = cond (ltb (length s) c.size) (refused short 0) inner
 
 -- a header that needs so many bytes: 2 for the version, 3 with the field for another
-abbrev pub headerCases : ℕ → Cases
-headerCases size =
+abbrev pub header_cases : ℕ → Cases
+header_cases size =
     record {
       size = size;
       first = 2;
@@ -46,8 +46,8 @@ headerCases size =
     }
 
 -- record i: 16 bytes, 6 with the record for the kind, 7 with 32 × record + field for another
-abbrev pub recordCases : ℕ → Cases
-recordCases i =
+abbrev pub record_cases : ℕ → Cases
+record_cases i =
     record {
       size = 16;
       first = 6;

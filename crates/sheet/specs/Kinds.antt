@@ -3,17 +3,17 @@
 use Rattle.std.specs.Prelude.{ℕ, Bool, ◌||◌, leb, eqb}
 
 -- plates with longitudinal framing
-abbrev pub isLong : ℕ → Bool
-isLong kind = eqb kind 2 || eqb kind 4
+abbrev pub is_long : ℕ → Bool
+is_long kind = eqb kind 2 || eqb kind 4
 
 -- plates of the bottom
-abbrev pub isBottom : ℕ → Bool
-isBottom kind = leb kind 2
+abbrev pub is_bottom : ℕ → Bool
+is_bottom kind = leb kind 2
 
 -- floors and bottom transverses
-abbrev pub isFloor : ℕ → Bool
-isFloor kind = eqb kind 6 || eqb kind 7
+abbrev pub is_floor : ℕ → Bool
+is_floor kind = eqb kind 6 || eqb kind 7
 
 -- floors, bottom transverses and girders: all members but longitudinals
-abbrev pub isDeep : ℕ → Bool
-isDeep kind = leb 6 kind
+abbrev pub is_deep : ℕ → Bool
+is_deep kind = leb 6 kind

@@ -52,29 +52,29 @@ place_of (FieldCount p) = p
 abbrev pub told : {A : Type 0} → Refusal → Answer A
 told r = refused (number_of r) (place_of r)
 
-abbrev pub toldOutcome : Outcome → Answer (Unit {0})
-toldOutcome Fine = given tt
-toldOutcome (notFine r) = told r
+abbrev pub told_outcome : Outcome → Answer (Unit {0})
+told_outcome Fine = given tt
+told_outcome (notFine r) = told r
 
-abbrev pub toldHeader : HeaderRead → Answer Header
-toldHeader (goodHeader h) = given h
-toldHeader (no_header r) = told r
+abbrev pub told_header : HeaderRead → Answer Header
+told_header (goodHeader h) = given h
+told_header (no_header r) = told r
 
-abbrev pub toldRecord : RecordRead → Answer Record
-toldRecord (goodRecord r) = given r
-toldRecord (noRecord r) = told r
+abbrev pub told_record : RecordRead → Answer Record
+told_record (goodRecord r) = given r
+told_record (noRecord r) = told r
 
 -- by the first faulty field, 0 being none: one refusal for the first field of all, another, by the field, for a later one
-abbrev pub refusedAt : {A : Type 0} → Answer A → (ℕ → Answer A) → ℕ → Answer A → Answer A
-refusedAt first later f fine = cond (eqb f 0) fine (cond (eqb f 1) first (later f))
+abbrev pub refused_at : {A : Type 0} → Answer A → (ℕ → Answer A) → ℕ → Answer A → Answer A
+refused_at first later f fine = cond (eqb f 0) fine (cond (eqb f 1) first (later f))
 
 -- a header: 2 for the version, 3 with the field for another
-abbrev pub headerRefused : {A : Type 0} → ℕ → Answer A → Answer A
-headerRefused f fine = refusedAt (refused 2 0) (λ k. refused 3 k) f fine
+abbrev pub header_refused : {A : Type 0} → ℕ → Answer A → Answer A
+header_refused f fine = refused_at (refused 2 0) (λ k. refused 3 k) f fine
 
 -- record i of a sheet: 6 with the record for the kind, 7 with 32 × record + field for another
-abbrev pub recordRefused : {A : Type 0} → ℕ → ℕ → Answer A → Answer A
-recordRefused i f fine = refusedAt (refused 6 i) (λ k. refused 7 (32 * i + k)) f fine
+abbrev pub record_refused : {A : Type 0} → ℕ → ℕ → Answer A → Answer A
+record_refused i f fine = refused_at (refused 6 i) (λ k. refused 7 (32 * i + k)) f fine
 
 -- an answer and what the lent bytes hold afterwards
 pub record Wrote : Type 0 where

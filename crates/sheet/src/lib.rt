@@ -4,9 +4,9 @@ pub mod kinds;
 
 ghost use Rattle.std.specs.Prelude.{◌≡◌};
 ghost use Rattle.sheet.specs.Refusals.{number_of, place_of};
-ghost use Rattle.sheet.specs.Versions.{IsVersion, versionOf};
-ghost use Rattle.sheet.specs.Header.{headerSize, innerModulus};
-ghost use Rattle.sheet.specs.Slender.{longestOf, beyondOf, tooSlender};
+ghost use Rattle.sheet.specs.Versions.{IsVersion, version_of};
+ghost use Rattle.sheet.specs.Header.{header_size, inner_modulus};
+ghost use Rattle.sheet.specs.Slender.{longest_of, beyond_of, too_slender};
 
 use quantity::{Modulus, ShearArea, Spacing, Span, SteelFactor, Thickness};
 
@@ -67,7 +67,7 @@ pub const ENOUGH: usize = LONGEST + 1;
 impl Own {
     // The version that holds this.
     pub fn version(self) -> Version
-        ensures { IsVersion result (versionOf self) }
+        ensures { IsVersion result (version_of self) }
     {
         match self {
             Own::One => Version {
@@ -87,7 +87,7 @@ impl Own {
 impl Header {
     // How many bytes the header takes.
     pub fn size(self) -> usize
-        ensures { result ≡ headerSize self }
+        ensures { result ≡ header_size self }
     {
         let own = self.own;
         let version = own.version();
@@ -96,7 +96,7 @@ impl Header {
 
     // The modulus of the inner bottom: ZDB, and ZB where the header has none.
     pub fn inner_modulus(self) -> u32
-        ensures { result ≡ innerModulus self }
+        ensures { result ≡ inner_modulus self }
     {
         let bottom = self.bottom_modulus;
         let own = self.own;
@@ -108,7 +108,7 @@ impl Header {
 
     // Whether the hull is longer for its depth than its waves allow; version 1, which has no depth, never says so.
     pub fn too_slender(self) -> bool
-        ensures { result ≡ tooSlender self }
+        ensures { result ≡ too_slender self }
     {
         let length = self.length;
         let wave = self.wave;
@@ -122,14 +122,14 @@ impl Header {
 
 // The greatest length of a hull of this depth; without waves it is not asked.
 fn longest(depth: Span, wave: Span) -> u32
-    ensures { result ≡ longestOf depth.0 wave.0 }
+    ensures { result ≡ longest_of depth.0 wave.0 }
 {
     let d = depth.0 as u32;
     if wave.0 == 60 { 35 * d } else { 25 * d }
 }
 
 fn beyond(length: Span, depth: Span, wave: Span) -> bool
-    ensures { result ≡ beyondOf length.0 depth.0 wave.0 }
+    ensures { result ≡ beyond_of length.0 depth.0 wave.0 }
 {
     if wave.0 == 0 {
         return false;

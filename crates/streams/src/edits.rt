@@ -3,10 +3,10 @@
 // it then stands.
 ghost use Rattle.std.specs.Prelude.{◌≡◌, ◌≤◌, length};
 ghost use Rattle.edit.specs.Edit.{Edits};
-ghost use Rattle.streams.specs.Edits.{askedEdit, IsDone};
+ghost use Rattle.streams.specs.Edits.{asked_edit, IsDone};
 
 use crate::parts;
-use csv::Converted;
+use sheet_csv::Converted;
 use edit::Edited;
 use libc::STDIN_FILENO;
 
@@ -26,7 +26,7 @@ enum Next {
 // The edit that a form asks for.
 fn edited(buf: &mut [u8], len: usize, form: &[u8]) -> Edited
     requires { 56 ≤ length form.now }
-    ensures { Edits (askedEdit form.now buf.old len) buf.old result buf.new }
+    ensures { Edits (asked_edit form.now buf.old len) buf.old result buf.new }
 {
     if parts::number(form, 0) == 0 {
         let f = parts::fields(form);

@@ -1,10 +1,10 @@
 // What the streams have in common: their numbers, and the line of an answer.
 ghost use Rattle.std.specs.Prelude.{◌≡◌, ◌+◌, ◌*◌, ◌≤◌, ◌<◌, length};
 ghost use Rattle.decimal.specs.Laid.{Laid};
-ghost use Rattle.csv.specs.Read.{toldConverted};
-ghost use Rattle.streams.specs.Parts.{number_at, fieldsIn, line_for, ShortLine};
+ghost use Rattle.sheet_csv.specs.Read.{told_converted};
+ghost use Rattle.streams.specs.Parts.{number_at, fields_in, line_for, ShortLine};
 
-use csv::Converted;
+use sheet_csv::Converted;
 use libc::STDOUT_FILENO;
 use report::Told;
 
@@ -24,7 +24,7 @@ pub fn number(form: &[u8], i: usize) -> u32
 // The numbers of a header or a record in a form, behind its first.
 pub fn fields(form: &[u8]) -> [u32; 13]
     requires { 56 ≤ length form.now }
-    ensures { result ≡ fieldsIn form.now }
+    ensures { result ≡ fields_in form.now }
 {
     [
         number(form, 1),
@@ -45,8 +45,8 @@ pub fn fields(form: &[u8]) -> [u32; 13]
 
 // The line of an answer: a length, or a refusal.
 pub fn put_line(c: Converted, line: &mut [u8]) -> usize
-    requires { (22 ≤ length line.old) × ShortLine (toldConverted c) }
-    ensures { Laid line.old 0 (line_for (toldConverted c)) result line.new }
+    requires { (22 ≤ length line.old) × ShortLine (told_converted c) }
+    ensures { Laid line.old 0 (line_for (told_converted c)) result line.new }
 {
     match c {
         Converted::Length(n) => decimal::write_number(n as u64, b"\n", line),
@@ -62,7 +62,7 @@ pub fn put_line(c: Converted, line: &mut [u8]) -> usize
 
 // The line, and the bytes that it speaks of.
 pub fn print(c: Converted, bytes: &[u8])
-    requires { ShortLine (toldConverted c) }
+    requires { ShortLine (told_converted c) }
 {
     let mut line = [0u8; LINE];
     let end = put_line(c, &mut line);

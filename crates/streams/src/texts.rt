@@ -1,23 +1,23 @@
 // Texts and sheets to be converted. The head is what is asked, 0 a text into a sheet, 1 a sheet into text and 2 a table that may be filled up into a sheet, the
 // input's length and the output's size; of each case it prints a line, the length written or the refusal, and the output as it then stands.
 ghost use Rattle.std.specs.Prelude.{◌≤◌, length};
-ghost use Rattle.csv.specs.Read.{Converts};
+ghost use Rattle.sheet_csv.specs.Read.{Converts};
 ghost use Rattle.streams.specs.Texts.{asked, Answers};
 
 use crate::parts;
-use csv::Converted;
+use sheet_csv::Converted;
 use libc::STDOUT_FILENO;
 
 fn converted(what: u32, input: &[u8], out: &mut [u8]) -> Converted
     ensures { Converts (asked what input.now (length out.old)) out.old result out.new }
 {
     if what == 0 {
-        return csv::read_sheet(input, out);
+        return sheet_csv::read_sheet(input, out);
     }
     if what == 1 {
-        return csv::write_text(input, out);
+        return sheet_csv::write_text(input, out);
     }
-    csv::read_table(input, out)
+    sheet_csv::read_table(input, out)
 }
 
 // The answer to a case: its line, and the output.

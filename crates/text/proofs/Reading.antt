@@ -9,7 +9,7 @@ use Rattle.fields.specs.Number.{value_of}
 use Rattle.text.specs.declared.LineEnd.{LineEnd}
 use Rattle.text.specs.declared.Line.{Line}
 use Rattle.text.specs.Line.{Numbers, behind, over, Reads}
-use Rattle.text.specs.laws.LineLaws.{over-more, over-length}
+use Rattle.text.specs.laws.LineLaws.{over_more, over_length}
 
 -- of the line l so many numbers are stored, and `rest` is left
 pub record Reading (l rest : Numbers) (before now : List ℕ) (count : ℕ) : Type 0 where
@@ -23,19 +23,19 @@ begin l ns = record { seen = []; whole = refl; many = refl; stored = refl }
 
 module _ (l rest : Numbers) (before now : List ℕ) (count : ℕ) (r : Reading l rest before now count) where
   -- one number more is stored
-  pub one-stored : (v : ℕ) (after : List ℕ) → after ≡ set now count v → after ≡ over (r.seen ++ v ∷ []) before
-  one-stored v after e =
-      e ∙ ap (λ (ns : List ℕ). set ns count v) r.stored ∙ ap (λ (k : ℕ). set (over r.seen before) k v) r.many ∙ sym (over-more r.seen before v)
+  pub one_stored : (v : ℕ) (after : List ℕ) → after ≡ set now count v → after ≡ over (r.seen ++ v ∷ []) before
+  one_stored v after e =
+      e ∙ ap (λ (ns : List ℕ). set ns count v) r.stored ∙ ap (λ (k : ℕ). set (over r.seen before) k v) r.many ∙ sym (over_more r.seen before v)
 
   -- no number more or less is there
   pub kept : length now ≡ length before
-  kept = ap length r.stored ∙ over-length r.seen before
+  kept = ap length r.stored ∙ over_length r.seen before
 
-  pub kept-stored : (v : ℕ) (after : List ℕ) → after ≡ set now count v → length after ≡ length before
-  kept-stored v after e = ap length (one-stored v after e) ∙ over-length (r.seen ++ v ∷ []) before
+  pub kept_stored : (v : ℕ) (after : List ℕ) → after ≡ set now count v → length after ≡ length before
+  kept_stored v after e = ap length (one_stored v after e) ∙ over_length (r.seen ++ v ∷ []) before
 
-  one-counted : (v : ℕ) → count + 1 ≡ length (r.seen ++ v ∷ [])
-  one-counted v = ap (λ (k : ℕ). k + 1) r.many ∙ sym (length-append r.seen (v ∷ []))
+  one_counted : (v : ℕ) → count + 1 ≡ length (r.seen ++ v ∷ [])
+  one_counted v = ap (λ (k : ℕ). k + 1) r.many ∙ sym (length-append r.seen (v ∷ []))
 
   pub go_on : (v : ℕ) (next : Numbers) → rest ≡ behind v next → (after : List ℕ) → after ≡ set now count v → (n : ℕ) → n ≡ count + 1 → Reading l next before after n
   go_on v next e after f n g =
@@ -44,8 +44,8 @@ module _ (l rest : Numbers) (before now : List ℕ) (count : ℕ) (r : Reading l
         whole = r.whole
             ∙ ap (λ (t : Numbers). record { values = r.seen ++ t.values; end = t.end }) e
             ∙ ap (λ (vs : List ℕ). record { values = vs; end = next.end }) (sym (append_assoc r.seen (v ∷ []) next.values));
-        many = g ∙ one-counted v;
-        stored = one-stored v after f;
+        many = g ∙ one_counted v;
+        stored = one_stored v after f;
       }
 
   -- the last number
@@ -54,9 +54,9 @@ module _ (l rest : Numbers) (before now : List ℕ) (count : ℕ) (r : Reading l
   ends v e f after g =
       let w : l ≡ record { values = r.seen ++ v ∷ []; end = e } = r.whole ∙ ap (λ (t : Numbers). record { values = r.seen ++ t.values; end = t.end }) f in
       record {
-        count = one-counted v ∙ ap (λ (t : Numbers). length t.values) (sym w);
+        count = one_counted v ∙ ap (λ (t : Numbers). length t.values) (sym w);
         end = ap (λ (t : Numbers). t.end) (sym w);
-        numbers = one-stored v after g ∙ ap (λ (t : Numbers). over t.values before) (sym w);
+        numbers = one_stored v after g ∙ ap (λ (t : Numbers). over t.values before) (sym w);
       }
 
   -- a fault

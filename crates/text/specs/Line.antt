@@ -1,7 +1,7 @@
 -- A line of a text as numbers, and how it ends.
 use Rattle.std.specs.Prelude.{ℕ, zero, suc, ◌-◌, ◌≡◌, List, [], ◌∷◌, length}
-use Rattle.fields.specs.Number.{digitOf, value_of}
-use Rattle.fields.specs.Marks.{Marks, marksAt}
+use Rattle.fields.specs.Number.{digit_of, value_of}
+use Rattle.fields.specs.Marks.{Marks, marks_at}
 use Rattle.fields.specs.declared.Num.{Num}
 use Rattle.fields.specs.declared.Num.TheVariants.{Empty}
 use Rattle.text.specs.declared.LineEnd.{LineEnd}
@@ -19,7 +19,7 @@ behind v l = record { values = v ∷ l.values; end = l.end }
 
 -- the first line of some marks, behind what was read of its first field so far
 unfoldable pub line_of : Marks → Num → Numbers
-line_of (Marks.byte b m) n = line_of m (digitOf n b)
+line_of (Marks.byte b m) n = line_of m (digit_of n b)
 line_of (Marks.comma next m) n = behind (value_of n) (line_of m Empty)
 line_of (Marks.line next m) n = record { values = value_of n ∷ []; end = More next }
 line_of Marks.end n = record { values = value_of n ∷ []; end = Last }
@@ -27,7 +27,7 @@ line_of Marks.fault n = record { values = []; end = Fault }
 
 -- the line of a text that starts at `at`
 unfoldable pub line_at : List ℕ → (at : ℕ) → Numbers
-line_at s at = line_of (marksAt s at) Empty
+line_at s at = line_of (marks_at s at) Empty
 
 -- numbers over the first of others, as far as these go
 abbrev pub over : List ℕ → List ℕ → List ℕ
@@ -43,20 +43,20 @@ pub record Reads (l : Numbers) (nums : List ℕ) (r : Line) (after : List ℕ) :
 
 -- ---- where a line starts
 
-abbrev pub nextBy : LineEnd → (at : ℕ) → ℕ
-nextBy (More next) at = next
-nextBy Last at = at
-nextBy Fault at = at
+abbrev pub next_by : LineEnd → (at : ℕ) → ℕ
+next_by (More next) at = next
+next_by Last at = at
+next_by Fault at = at
 
 -- the start of the line behind the one at `at`, or `at` where there is none
 unfoldable pub next_of : List ℕ → (at : ℕ) → ℕ
-next_of s at = nextBy (line_at s at).end at
+next_of s at = next_by (line_at s at).end at
 
 -- so many lines on
-unfoldable pub startFrom : (count : ℕ) → List ℕ → (at : ℕ) → ℕ
-startFrom zero s at = at
-startFrom (suc count) s at = startFrom count s (next_of s at)
+unfoldable pub start_from : (count : ℕ) → List ℕ → (at : ℕ) → ℕ
+start_from zero s at = at
+start_from (suc count) s at = start_from count s (next_of s at)
 
 -- the start of a line, the first being 1
-abbrev pub lineStart : List ℕ → (line : ℕ) → ℕ
-lineStart s line = startFrom (line - 1) s 0
+abbrev pub line_start : List ℕ → (line : ℕ) → ℕ
+line_start s line = start_from (line - 1) s 0

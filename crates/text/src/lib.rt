@@ -1,8 +1,8 @@
 // Comma-separated text, one field after another and one line after another.
 ghost use Rattle.std.specs.Prelude.{◌≡◌, ◌+◌, ◌<◌, ◌^◌, set};
 ghost use Rattle.fields.specs.Number.{value_of};
-ghost use Rattle.fields.specs.Field.{fieldAt};
-ghost use Rattle.text.specs.Line.{line_at, lineStart, next_of, Reads};
+ghost use Rattle.fields.specs.Field.{field_at};
+ghost use Rattle.text.specs.Line.{line_at, line_start, next_of, Reads};
 
 use fields::{Field, Num};
 
@@ -22,7 +22,7 @@ impl<'a> Reader<'a> {
 
     // The field that starts at the place.
     pub fn next(self) -> Field
-        ensures { result ≡ fieldAt self.entry.text.now self.entry.at }
+        ensures { result ≡ field_at self.entry.text.now self.entry.at }
     {
         fields::field_at(self.text, self.at)
     }
@@ -39,7 +39,7 @@ impl<'a> Reader<'a> {
 
 // The field that starts at a place, for whoever has the text as a plain slice.
 pub fn field_from(text: &[u8], at: usize) -> Field
-    ensures { result ≡ fieldAt text.now at }
+    ensures { result ≡ field_at text.now at }
 {
     Reader::new(text).moved(at).next()
 }
@@ -141,7 +141,7 @@ fn next_start(text: &[u8], at: usize) -> usize
 
 // Where a line starts, the first being 1, so that it can be shown; the last one that can be told where there are fewer.
 pub fn line_start(text: &[u8], line: u32) -> usize
-    ensures { result ≡ lineStart text.now line }
+    ensures { result ≡ line_start text.now line }
 {
     let mut here: usize = 0;
     let mut i: u32 = 1;

@@ -2,7 +2,7 @@
 use Rattle.std.specs.Prelude.{ℕ, ◌≤◌, ◌<◌, ◌≡◌, Bool, true, false, List, [], ◌∷◌}
 use Rattle.gauge.specs.Least.{Monotone}
 use Rattle.verdict.specs.declared.Verdict.{Verdict}
-use Rattle.verdict.specs.Verdict.{Rule, pass, failing, verdictOf}
+use Rattle.verdict.specs.Verdict.{Rule, pass, failing, verdict_of}
 
 -- q is the least of the gauge 1, 2, .., top that passes the test: larger ones pass, smaller ones fail, and 0 stands exactly where none would do
 pub record Required (asks : ℕ → Bool) (top q : ℕ) : Type 0 where
@@ -32,9 +32,9 @@ pub data Failing (v : Verdict) : List Rule → Type 0 where
   there : {r : Rule} {rs : List Rule} → r.asks r.has ≡ true → Failing v rs → Failing v (r ∷ rs)
 
 -- the rule that a verdict names
-abbrev pub the-rule : {v : Verdict} {rs : List Rule} → Failing v rs → Rule
-the-rule (here {r} f e) = r
-the-rule (there t f) = the-rule f
+abbrev pub the_rule : {v : Verdict} {rs : List Rule} → Failing v rs → Rule
+the_rule (here {r} f e) = r
+the_rule (there t f) = the_rule f
 
 -- what is said of it, and of the number
 pub record Names (v : Verdict) (r : Rule) : Type 0 where
@@ -44,8 +44,8 @@ pub record Names (v : Verdict) (r : Rule) : Type 0 where
 
 -- a verdict is a pass where every rule is met, and else that of the first that fails
 pub data Found (rs : List Rule) : Type 0 where
-  passes : Met rs → verdictOf rs ≡ pass → Found rs
-  fails : Failing (verdictOf rs) rs → Found rs
+  passes : Met rs → verdict_of rs ≡ pass → Found rs
+  fails : Failing (verdict_of rs) rs → Found rs
 
 -- the rules' numbers rise, the first being above n
 abbrev pub Rising : ℕ → List Rule → Type 0

@@ -1,9 +1,9 @@
 // The verdict on one member: the first of its rules that fails, with the scantling that the rule requires.
 ghost use Rattle.std.specs.Prelude.{◌≡◌};
-ghost use Rattle.sheet.specs.Refusals.{toldOutcome};
-ghost use Rattle.sheet.specs.Record.{ofPlate, ofMember};
-ghost use Rattle.verdict.specs.Verdict.{failedOf};
-ghost use Rattle.verdict.specs.Judged.{judgedBy};
+ghost use Rattle.sheet.specs.Refusals.{told_outcome};
+ghost use Rattle.sheet.specs.Record.{of_plate, of_member};
+ghost use Rattle.verdict.specs.Verdict.{failed_of};
+ghost use Rattle.verdict.specs.Judged.{judged_by};
 
 use gauge::Shape;
 use loads::Source;
@@ -26,7 +26,7 @@ pub enum Judged {
 
 // The verdict where the rule of this number fails: the least of the gauge 1, 2, .., top that meets its shape.
 pub fn failed(rule: u8, d: Shape, top: u32) -> Verdict
-    ensures { result ≡ failedOf rule d top }
+    ensures { result ≡ failed_of rule d top }
 {
     let required = gauge::number(gauge::least_in(d, top));
     Verdict { rule, required }
@@ -34,7 +34,7 @@ pub fn failed(rule: u8, d: Shape, top: u32) -> Verdict
 
 // Whether a header and a plate's record are within their values, so that the plate can be judged: the header first, then the record as record 0.
 pub fn admitted_plate(h: Header, kind: u8, id: u16, p: Plate) -> Outcome
-    ensures { toldOutcome result ≡ judgedBy h (ofPlate kind id p) tt }
+    ensures { told_outcome result ≡ judged_by h (of_plate kind id p) tt }
 {
     let first = header::header_fault(h);
     match first {
@@ -45,7 +45,7 @@ pub fn admitted_plate(h: Header, kind: u8, id: u16, p: Plate) -> Outcome
 
 // The same for a member's record.
 pub fn admitted_member(h: Header, kind: u8, id: u16, m: Member) -> Outcome
-    ensures { toldOutcome result ≡ judgedBy h (ofMember kind id m) tt }
+    ensures { told_outcome result ≡ judged_by h (of_member kind id m) tt }
 {
     let first = header::header_fault(h);
     match first {

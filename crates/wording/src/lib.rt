@@ -1,9 +1,9 @@
 // Words with marks for numbers, filled in and written behind what a page has. Where there is no room for a piece it is left out, so that nobody has to
 // look at the page first.
 ghost use Rattle.std.specs.Prelude.{◌+◌, ◌*◌, ◌≡◌, [], ◌∷◌, ◌++◌, length};
-ghost use Rattle.decimal.specs.Decimal.{decimalOf};
-ghost use Rattle.wording.specs.Words.{isMark as isMarkOf, hundredths as hundredthsOf, tenths as tenthsOf, shown, named, piece_of, behind, pieces, longestMark, roomOf, most};
-ghost use Rattle.wording.specs.Writes.{Writes, spot, numberMost};
+ghost use Rattle.decimal.specs.Decimal.{decimal_of};
+ghost use Rattle.wording.specs.Words.{is_mark as isMarkOf, hundredths as hundredthsOf, tenths as tenthsOf, shown, named, piece_of, behind, pieces, longest_mark, room_of, most};
+ghost use Rattle.wording.specs.Writes.{Writes, spot, number_most};
 
 // A text behind what the page has before `at`.
 pub fn put_text(text: &[u8], page: &mut [u8], at: usize) -> usize
@@ -17,7 +17,7 @@ pub fn put_text(text: &[u8], page: &mut [u8], at: usize) -> usize
 
 // A number and the text after it.
 fn put_number(n: u64, after: &[u8], page: &mut [u8], at: usize) -> usize
-    ensures { Writes ((decimalOf n ++ after.now) ∷ []) (numberMost + length after.now) (spot page.old at) (spot page.new result) }
+    ensures { Writes ((decimal_of n ++ after.now) ∷ []) (number_most + length after.now) (spot page.old at) (spot page.new result) }
 {
     if page.len() < at {
         return at;
@@ -26,7 +26,7 @@ fn put_number(n: u64, after: &[u8], page: &mut [u8], at: usize) -> usize
 }
 
 fn put_hundredths(n: u64, unit: &[u8], page: &mut [u8], at: usize) -> usize
-    ensures { Writes (hundredthsOf n unit.now) (4 * numberMost + 3 + length unit.now) (spot page.old at) (spot page.new result) }
+    ensures { Writes (hundredthsOf n unit.now) (4 * number_most + 3 + length unit.now) (spot page.old at) (spot page.new result) }
 {
     let whole = put_number(n, b" (", page, at);
     let point = put_number(n / 100, b".", page, whole);
@@ -35,7 +35,7 @@ fn put_hundredths(n: u64, unit: &[u8], page: &mut [u8], at: usize) -> usize
 }
 
 fn put_tenths(n: u64, unit: &[u8], page: &mut [u8], at: usize) -> usize
-    ensures { Writes (tenthsOf n unit.now) (4 * numberMost + 3 + length unit.now) (spot page.old at) (spot page.new result) }
+    ensures { Writes (tenthsOf n unit.now) (4 * number_most + 3 + length unit.now) (spot page.old at) (spot page.new result) }
 {
     let whole = put_number(n, b" (", page, at);
     let point = put_number(n / 10, b".", page, whole);
@@ -44,7 +44,7 @@ fn put_tenths(n: u64, unit: &[u8], page: &mut [u8], at: usize) -> usize
 
 // A number as its mark says.
 fn put_mark(mark: u8, n: u64, page: &mut [u8], at: usize) -> usize
-    ensures { Writes (shown mark n) (longestMark mark) (spot page.old at) (spot page.new result) }
+    ensures { Writes (shown mark n) (longest_mark mark) (spot page.old at) (spot page.new result) }
 {
     match mark {
         36 => put_hundredths(n, b" mm)", page, at),
@@ -77,7 +77,7 @@ fn put_byte(
     page: &mut [u8],
     at: usize,
 ) -> usize
-    ensures { Writes (piece_of given.now own.now mark byte) (roomOf mark) (spot page.old at) (spot page.new result) }
+    ensures { Writes (piece_of given.now own.now mark byte) (room_of mark) (spot page.old at) (spot page.new result) }
 {
     if mark != 0 {
         let n = register(byte, given, own);

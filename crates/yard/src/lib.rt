@@ -1,23 +1,23 @@
 // The checker, the header, the records, the verdicts, the edits and the text of a sheet for programs in C or Rust: an answer crosses as one number, the
 // fields as numbers in layout order. include/praithong.h declares these functions.
 ghost use Rattle.std.specs.Prelude.{◌≡◌, length};
-ghost use Rattle.checker.specs.Check.{toldChecked};
-ghost use Rattle.checker.specs.Entry.{entryValues, read_entry};
-ghost use Rattle.sheet.specs.Refusals.{told, toldOutcome};
-ghost use Rattle.sheet.specs.Header.{readHeader};
-ghost use Rattle.sheet.specs.Record.{readRecord};
+ghost use Rattle.checker.specs.Check.{told_checked};
+ghost use Rattle.checker.specs.Entry.{entry_values, read_entry};
+ghost use Rattle.sheet.specs.Refusals.{told, told_outcome};
+ghost use Rattle.sheet.specs.Header.{read_header};
+ghost use Rattle.sheet.specs.Record.{read_record};
 ghost use Rattle.yard.specs.Packed.{packed, fine, Checks, Reads, Wrote};
-ghost use Rattle.yard.specs.Writing.{writeHeaderNumbers, writeRecordNumbers};
+ghost use Rattle.yard.specs.Writing.{write_header_numbers, write_record_numbers};
 ghost use Rattle.yard.specs.Fields.{numbered};
 ghost use Rattle.yard.specs.Editing.{resized, EditsPacked};
 ghost use Rattle.yard.specs.Converting.{ConvertsPacked};
-ghost use Rattle.edit.specs.Edit.{putNumbersIn, removeIn, toldEdited};
-ghost use Rattle.csv.specs.Read.{sheetFrom, toldConverted};
-ghost use Rattle.csv.specs.Write.{textFrom};
-ghost use Rattle.numbers.specs.Fields.{headerNumbers, recordNumbers};
+ghost use Rattle.edit.specs.Edit.{put_numbers_in, remove_in, told_edited};
+ghost use Rattle.sheet_csv.specs.Read.{sheet_from, told_converted};
+ghost use Rattle.sheet_csv.specs.Write.{text_from};
+ghost use Rattle.numbers.specs.Fields.{header_numbers, record_numbers};
 
 use checker::{Checked, Entry, EntryRead};
-use csv::Converted;
+use sheet_csv::Converted;
 use edit::Edited;
 use sheet::{HeaderRead, Outcome, RecordRead, Refusal};
 
@@ -35,7 +35,7 @@ fn packed_refusal(r: Refusal) -> u64
 }
 
 fn packed_outcome(o: Outcome) -> u64
-    ensures { result ≡ fine (toldOutcome o) }
+    ensures { result ≡ fine (told_outcome o) }
 {
     match o {
         Outcome::Fine => 0,
@@ -44,7 +44,7 @@ fn packed_outcome(o: Outcome) -> u64
 }
 
 fn packed_checked(c: Checked) -> u64
-    ensures { result ≡ packed (toldChecked c) }
+    ensures { result ≡ packed (told_checked c) }
 {
     match c {
         Checked::Done { n, failed } => (n as u64) * COUNT + failed as u64,
@@ -60,7 +60,7 @@ pub extern "C" fn yard_check(sheet: &[u8], out: &mut [u8]) -> u64
 }
 
 fn entry_numbers(e: Entry) -> [u32; 4]
-    ensures { result ≡ entryValues e }
+    ensures { result ≡ entry_values e }
 {
     let id = e.id as u32;
     let rule = e.rule as u32;
@@ -70,7 +70,7 @@ fn entry_numbers(e: Entry) -> [u32; 4]
 
 #[unsafe(no_mangle)]
 pub extern "C" fn yard_read_verdict(bytes: &[u8], fields: &mut [u32; 4]) -> u64
-    ensures { Reads (numbered entryValues (read_entry bytes.now)) fields.old result fields.new }
+    ensures { Reads (numbered entry_values (read_entry bytes.now)) fields.old result fields.new }
 {
     let read = checker::read_verdict(bytes);
     match read {
@@ -84,7 +84,7 @@ pub extern "C" fn yard_read_verdict(bytes: &[u8], fields: &mut [u32; 4]) -> u64
 
 #[unsafe(no_mangle)]
 pub extern "C" fn yard_read_header(bytes: &[u8], fields: &mut [u32; 10]) -> u64
-    ensures { Reads (numbered headerNumbers (readHeader bytes.now)) fields.old result fields.new }
+    ensures { Reads (numbered header_numbers (read_header bytes.now)) fields.old result fields.new }
 {
     let read = header::read_header(bytes);
     match read {
@@ -98,7 +98,7 @@ pub extern "C" fn yard_read_header(bytes: &[u8], fields: &mut [u32; 10]) -> u64
 
 #[unsafe(no_mangle)]
 pub extern "C" fn yard_read_record(bytes: &[u8], fields: &mut [u32; 13]) -> u64
-    ensures { Reads (numbered recordNumbers (readRecord 0 bytes.now)) fields.old result fields.new }
+    ensures { Reads (numbered record_numbers (read_record 0 bytes.now)) fields.old result fields.new }
 {
     let read = record::read_record(bytes);
     match read {
@@ -112,7 +112,7 @@ pub extern "C" fn yard_read_record(bytes: &[u8], fields: &mut [u32; 13]) -> u64
 
 #[unsafe(no_mangle)]
 pub extern "C" fn yard_write_header(fields: &[u32; 10], out: &mut [u8]) -> u64
-    ensures { Wrote (writeHeaderNumbers fields.now out.old) result out.new }
+    ensures { Wrote (write_header_numbers fields.now out.old) result out.new }
 {
     let least = numbers::header_size(*fields);
     if out.len() < least {
@@ -127,7 +127,7 @@ pub extern "C" fn yard_write_header(fields: &[u32; 10], out: &mut [u8]) -> u64
 
 #[unsafe(no_mangle)]
 pub extern "C" fn yard_write_record(fields: &[u32; 13], out: &mut [u8]) -> u64
-    ensures { Wrote (writeRecordNumbers fields.now out.old) result out.new }
+    ensures { Wrote (write_record_numbers fields.now out.old) result out.new }
 {
     if out.len() < 16 {
         return packed_refusal(Refusal::OutputShort);
@@ -140,7 +140,7 @@ pub extern "C" fn yard_write_record(fields: &[u32; 13], out: &mut [u8]) -> u64
 }
 
 fn packed_edited(e: Edited) -> u64
-    ensures { result ≡ resized (toldEdited e) }
+    ensures { result ≡ resized (told_edited e) }
 {
     match e {
         Edited::Length(n) => n as u64,
@@ -150,20 +150,20 @@ fn packed_edited(e: Edited) -> u64
 
 #[unsafe(no_mangle)]
 pub extern "C" fn yard_put(buf: &mut [u8], len: usize, fields: &[u32; 13]) -> u64
-    ensures { EditsPacked (putNumbersIn buf.old len fields.now) buf.old result buf.new }
+    ensures { EditsPacked (put_numbers_in buf.old len fields.now) buf.old result buf.new }
 {
     packed_edited(edit::put_numbers(buf, len, *fields))
 }
 
 #[unsafe(no_mangle)]
 pub extern "C" fn yard_remove(buf: &mut [u8], len: usize, id: u32) -> u64
-    ensures { EditsPacked (removeIn buf.old len id) buf.old result buf.new }
+    ensures { EditsPacked (remove_in buf.old len id) buf.old result buf.new }
 {
     packed_edited(edit::remove(buf, len, id))
 }
 
 fn packed_converted(c: Converted) -> u64
-    ensures { result ≡ resized (toldConverted c) }
+    ensures { result ≡ resized (told_converted c) }
 {
     match c {
         Converted::Length(n) => n as u64,
@@ -173,14 +173,14 @@ fn packed_converted(c: Converted) -> u64
 
 #[unsafe(no_mangle)]
 pub extern "C" fn yard_read_text(text: &[u8], out: &mut [u8]) -> u64
-    ensures { ConvertsPacked (sheetFrom text.now (length out.old)) out.old result out.new }
+    ensures { ConvertsPacked (sheet_from text.now (length out.old)) out.old result out.new }
 {
-    packed_converted(csv::read_sheet(text, out))
+    packed_converted(sheet_csv::read_sheet(text, out))
 }
 
 #[unsafe(no_mangle)]
 pub extern "C" fn yard_write_text(sheet: &[u8], out: &mut [u8]) -> u64
-    ensures { ConvertsPacked (textFrom sheet.now (length out.old)) out.old result out.new }
+    ensures { ConvertsPacked (text_from sheet.now (length out.old)) out.old result out.new }
 {
-    packed_converted(csv::write_text(sheet, out))
+    packed_converted(sheet_csv::write_text(sheet, out))
 }

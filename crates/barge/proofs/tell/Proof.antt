@@ -6,7 +6,7 @@ use mathlib.Core.Path.{sym}
 use native.Mathlib.Omega.{arith}
 use lib.ListN.{length, take, length-take}
 use lib.Seq.{length-take-le, take_all}
-use Rattle.report.specs.laws.PageLaws.{page-within}
+use Rattle.report.specs.laws.PageLaws.{page_within}
 use Rattle.barge.proofs.tell.Statement.{statement}
 use Rattle.barge.proofs.tell.Tie as tie
 
@@ -15,7 +15,7 @@ within : (c : tie.After-answer) → c.answer.result.len ≤ length c.answer.resu
 within c =
     let a = c.before.before.args in
     let b = a.sheet.now in
-    page-within (take a.got b) _ (c.answer.ensures (take a.got b) (sym (take_all (length b) (take a.got b) (simp length-take (omega arith)))))
+    page_within (take a.got b) _ (c.answer.ensures (take a.got b) (sym (take_all (length b) (take a.got b) (simp length-take (omega arith)))))
 
 pub tell-spec : {M : Type 1} → statement M
 tell-spec =

@@ -7,7 +7,7 @@ use native.Mathlib.Omega.{arith}
 use Rattle.console.specs.declared.Read.{Read}
 use Rattle.console.specs.Console.{Loaded}
 use Rattle.barge_edit.specs.Office.{EditInside}
-use Rattle.barge_edit.specs.laws.OfficeLaws.{put-inside}
+use Rattle.barge_edit.specs.laws.OfficeLaws.{put_inside}
 use Rattle.barge_edit.proofs.put.Statement.{statement}
 use Rattle.barge_edit.proofs.put.Tie as tie
 
@@ -23,7 +23,7 @@ finish-requires : tie.Need-finish-requires
 finish-requires c κs =
     let p = c.before.before in
     let e = p.put_in.result in
-    subst (λ (n : ℕ). EditInside e n) (sym p.put_in.auto.0) (put-inside _ _ _ e _ p.put_in.ensures.edits)
+    subst (λ (n : ℕ). EditInside e n) (sym p.put_in.auto.0) (put_inside _ _ _ e _ p.put_in.ensures.edits)
 
 pub put_spec : {M : Type 1} → statement M
 put_spec =

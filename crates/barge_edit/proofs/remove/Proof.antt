@@ -7,7 +7,7 @@ use native.Mathlib.Omega.{arith}
 use Rattle.console.specs.declared.Read.{Read}
 use Rattle.console.specs.Console.{Loaded}
 use Rattle.barge_edit.specs.Office.{EditInside}
-use Rattle.barge_edit.specs.laws.OfficeLaws.{remove-inside}
+use Rattle.barge_edit.specs.laws.OfficeLaws.{remove_inside}
 use Rattle.barge_edit.proofs.remove.Statement.{statement}
 use Rattle.barge_edit.proofs.remove.Tie as tie
 
@@ -23,7 +23,7 @@ finish-requires : tie.Need-finish-requires
 finish-requires c κs =
     let p = c.before.before in
     let e = p.remove-in.result in
-    subst (λ (n : ℕ). EditInside e n) (sym p.remove-in.auto.0) (remove-inside _ _ _ e _ p.remove-in.ensures.edits)
+    subst (λ (n : ℕ). EditInside e n) (sym p.remove-in.auto.0) (remove_inside _ _ _ e _ p.remove-in.ensures.edits)
 
 pub remove-spec : {M : Type 1} → statement M
 remove-spec =

@@ -6,81 +6,81 @@ use Rattle.std.proofs.Math.Path.{ap}
 use Rattle.sheet.specs.declared.Header.{Header}
 use Rattle.sheet.specs.laws.VersionLaws.{regular}
 use Rattle.sheet.specs.Refusals.{Answer, given, refused}
-use Rattle.sheet.specs.laws.RefusalLaws.{given-refused, refused-number, refused-place}
-use Rattle.checker.specs.Check.{◌then◌, demand, sheetSize, Sheet, sheetIn}
-use Rattle.checker.specs.Unjudged.{room, soundSheet}
-use Rattle.checker.specs.laws.Longer.{sheet-cut}
+use Rattle.sheet.specs.laws.RefusalLaws.{given_refused, refused_number, refused_place}
+use Rattle.checker.specs.Check.{◌then◌, demand, sheet_size, Sheet, sheet_in}
+use Rattle.checker.specs.Unjudged.{room, sound_sheet}
+use Rattle.checker.specs.laws.Longer.{sheet_cut}
 use Rattle.sheet.specs.Versions.{enough}
 use Rattle.edit.specs.declared.Edited.{Edited}
 use Rattle.edit.specs.declared.Edited.TheVariants.{Length, Refused as notEdited}
-use Rattle.edit.specs.Edit.{sheetAt, headerOf, After, putNumbersIn, removeIn, toldEdited, sizeBy, Edits}
-use Rattle.edit.specs.laws.Within.{numbers-within, remove-within, length-within}
-use Rattle.barge_edit.specs.Office.{fields_of, recordCount, EditInside, OfFile}
+use Rattle.edit.specs.Edit.{sheet_at, header_of, After, put_numbers_in, remove_in, told_edited, size_by, Edits}
+use Rattle.edit.specs.laws.Within.{numbers_within, remove_within, length_within}
+use Rattle.barge_edit.specs.Office.{fields_of, record_count, EditInside, OfFile}
 
 -- no record is more than 13 numbers
-pub fields-most : (kind : ℕ) → fields_of kind ≤ 13
+pub fields_most : (kind : ℕ) → fields_of kind ≤ 13
 unfolding fields_of
-fields-most kind = go (ltb kind 5)
+fields_most kind = go (ltb kind 5)
   where
     go : (t : Bool) → cond t 11 13 ≤ 13
     go true = omega arith
     go false = omega arith
 
 -- a sheet's bytes say how many records its header counts, in every version
-pub records-counted : (h : Header) → recordCount (sheetSize h) ≡ h.count
-records-counted h = let v = regular h.own in omega (arith, v.least, v.less)
+pub records_counted : (h : Header) → record_count (sheet_size h) ≡ h.count
+records_counted h = let v = regular h.own in omega (arith, v.least, v.less)
 
 -- the new sheet is in the buffer
 inside : (x : Answer After) (b : List ℕ) (e : Edited) (after : List ℕ) → ((a : After) → x ≡ given a → a.size ≤ length b) → Edits x b e after → EditInside e (length b)
-inside x b (Length n) after l d = length-within x b n after l d
+inside x b (Length n) after l d = length_within x b n after l d
 inside x b (notEdited r) after l d = tt
 
-pub put-inside : (b : List ℕ) (len : ℕ) (ns : List ℕ) (e : Edited) (after : List ℕ) → Edits (putNumbersIn b len ns) b e after → EditInside e (length b)
-put-inside b len ns e after d = inside (putNumbersIn b len ns) b e after (numbers-within b len ns) d
+pub put_inside : (b : List ℕ) (len : ℕ) (ns : List ℕ) (e : Edited) (after : List ℕ) → Edits (put_numbers_in b len ns) b e after → EditInside e (length b)
+put_inside b len ns e after d = inside (put_numbers_in b len ns) b e after (numbers_within b len ns) d
 
-pub remove-inside : (b : List ℕ) (len id : ℕ) (e : Edited) (after : List ℕ) → Edits (removeIn b len id) b e after → EditInside e (length b)
-remove-inside b len id e after d = inside (removeIn b len id) b e after (remove-within b len id) d
+pub remove_inside : (b : List ℕ) (len id : ℕ) (e : Edited) (after : List ℕ) → Edits (remove_in b len id) b e after → EditInside e (length b)
+remove_inside b len id e after d = inside (remove_in b len id) b e after (remove_within b len id) d
 
 -- ---- the whole file
 
 -- the bytes that were read say what the whole of them say
-sheet-whole : (b : List ℕ) (got : ℕ) (input : List ℕ) → enough ≤ length b → got ≤ length b → take got b ≡ take (length b) input → sheetAt b got ≡ sheetAt input (length input)
-unfolding sheetAt soundSheet demand ◌then◌
-sheet-whole b got input l m e =
+sheet_whole : (b : List ℕ) (got : ℕ) (input : List ℕ) → enough ≤ length b → got ≤ length b → take got b ≡ take (length b) input → sheet_at b got ≡ sheet_at input (length input)
+unfolding sheet_at sound_sheet demand ◌then◌
+sheet_whole b got input l m e =
     let n = length b in
-    let cut : sheetIn (take n input) room ≡ sheetIn input room
-    = sym (sheet-cut (take n input) room) ∙ ap (λ (s : List ℕ). sheetIn s room) (take-take enough n input l) ∙ sheet-cut input room in
+    let cut : sheet_in (take n input) room ≡ sheet_in input room
+    = sym (sheet_cut (take n input) room) ∙ ap (λ (s : List ℕ). sheet_in s room) (take-take enough n input l) ∙ sheet_cut input room in
     let all : take (length input) input ≡ input = take_all (length input) input (omega arith) in
     rw (le-leb got n m, le-leb (length input) (length input) (omega arith), e, all) cut
 
 -- what turns the sheet away turns either edit away
-header-turned : (b : List ℕ) (len k p : ℕ) → headerOf b len ≡ refused k p → sheetAt b len ≡ refused k p
-unfolding headerOf ◌then◌
-header-turned b len k p e = go (sheetAt b len) e
+header_turned : (b : List ℕ) (len k p : ℕ) → header_of b len ≡ refused k p → sheet_at b len ≡ refused k p
+unfolding header_of ◌then◌
+header_turned b len k p e = go (sheet_at b len) e
   where
     go : (x : Answer Sheet) → ◌then◌ {B = Header} x (λ t. given t.header) ≡ refused k p → x ≡ refused k p
-    go (given t) f = given-refused f
-    go (refused l q) f = ap₂ refused (refused-number f) (refused-place f)
+    go (given t) f = given_refused f
+    go (refused l q) f = ap₂ refused (refused_number f) (refused_place f)
 
-module _ (b : List ℕ) (got : ℕ) (l : enough ≤ length b) (m : got ≤ length b) (input : List ℕ) (e : take got b ≡ take (length b) input) (k p : ℕ) (turned : headerOf input (length input) ≡ refused k p) where
-  away : sheetAt b got ≡ refused k p
-  away = sheet-whole b got input l m e ∙ header-turned input (length input) k p turned
+module _ (b : List ℕ) (got : ℕ) (l : enough ≤ length b) (m : got ≤ length b) (input : List ℕ) (e : take got b ≡ take (length b) input) (k p : ℕ) (turned : header_of input (length input) ≡ refused k p) where
+  away : sheet_at b got ≡ refused k p
+  away = sheet_whole b got input l m e ∙ header_turned input (length input) k p turned
 
-  put-away : (ns : List ℕ) → putNumbersIn b got ns ≡ refused k p
-  unfolding putNumbersIn headerOf ◌then◌
-  put-away ns = rw away
+  put_away : (ns : List ℕ) → put_numbers_in b got ns ≡ refused k p
+  unfolding put_numbers_in header_of ◌then◌
+  put_away ns = rw away
 
-  remove-away : (id : ℕ) → removeIn b got id ≡ refused k p
-  unfolding removeIn ◌then◌
-  remove-away id = rw away
+  remove_away : (id : ℕ) → remove_in b got id ≡ refused k p
+  unfolding remove_in ◌then◌
+  remove_away id = rw away
 
-  told-away : (x : Answer After) (r : Edited) (after : List ℕ) → Edits x b r after → x ≡ refused k p → toldEdited r ≡ refused k p
-  unfolding sizeBy
-  told-away x r after d f = d.answer ∙ ap sizeBy f
+  told_away : (x : Answer After) (r : Edited) (after : List ℕ) → Edits x b r after → x ≡ refused k p → told_edited r ≡ refused k p
+  unfolding size_by
+  told_away x r after d f = d.answer ∙ ap size_by f
 
 module _ (b : List ℕ) (got : ℕ) (l : enough ≤ length b) (m : got ≤ length b) (r : Edited) (after : List ℕ) where
-  pub put-of-file : (ns : List ℕ) → Edits (putNumbersIn b got ns) b r after → OfFile (putNumbersIn b got ns) b got r after
-  put-of-file ns d = record { edits = d; whole = λ input e k p t. told-away b got l m input e k p t _ r after d (put-away b got l m input e k p t ns) }
+  pub put_of_file : (ns : List ℕ) → Edits (put_numbers_in b got ns) b r after → OfFile (put_numbers_in b got ns) b got r after
+  put_of_file ns d = record { edits = d; whole = λ input e k p t. told_away b got l m input e k p t _ r after d (put_away b got l m input e k p t ns) }
 
-  pub remove-of-file : (id : ℕ) → Edits (removeIn b got id) b r after → OfFile (removeIn b got id) b got r after
-  remove-of-file id d = record { edits = d; whole = λ input e k p t. told-away b got l m input e k p t _ r after d (remove-away b got l m input e k p t id) }
+  pub remove_of_file : (id : ℕ) → Edits (remove_in b got id) b r after → OfFile (remove_in b got id) b got r after
+  remove_of_file id d = record { edits = d; whole = λ input e k p t. told_away b got l m input e k p t _ r after d (remove_away b got l m input e k p t id) }

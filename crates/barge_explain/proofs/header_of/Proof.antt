@@ -5,9 +5,9 @@ use mathlib.Core.Path.{sym, ap, subst, ◌∙◌}
 use Prim.Native.Nat.{ℕ}
 use lib.ListN.{length, take}
 use lib.Seq.{length-take-le}
-use Rattle.checker.specs.Unjudged.{soundHeader}
+use Rattle.checker.specs.Unjudged.{sound_header}
 use Rattle.barge_explain.specs.Explain.{Sized}
-use Rattle.barge_explain.specs.laws.ExplainLaws.{header-cut, sized}
+use Rattle.barge_explain.specs.laws.ExplainLaws.{header_cut, sized}
 use Rattle.barge_explain.proofs.header_of.Statement.{statement}
 use Rattle.barge_explain.proofs.header_of.Tie as tie
 
@@ -16,7 +16,7 @@ returns c =
     let s = c.before.before.before in
     let b = s.args.buffer.now in
     let r = c.sound-header in
-    (λ input e. r.ensures ∙ ap soundHeader e ∙ header-cut (length b) input s.requires.0, subst (λ (n : ℕ). Sized r.result n) (length-take-le s.args.got b s.requires.1) (sized (take s.args.got b) r.result r.ensures))
+    (λ input e. r.ensures ∙ ap sound_header e ∙ header_cut (length b) input s.requires.0, subst (λ (n : ℕ). Sized r.result n) (length-take-le s.args.got b s.requires.1) (sized (take s.args.got b) r.result r.ensures))
 
 pub header-of-spec : {M : Type 1} → statement M
 header-of-spec =

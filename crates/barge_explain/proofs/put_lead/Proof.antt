@@ -3,7 +3,7 @@
 use borrow.Author.Rules.{rules}
 use native.Mathlib.Omega.{arith}
 use Rattle.wording.specs.laws.WritesLaws.{within, and_then}
-use Rattle.barge_explain.specs.laws.ExplainLaws.{head-size}
+use Rattle.barge_explain.specs.laws.ExplainLaws.{head_size_lem}
 use Rattle.barge_explain.proofs.put_lead.Statement.{statement}
 use Rattle.barge_explain.proofs.put_lead.Tie as tie
 
@@ -17,7 +17,7 @@ returns-2 c =
     let p = c.before.before in
     let q = p.before.before.before.before.before in
     let head = rw q.before.before.before.head.ensures at q.put-text2.ensures in
-    rw q.before.before.before.before.if1.false (within 1184 (omega (arith, head-size)) (and_then head p.put-text3.ensures))
+    rw q.before.before.before.before.if1.false (within 1184 (omega (arith, head_size_lem)) (and_then head p.put-text3.ensures))
 
 pub put-lead-spec : {M : Type 1} → statement M
 put-lead-spec =

@@ -5,7 +5,7 @@ use Prim.Native.Nat.{◌≤◌}
 use mathlib.Core.Path.{sym, subst}
 use lib.ListN.{length}
 use lib.Seq.{length-take-le}
-use Rattle.csv.specs.declared.Converted.{Converted}
+use Rattle.sheet_csv.specs.declared.Converted.{Converted}
 use Rattle.barge_text.specs.Convert.{MadeInside}
 use Rattle.barge_text.proofs.deliver.Statement.{statement}
 use Rattle.barge_text.proofs.deliver.Tie as tie

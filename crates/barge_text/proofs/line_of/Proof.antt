@@ -5,18 +5,18 @@ use Prim.Native.Nat.{ℕ}
 use mathlib.Core.Path.{◌≡◌, sym, ◌∙◌}
 use borrow.Author.Tests.{eq-eqb, ne_eqb}
 use Rattle.sheet.specs.Refusals.{refused}
-use Rattle.barge_text.specs.Convert.{lineIn}
+use Rattle.barge_text.specs.Convert.{line_in}
 use Rattle.barge_text.proofs.line_of.Statement.{statement}
 use Rattle.barge_text.proofs.line_of.Tie as tie
 
 -- by the refusal's number
-of-text : (k p : ℕ) → k ≡ 14 → p ≡ lineIn (refused k p)
+of-text : (k p : ℕ) → k ≡ 14 → p ≡ line_in (refused k p)
 of-text k p e = rw (eq-eqb k 14 e)
 
-of-count : (k p : ℕ) → (k ≡ 14 → ⊥) → k ≡ 15 → p ≡ lineIn (refused k p)
+of-count : (k p : ℕ) → (k ≡ 14 → ⊥) → k ≡ 15 → p ≡ line_in (refused k p)
 of-count k p d e = rw (ne_eqb k 14 d, eq-eqb k 15 e)
 
-of_none : (k p : ℕ) → (k ≡ 14 → ⊥) → (k ≡ 15 → ⊥) → 0 ≡ lineIn (refused k p)
+of_none : (k p : ℕ) → (k ≡ 14 → ⊥) → (k ≡ 15 → ⊥) → 0 ≡ line_in (refused k p)
 of_none k p d f = rw (ne_eqb k 14 d, ne_eqb k 15 f)
 
 returns : tie.Need-returns

@@ -5,9 +5,9 @@ use Prim.Native.Nat.{◌≤◌}
 use mathlib.Core.Path.{sym, ap, subst, ◌∙◌}
 use lib.ListN.{length, take}
 use lib.Seq.{length-take-le}
-use Rattle.report.specs.laws.PageLaws.{page-within, page-text}
-use Rattle.csv.specs.declared.Converted.{Converted}
-use Rattle.barge_text.specs.Convert.{MadeInside, printedBy}
+use Rattle.report.specs.laws.PageLaws.{page_within, page_text}
+use Rattle.sheet_csv.specs.declared.Converted.{Converted}
+use Rattle.barge_text.specs.Convert.{MadeInside, printed_by}
 use Rattle.barge_text.proofs.page_by.Statement.{statement}
 use Rattle.barge_text.proofs.page_by.Tie as tie
 
@@ -22,15 +22,15 @@ returns c =
     let b = m.before.before.before.args.sheet.now in
     let front = take m.c.given.0.0 b in
     record {
-      inside = page-within front _ c.page-of.ensures;
-      text = page-text front _ c.page-of.ensures ∙ ap (λ (x : Converted). printedBy x b) (sym m.c.given.1);
+      inside = page_within front _ c.page-of.ensures;
+      text = page_text front _ c.page-of.ensures ∙ ap (λ (x : Converted). printed_by x b) (sym m.c.given.1);
     }
 
 returns-2 : tie.Need-returns-2
 returns-2 c =
     let m = c.before.before in
     let b = m.before.before.before.args.sheet.now in
-    record { inside = c.refusal-page.ensures.inside; text = c.refusal-page.ensures.text ∙ ap (λ (x : Converted). printedBy x b) (sym m.c2.given.1) }
+    record { inside = c.refusal-page.ensures.inside; text = c.refusal-page.ensures.text ∙ ap (λ (x : Converted). printed_by x b) (sym m.c2.given.1) }
 
 pub page-by-spec : {M : Type 1} → statement M
 page-by-spec =

@@ -7,9 +7,9 @@ use mathlib.Core.List.{List}
 use lib.ListN.{length, take}
 use lib.Seq.{length-take-le}
 use Rattle.sheet.specs.Refusals.{Answer}
-use Rattle.csv.specs.Read.{Converts}
-use Rattle.csv.specs.Write.{textFrom}
-use Rattle.barge_text.specs.laws.ConvertLaws.{text-cut}
+use Rattle.sheet_csv.specs.Read.{Converts}
+use Rattle.sheet_csv.specs.Write.{text_from}
+use Rattle.barge_text.specs.laws.ConvertLaws.{text_cut}
 use Rattle.barge_text.proofs.text_of.Statement.{statement}
 use Rattle.barge_text.proofs.text_of.Tie as tie
 
@@ -19,7 +19,7 @@ returns c input e =
     let s = w.before.before.before.before.before in
     let b = s.args.buffer.now in
     let o = s.args.out.now in
-    let same : textFrom (take s.args.got b) (length o) ≡ textFrom input (length o) = ap (λ (x : List ℕ). textFrom x (length o)) e ∙ text-cut (length b) input (length o) s.requires.0 in
+    let same : text_from (take s.args.got b) (length o) ≡ text_from input (length o) = ap (λ (x : List ℕ). text_from x (length o)) e ∙ text_cut (length b) input (length o) s.requires.0 in
     subst (λ (x : Answer (List ℕ)). Converts x o w.write-text.result w.write-text.new.1.0) same w.write-text.ensures
 
 pub text-of-spec : {M : Type 1} → statement M

@@ -3,20 +3,20 @@
 use Rattle.std.specs.Prelude.{ℕ, ◌≤◌, ◌≡◌, refl, List, [], ◌∷◌, ◌++◌, length, take, drop}
 use Rattle.std.proofs.Common.{sym, ap, ap₂, ◌∙◌, arith, length-append, take_at, take-take}
 use Rattle.sheet.specs.declared.Refusal.{Refusal}
-use Rattle.sheet.specs.Versions.{longestSheet, enough}
+use Rattle.sheet.specs.Versions.{longest_sheet, enough}
 use Rattle.sheet.specs.Refusals.{Answer, given, refused, number_of, place_of}
-use Rattle.sheet.specs.laws.RefusalLaws.{given-same, given-refused, refused-number, refused-place}
-use Rattle.checker.specs.Check.{◌then◌, sheetIn}
-use Rattle.checker.specs.Unjudged.{room, soundSheet}
-use Rattle.checker.specs.laws.Longer.{sheet-cut}
-use Rattle.report.specs.Text.{line, refusedWord, printed, textBy, text_of}
-use Rattle.report.specs.Pieces.{refusalText}
-use Rattle.csv.specs.declared.Converted.{Converted}
-use Rattle.csv.specs.declared.Converted.TheVariants.{Length, Refused as notConverted}
-use Rattle.csv.specs.Read.{toldConverted, length_of, outputBy, Converts}
-use Rattle.csv.specs.Table.{tableFrom}
-use Rattle.csv.specs.Write.{textFrom}
-use Rattle.barge_text.specs.Convert.{MadeInside, printedText, printedBy}
+use Rattle.sheet.specs.laws.RefusalLaws.{given_same, given_refused, refused_number, refused_place}
+use Rattle.checker.specs.Check.{◌then◌, sheet_in}
+use Rattle.checker.specs.Unjudged.{room, sound_sheet}
+use Rattle.checker.specs.laws.Longer.{sheet_cut}
+use Rattle.report.specs.Text.{line, refused_word, printed, text_by, text_of}
+use Rattle.report.specs.Pieces.{refusal_text}
+use Rattle.sheet_csv.specs.declared.Converted.{Converted}
+use Rattle.sheet_csv.specs.declared.Converted.TheVariants.{Length, Refused as notConverted}
+use Rattle.sheet_csv.specs.Read.{told_converted, length_of, output_by, Converts}
+use Rattle.sheet_csv.specs.Table.{table_from}
+use Rattle.sheet_csv.specs.Write.{text_from}
+use Rattle.barge_text.specs.Convert.{MadeInside, printed_text, printed_by}
 
 -- ---- the output
 
@@ -25,8 +25,8 @@ within : (a : Answer (List ℕ)) (o : List ℕ) (n : ℕ) (after : List ℕ) →
 within a o n after k d = go a refl
   where
     go : (x : Answer (List ℕ)) → a ≡ x → n ≤ length o
-    go (given b) e = omega (arith, given-same (d.answer ∙ ap length_of e), ap length (d.bytes ∙ ap (λ (x : Answer (List ℕ)). outputBy x o) e), length-append b (drop (length b) o))
-    go (refused m p) e = given-refused (d.answer ∙ ap length_of e)
+    go (given b) e = omega (arith, given_same (d.answer ∙ ap length_of e), ap length (d.bytes ∙ ap (λ (x : Answer (List ℕ)). output_by x o) e), length-append b (drop (length b) o))
+    go (refused m p) e = given_refused (d.answer ∙ ap length_of e)
 
 pub made_inside : (a : Answer (List ℕ)) (o : List ℕ) (r : Converted) (after : List ℕ) → length after ≡ length o → Converts a o r after → MadeInside r (length after)
 made_inside a o (Length n) after k d = omega (arith, within a o n after k d)
@@ -34,26 +34,26 @@ made_inside a o (notConverted x) after k d = tt
 
 -- ---- what is printed of a text
 
-refusal-text : (r : Refusal) (k p : ℕ) → number_of r ≡ k → place_of r ≡ p → refusalText r ≡ textBy (refused k p)
-unfolding refusalText textBy
-refusal-text r k p e f = ap₂ {C = List ℕ} (λ x y. refusedWord ++ line (x ∷ y ∷ [])) e f
+refusal_text_lem : (r : Refusal) (k p : ℕ) → number_of r ≡ k → place_of r ≡ p → refusal_text r ≡ text_by (refused k p)
+unfolding refusal_text text_by
+refusal_text_lem r k p e f = ap₂ {C = List ℕ} (λ x y. refused_word ++ line (x ∷ y ∷ [])) e f
 
-by_answer : (a : Answer (List ℕ)) (o : List ℕ) (r : Converted) (after : List ℕ) → Converts a o r after → printedBy r after ≡ textBy (a then printed)
+by_answer : (a : Answer (List ℕ)) (o : List ℕ) (r : Converted) (after : List ℕ) → Converts a o r after → printed_by r after ≡ text_by (a then printed)
 unfolding ◌then◌ text_of
-by_answer (given b) o (Length n) after d = ap text_of (ap (take n) d.bytes ∙ take_at b (drop (length b) o) n (sym (given-same d.answer)))
-by_answer (given b) o (notConverted x) after d = given-refused (sym d.answer)
-by_answer (refused k p) o (Length n) after d = given-refused d.answer
-by_answer (refused k p) o (notConverted x) after d = refusal-text x k p (refused-number d.answer) (refused-place d.answer)
+by_answer (given b) o (Length n) after d = ap text_of (ap (take n) d.bytes ∙ take_at b (drop (length b) o) n (sym (given_same d.answer)))
+by_answer (given b) o (notConverted x) after d = given_refused (sym d.answer)
+by_answer (refused k p) o (Length n) after d = given_refused d.answer
+by_answer (refused k p) o (notConverted x) after d = refusal_text_lem x k p (refused_number d.answer) (refused_place d.answer)
 
-pub made-printed : (s o : List ℕ) (r : Converted) (after : List ℕ) → Converts (tableFrom s longestSheet) o r after → printedBy r after ≡ printedText s
-unfolding printedText
-made-printed s o r after d = by_answer (tableFrom s longestSheet) o r after d
+pub made_printed : (s o : List ℕ) (r : Converted) (after : List ℕ) → Converts (table_from s longest_sheet) o r after → printed_by r after ≡ printed_text s
+unfolding printed_text
+made_printed s o r after d = by_answer (table_from s longest_sheet) o r after d
 
 -- ---- the sheet's length
 
 -- what is read of a sheet up to there, or further, says what the text of the whole is
-pub text-cut : (n : ℕ) (s : List ℕ) (size : ℕ) → enough ≤ n → textFrom (take n s) size ≡ textFrom s size
-unfolding textFrom soundSheet
-text-cut n s size l =
-    let cut : sheetIn (take n s) room ≡ sheetIn s room = sym (sheet-cut (take n s) room) ∙ ap (λ (b : List ℕ). sheetIn b room) (take-take enough n s l) ∙ sheet-cut s room in
+pub text_cut : (n : ℕ) (s : List ℕ) (size : ℕ) → enough ≤ n → text_from (take n s) size ≡ text_from s size
+unfolding text_from sound_sheet
+text_cut n s size l =
+    let cut : sheet_in (take n s) room ≡ sheet_in s room = sym (sheet_cut (take n s) room) ∙ ap (λ (b : List ℕ). sheet_in b room) (take-take enough n s l) ∙ sheet_cut s room in
     rw cut

@@ -3,7 +3,7 @@
 use Rattle.std.specs.Prelude.{ℕ, suc, ◌+◌, ◌*◌, ◌/◌, ◌%◌, ◌≤◌, ◌<◌, ◌≡◌, refl, Bool, true, false, cond, List, [], ◌∷◌, ◌++◌, length, get_or, take, drop}
 use Rattle.std.proofs.Common.{sym, ap, ◌∙◌, true≢false, append_assoc, append-nil, arith, add-one, length-append, drop_of_length-le, take-suc, drop-cons, lt-ltb, le-ltb}
 use Rattle.std.proofs.Math.Decide.{dec_lt}
-use Rattle.barge_text.specs.Shown.{endsHere, line_of, isPrinted, hexDigit, shownByte, shown}
+use Rattle.barge_text.specs.Shown.{ends_here, line_of, is_printed, hex_digit, shown_byte, shown}
 
 -- ---- the line
 
@@ -11,96 +11,96 @@ use Rattle.barge_text.specs.Shown.{endsHere, line_of, isPrinted, hexDigit, shown
 pub here : (s : List ℕ) (i : ℕ) → i < length s → drop i s ≡ get_or s i 0 ∷ drop (i + 1) s
 here s i l = rw (add-one, drop-cons s i 0)
 
-line-none : (s : List ℕ) → endsHere s ≡ true → line_of s ≡ []
+line_none : (s : List ℕ) → ends_here s ≡ true → line_of s ≡ []
 unfolding line_of
-line-none [] e = refl
-line-none (b ∷ s) e = rw e
+line_none [] e = refl
+line_none (b ∷ s) e = rw e
 
-line-more : (b : ℕ) (s : List ℕ) → endsHere (b ∷ s) ≡ false → line_of (b ∷ s) ≡ b ∷ line_of s
+line_more : (b : ℕ) (s : List ℕ) → ends_here (b ∷ s) ≡ false → line_of (b ∷ s) ≡ b ∷ line_of s
 unfolding line_of
-line-more b s e = rw e
+line_more b s e = rw e
 
 -- it ends at i
-pub line-ends : (s : List ℕ) (i : ℕ) → take i s ++ line_of (drop i s) ≡ line_of s → endsHere (drop i s) ≡ true → take i s ≡ line_of s
-line-ends s i e f = sym (append-nil (take i s)) ∙ ap (λ (t : List ℕ). take i s ++ t) (sym (line-none (drop i s) f)) ∙ e
+pub line_ends : (s : List ℕ) (i : ℕ) → take i s ++ line_of (drop i s) ≡ line_of s → ends_here (drop i s) ≡ true → take i s ≡ line_of s
+line_ends s i e f = sym (append-nil (take i s)) ∙ ap (λ (t : List ℕ). take i s ++ t) (sym (line_none (drop i s) f)) ∙ e
 
 -- or with the text
-pub line-all : (s : List ℕ) (i : ℕ) → take i s ++ line_of (drop i s) ≡ line_of s → length s ≤ i → take i s ≡ line_of s
+pub line_all : (s : List ℕ) (i : ℕ) → take i s ++ line_of (drop i s) ≡ line_of s → length s ≤ i → take i s ≡ line_of s
 unfolding line_of
-line-all s i e l = sym (append-nil (take i s)) ∙ ap (λ (t : List ℕ). take i s ++ line_of t) (sym (drop_of_length-le s {i = i} l)) ∙ e
+line_all s i e l = sym (append-nil (take i s)) ∙ ap (λ (t : List ℕ). take i s ++ line_of t) (sym (drop_of_length-le s {i = i} l)) ∙ e
 
 -- or goes on
-pub line-goes-on : (s : List ℕ) (i : ℕ) → take i s ++ line_of (drop i s) ≡ line_of s → i < length s → endsHere (drop i s) ≡ false → take (i + 1) s ++ line_of (drop (i + 1) s) ≡ line_of s
-line-goes-on s i e l f =
+pub line_goes_on : (s : List ℕ) (i : ℕ) → take i s ++ line_of (drop i s) ≡ line_of s → i < length s → ends_here (drop i s) ≡ false → take (i + 1) s ++ line_of (drop (i + 1) s) ≡ line_of s
+line_goes_on s i e l f =
     let b = get_or s i 0 in
     let rest = drop (i + 1) s in
     let one : take (i + 1) s ≡ take i s ++ (b ∷ []) = rw (add-one, take-suc s i 0) in
     ap (λ (t : List ℕ). t ++ line_of rest) one
     ∙ append_assoc (take i s) (b ∷ []) (line_of rest)
-    ∙ ap (λ (t : List ℕ). take i s ++ t) (sym (line-more b rest (sym (ap endsHere (here s i l)) ∙ f)) ∙ ap line_of (sym (here s i l)))
+    ∙ ap (λ (t : List ℕ). take i s ++ t) (sym (line_more b rest (sym (ap ends_here (here s i l)) ∙ f)) ∙ ap line_of (sym (here s i l)))
     ∙ e
 
 -- ---- its bytes
 
-byte-most : (b : ℕ) → length (shownByte b) ≤ 4
-unfolding shownByte
-byte-most b = go (isPrinted b) (hexDigit (b / 16)) (hexDigit (b % 16))
+byte_most : (b : ℕ) → length (shown_byte b) ≤ 4
+unfolding shown_byte
+byte_most b = go (is_printed b) (hex_digit (b / 16)) (hex_digit (b % 16))
   where
     go : (t : Bool) (x y : ℕ) → length (cond t (b ∷ []) (92 ∷ 120 ∷ x ∷ y ∷ [])) ≤ 4
     go true x y = omega arith
     go false x y = omega arith
 
 -- four bytes at most for each
-pub shown-most : (s : List ℕ) → length (shown s) ≤ 4 * length s
+pub shown_most : (s : List ℕ) → length (shown s) ≤ 4 * length s
 unfolding shown
-shown-most [] = omega arith
-shown-most (b ∷ s) = omega (arith, length-append (shownByte b) (shown s), byte-most b, shown-most s)
+shown_most [] = omega arith
+shown_most (b ∷ s) = omega (arith, length-append (shown_byte b) (shown s), byte_most b, shown_most s)
 
-shown-append : (a b : List ℕ) → shown (a ++ b) ≡ shown a ++ shown b
+shown_append : (a b : List ℕ) → shown (a ++ b) ≡ shown a ++ shown b
 unfolding shown
-shown-append [] b = refl
-shown-append (x ∷ a) b = ap (λ (t : List ℕ). shownByte x ++ t) (shown-append a b) ∙ sym (append_assoc (shownByte x) (shown a) (shown b))
+shown_append [] b = refl
+shown_append (x ∷ a) b = ap (λ (t : List ℕ). shown_byte x ++ t) (shown_append a b) ∙ sym (append_assoc (shown_byte x) (shown a) (shown b))
 
 -- one byte more
-pub shown-next : (s : List ℕ) (i : ℕ) → i < length s → shown (take (i + 1) s) ≡ shown (take i s) ++ shownByte (get_or s i 0)
+pub shown_next : (s : List ℕ) (i : ℕ) → i < length s → shown (take (i + 1) s) ≡ shown (take i s) ++ shown_byte (get_or s i 0)
 unfolding shown
-shown-next s i l =
+shown_next s i l =
     let one : take (i + 1) s ≡ take i s ++ (get_or s i 0 ∷ []) = rw (add-one, take-suc s i 0) in
-    ap shown one ∙ shown-append (take i s) (get_or s i 0 ∷ []) ∙ ap (λ (t : List ℕ). shown (take i s) ++ t) (append-nil (shownByte (get_or s i 0)))
+    ap shown one ∙ shown_append (take i s) (get_or s i 0 ∷ []) ∙ ap (λ (t : List ℕ). shown (take i s) ++ t) (append-nil (shown_byte (get_or s i 0)))
 
 -- ---- only bytes that print reach a terminal
 
 pub data Printed : List ℕ → Type 0 where
   none : Printed []
-  more : {b : ℕ} {s : List ℕ} → isPrinted b ≡ true → Printed s → Printed (b ∷ s)
+  more : {b : ℕ} {s : List ℕ} → is_printed b ≡ true → Printed s → Printed (b ∷ s)
 
-printed-append : {a b : List ℕ} → Printed a → Printed b → Printed (a ++ b)
-printed-append none q = q
-printed-append (more e p) q = more e (printed-append p q)
+printed_append : {a b : List ℕ} → Printed a → Printed b → Printed (a ++ b)
+printed_append none q = q
+printed_append (more e p) q = more e (printed_append p q)
 
-within : (b : ℕ) → 32 ≤ b → b < 127 → isPrinted b ≡ true
+within : (b : ℕ) → 32 ≤ b → b < 127 → is_printed b ≡ true
 within b l h = rw (le-ltb b 32 l) (lt-ltb b 127 h)
 
-digit-printed : (n : ℕ) → n < 16 → isPrinted (hexDigit n) ≡ true
-digit-printed n h = go (dec_lt n 10)
+digit_printed : (n : ℕ) → n < 16 → is_printed (hex_digit n) ≡ true
+digit_printed n h = go (dec_lt n 10)
   where
-    go : Dec (n < 10) → isPrinted (hexDigit n) ≡ true
+    go : Dec (n < 10) → is_printed (hex_digit n) ≡ true
     go (yes l) =
-        let d : hexDigit n ≡ 48 + n = rw (lt-ltb n 10 l) in
-        ap isPrinted d ∙ within (48 + n) (omega arith) (omega arith)
+        let d : hex_digit n ≡ 48 + n = rw (lt-ltb n 10 l) in
+        ap is_printed d ∙ within (48 + n) (omega arith) (omega arith)
     go (no l) =
-        let d : hexDigit n ≡ 55 + n = rw (le-ltb n 10 (omega arith)) in
-        ap isPrinted d ∙ within (55 + n) (omega arith) (omega arith)
+        let d : hex_digit n ≡ 55 + n = rw (le-ltb n 10 (omega arith)) in
+        ap is_printed d ∙ within (55 + n) (omega arith) (omega arith)
 
-byte-printed : (b : ℕ) → b < 256 → Printed (shownByte b)
-unfolding shownByte
-byte-printed b h = go (isPrinted b) refl
+byte_printed : (b : ℕ) → b < 256 → Printed (shown_byte b)
+unfolding shown_byte
+byte_printed b h = go (is_printed b) refl
   where
-    go : (t : Bool) → isPrinted b ≡ t → Printed (cond t (b ∷ []) (92 ∷ 120 ∷ hexDigit (b / 16) ∷ hexDigit (b % 16) ∷ []))
+    go : (t : Bool) → is_printed b ≡ t → Printed (cond t (b ∷ []) (92 ∷ 120 ∷ hex_digit (b / 16) ∷ hex_digit (b % 16) ∷ []))
     go true e = more e none
-    go false e = more refl (more refl (more (digit-printed (b / 16) (omega arith)) (more (digit-printed (b % 16) (omega arith)) none)))
+    go false e = more refl (more refl (more (digit_printed (b / 16) (omega arith)) (more (digit_printed (b % 16) (omega arith)) none)))
 
-pub shown-printed : (s : List ℕ) → ((i : ℕ) → get_or s i 0 < 256) → Printed (shown s)
+pub shown_printed : (s : List ℕ) → ((i : ℕ) → get_or s i 0 < 256) → Printed (shown s)
 unfolding shown
-shown-printed [] bytes = none
-shown-printed (b ∷ s) bytes = printed-append (byte-printed b (bytes 0)) (shown-printed s (λ i. bytes (suc i)))
+shown_printed [] bytes = none
+shown_printed (b ∷ s) bytes = printed_append (byte_printed b (bytes 0)) (shown_printed s (λ i. bytes (suc i)))

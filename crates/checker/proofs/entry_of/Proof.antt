@@ -5,14 +5,14 @@ use mathlib.Core.Path.{◌≡◌, ap}
 use borrow.Author.Rules.{rules}
 use native.Mathlib.Omega.{arith}
 use Rattle.layout.specs.Layout.{unpack}
-use Rattle.checker.specs.Entry.{verdictWidths, entry_at}
+use Rattle.checker.specs.Entry.{verdict_widths, entry_at}
 use Rattle.checker.proofs.entry_of.Statement.{statement}
 use Rattle.checker.proofs.entry_of.Tie as tie
 
 returns : tie.Need-returns
 returns c =
     let n = c.args.n in
-    let e = entry_at (unpack verdictWidths n) in
+    let e = entry_at (unpack verdict_widths n) in
     let last : n % 4 ≡ e.source = omega arith in
     ap (λ (s : ℕ). record { id = e.id; rule = e.rule; required = e.required; source = s }) last
 

@@ -1,12 +1,12 @@
 -- `checker::fault` meets its contract: the lines from the last to the first.
 -- Assumes nothing.
 use borrow.Author.Rules.{rules}
-use Rattle.checker.specs.Entry.{entryFault}
+use Rattle.checker.specs.Entry.{entry_fault}
 use Rattle.checker.proofs.fault.Statement.{statement}
 use Rattle.checker.proofs.fault.Tie as tie
 
 returns : tie.Need-returns
-unfolding entryFault
+unfolding entry_fault
 returns c =
     let c₂ = c.before.before in
     let c₃ = c₂.before.before in

@@ -6,17 +6,17 @@ use Prim.Native.Nat.{◌≤◌, ◌-◌}
 use native.Mathlib.Omega.{arith}
 use lib.ListN.{length, set, length-set}
 use Rattle.sheet.specs.Refusals.{given}
-use Rattle.checker.specs.Entry.{toldEntry}
-use Rattle.checker.specs.laws.EntryLaws.{entry-fit}
-use Rattle.checker.specs.Check.{recordPart}
-use Rattle.checker.specs.Passes.{judgedAfter, passOver}
-use Rattle.checker.proofs.Pass.{passFrom, writable, pass-start, pass-refused, pass-turn, pass-end}
+use Rattle.checker.specs.Entry.{told_entry}
+use Rattle.checker.specs.laws.EntryLaws.{entry_fit}
+use Rattle.checker.specs.Check.{record_part}
+use Rattle.checker.specs.Passes.{judged_after, pass_over}
+use Rattle.checker.proofs.Pass.{pass_from, writable, pass_start, pass_refused, pass_turn, pass_end}
 use Rattle.checker.proofs.judge_all.Statement.{statement}
 use Rattle.checker.proofs.judge_all.Tie as tie
 
 abbrev invariant-loop : tie.invariant-loop
 invariant-loop h records draft₀ n failed₀ before₀ i₀ draft failed before i =
-    (i ≤ n) × (failed ≤ i) × (length draft ≡ length draft₀) × (passFrom n h records i before failed draft ≡ passOver h records draft₀)
+    (i ≤ n) × (failed ≤ i) × (length draft ≡ length draft₀) × (pass_from n h records i before failed draft ≡ pass_over h records draft₀)
 
 abbrev decreases-loop : tie.decreases-loop
 decreases-loop h records draft₀ n failed₀ before₀ i₀ draft failed before i = n - i
@@ -24,7 +24,7 @@ decreases-loop h records draft₀ n failed₀ before₀ i₀ draft failed before
 loop-holds : tie.Need-loop-init invariant-loop decreases-loop
 loop-holds c =
     let a = c.before.before.args in
-    (search rules, search rules, refl, pass-start a.h a.records.now a.draft.now)
+    (search rules, search rules, refl, pass_start a.h a.records.now a.draft.now)
 
 returns : tie.Need-returns invariant-loop decreases-loop
 returns c =
@@ -32,8 +32,8 @@ returns c =
     let turn = at-judged.before in
     let l = turn.before.loop in
     let a = turn.before.before.before.before.args in
-    pass-refused a.h.count a.h a.records.now l.i l.before l.failed l.draft l.invariant.3 _ _ turn.loop-test.true
-    (sym (ap toldEntry c.before.judged.given.1) ∙ at-judged.judged-at.ensures)
+    pass_refused a.h.count a.h a.records.now l.i l.before l.failed l.draft l.invariant.3 _ _ turn.loop-test.true
+    (sym (ap told_entry c.before.judged.given.1) ∙ at-judged.judged-at.ensures)
 
 -- a verdict that is given has a number
 number-of-requires : tie.Need-number-of-requires invariant-loop decreases-loop
@@ -43,8 +43,8 @@ number-of-requires c κs =
     let turn = at-judged.before in
     let l = turn.before.loop in
     let a = turn.before.before.before.before.args in
-    entry-fit _ (writable a.h.count a.h a.records.now l.i l.before l.failed l.draft l.invariant.3 turn.loop-test.true _
-    (sym (ap toldEntry at_entry_lem.judged2.given.1) ∙ at-judged.judged-at.ensures))
+    entry_fit _ (writable a.h.count a.h a.records.now l.i l.before l.failed l.draft l.invariant.3 turn.loop-test.true _
+    (sym (ap told_entry at_entry_lem.judged2.given.1) ∙ at-judged.judged-at.ensures))
 
 loop-again : tie.Need-loop-preserved invariant-loop decreases-loop
 loop-again c =
@@ -56,11 +56,11 @@ loop-again c =
     let start = turn.before.before.before.before in
     let a = start.args in
     let e = at_entry_lem.judged2.given.0.0 in
-    let judged : given e ≡ judgedAfter a.h l.i l.before (recordPart a.records.now l.i) = sym (ap toldEntry at_entry_lem.judged2.given.1) ∙ at-judged.judged-at.ensures in (
+    let judged : given e ≡ judged_after a.h l.i l.before (record_part a.records.now l.i) = sym (ap told_entry at_entry_lem.judged2.given.1) ∙ at-judged.judged-at.ensures in (
       search rules,
       search rules,
       simp length-set l.invariant.2,
-      pass-turn a.h.count a.h a.records.now l.i l.before l.failed l.draft l.invariant.3 turn.loop-test.true e judged _
+      pass_turn a.h.count a.h a.records.now l.i l.before l.failed l.draft l.invariant.3 turn.loop-test.true e judged _
           (ap (set l.draft l.i) at-number.number-of.ensures) (omega (arith, l.invariant.2, start.requires.fits)) c.failing.result c.failing.ensures.0,
     )
 
@@ -68,7 +68,7 @@ returns-2 : tie.Need-returns-2 invariant-loop decreases-loop
 returns-2 c =
     let l = c.before.loop in
     let a = c.before.before.before.before.args in
-    pass-end a.h.count a.h a.records.now l.i l.before l.failed l.draft l.invariant.3 (omega arith)
+    pass_end a.h.count a.h a.records.now l.i l.before l.failed l.draft l.invariant.3 (omega arith)
 
 pub judge-all-spec : {M : Type 1} → statement M
 judge-all-spec =

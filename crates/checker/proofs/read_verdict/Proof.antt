@@ -1,7 +1,7 @@
 -- `checker::read_verdict` meets its contract.
 -- Assumes nothing.
 use borrow.Author.Rules.{rules}
-use Rattle.checker.proofs.Answers.{read_short, read-good, read-bad}
+use Rattle.checker.proofs.Answers.{read_short, read_good, read_bad}
 use Rattle.checker.proofs.read_verdict.Statement.{statement}
 use Rattle.checker.proofs.read_verdict.Tie as tie
 
@@ -9,13 +9,13 @@ returns-2 : tie.Need-returns-2
 returns-2 c =
     let at_entry_lem = c.before.before in
     let at_read = at_entry_lem.before in
-    read-good at_read.before.before.before.args.s.now _ _ _ at_read.before.if1.false at_read.read-half.ensures at_entry_lem.entry_of.ensures c.before.fault.ensures c.if2.true
+    read_good at_read.before.before.before.args.s.now _ _ _ at_read.before.if1.false at_read.read-half.ensures at_entry_lem.entry_of.ensures c.before.fault.ensures c.if2.true
 
 returns-3 : tie.Need-returns-3
 returns-3 c =
     let at_entry_lem = c.before.before in
     let at_read = at_entry_lem.before in
-    read-bad at_read.before.before.before.args.s.now _ _ _ at_read.before.if1.false at_read.read-half.ensures at_entry_lem.entry_of.ensures c.before.fault.ensures c.if2.false
+    read_bad at_read.before.before.before.args.s.now _ _ _ at_read.before.if1.false at_read.read-half.ensures at_entry_lem.entry_of.ensures c.before.fault.ensures c.if2.false
 
 pub read-verdict-spec : {M : Type 1} → statement M
 read-verdict-spec =

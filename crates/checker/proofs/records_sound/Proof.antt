@@ -4,15 +4,15 @@ use borrow.Author.Rules.{rules}
 use mathlib.Core.Path.{◌≡◌, ap, sym, ◌∙◌}
 use Prim.Native.Nat.{◌≤◌, ◌-◌}
 use native.Mathlib.Omega.{arith}
-use Rattle.sheet.specs.Refusals.{given, toldRecord}
-use Rattle.checker.specs.Check.{recordPart, soundAfter}
-use Rattle.checker.specs.Unjudged.{recordsSound}
-use Rattle.checker.proofs.Unjudged.{soundFrom, sound-start, sound-refused, sound-turn, sound-end}
+use Rattle.sheet.specs.Refusals.{given, told_record}
+use Rattle.checker.specs.Check.{record_part, sound_after}
+use Rattle.checker.specs.Unjudged.{records_sound}
+use Rattle.checker.proofs.Unjudged.{sound_from, sound_start, sound_refused, sound_turn, sound_end}
 use Rattle.checker.proofs.records_sound.Statement.{statement}
 use Rattle.checker.proofs.records_sound.Tie as tie
 
 abbrev invariant-loop : tie.invariant-loop
-invariant-loop records n before₀ i₀ before i = (i ≤ n) × (soundFrom n records i before ≡ recordsSound records n)
+invariant-loop records n before₀ i₀ before i = (i ≤ n) × (sound_from n records i before ≡ records_sound records n)
 
 abbrev decreases-loop : tie.decreases-loop
 decreases-loop records n before₀ i₀ before i = n - i
@@ -20,7 +20,7 @@ decreases-loop records n before₀ i₀ before i = n - i
 loop-holds : tie.Need-loop-init invariant-loop decreases-loop
 loop-holds c =
     let a = c.before.args in
-    (search rules, sound-start a.n a.records.now)
+    (search rules, sound_start a.n a.records.now)
 
 returns : tie.Need-returns invariant-loop decreases-loop
 returns c =
@@ -28,7 +28,7 @@ returns c =
     let turn = at-record.before in
     let l = turn.before.loop in
     let a = turn.before.before.before.args in
-    sound-refused a.n a.records.now l.i l.before turn.loop-test.true _ _ (sym (ap toldRecord c.before.read.given.1) ∙ at-record.sound-at.ensures)
+    sound_refused a.n a.records.now l.i l.before turn.loop-test.true _ _ (sym (ap told_record c.before.read.given.1) ∙ at-record.sound-at.ensures)
     ∙ l.invariant.1
 
 loop-again : tie.Need-loop-preserved invariant-loop decreases-loop
@@ -39,14 +39,14 @@ loop-again c =
     let l = turn.before.loop in
     let a = turn.before.before.before.args in
     let r = at_read.read2.given.0.0 in
-    let sound : given r ≡ soundAfter l.i l.before (recordPart a.records.now l.i) = sym (ap toldRecord at_read.read2.given.1) ∙ at-record.sound-at.ensures in
-    (search rules, sound-turn a.n a.records.now l.i l.before turn.loop-test.true r sound ∙ l.invariant.1)
+    let sound : given r ≡ sound_after l.i l.before (record_part a.records.now l.i) = sym (ap told_record at_read.read2.given.1) ∙ at-record.sound-at.ensures in
+    (search rules, sound_turn a.n a.records.now l.i l.before turn.loop-test.true r sound ∙ l.invariant.1)
 
 returns-2 : tie.Need-returns-2 invariant-loop decreases-loop
 returns-2 c =
     let l = c.before.loop in
     let a = c.before.before.before.args in
-    sound-end a.n a.records.now l.i l.before (omega arith) ∙ l.invariant.1
+    sound_end a.n a.records.now l.i l.before (omega arith) ∙ l.invariant.1
 
 pub records-sound-spec : {M : Type 1} → statement M
 records-sound-spec =

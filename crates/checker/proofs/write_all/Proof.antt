@@ -5,12 +5,12 @@ use mathlib.Core.Path.{◌≡◌, refl, sym, ◌∙◌}
 use Prim.Native.Nat.{◌-◌, ◌*◌, ◌≤◌}
 use native.Mathlib.Omega.{arith}
 use lib.ListN.{length}
-use Rattle.checker.proofs.Parts.{wholeFrom, part-written, all-written}
+use Rattle.checker.proofs.Parts.{whole_from, part_written, all_written}
 use Rattle.checker.proofs.write_all.Statement.{statement}
 use Rattle.checker.proofs.write_all.Tie as tie
 
 abbrev invariant-loop : tie.invariant-loop
-invariant-loop draft out₀ i₀ out i = (i ≤ length draft) × (length out ≡ length out₀) × (wholeFrom draft out i ≡ wholeFrom draft out₀ 0)
+invariant-loop draft out₀ i₀ out i = (i ≤ length draft) × (length out ≡ length out₀) × (whole_from draft out i ≡ whole_from draft out₀ 0)
 
 abbrev decreases-loop : tie.decreases-loop
 decreases-loop draft out₀ i₀ out i = length draft - i
@@ -24,14 +24,14 @@ loop-again c =
     let a = start.args in (
       search rules,
       omega (arith, l.invariant.1),
-      part-written a.draft.now l.out l.i turn.loop-test.true (omega (arith, l.invariant.1, start.requires)) _ w.write-number.new.1.0 refl w.write-number.ensures ∙ l.invariant.2,
+      part_written a.draft.now l.out l.i turn.loop-test.true (omega (arith, l.invariant.1, start.requires)) _ w.write-number.new.1.0 refl w.write-number.ensures ∙ l.invariant.2,
     )
 
 returns : tie.Need-returns invariant-loop decreases-loop
 returns c =
     let l = c.before.loop in
     let a = c.before.before.before.before.args in
-    sym (all-written a.draft.now l.out l.i (omega arith)) ∙ l.invariant.2
+    sym (all_written a.draft.now l.out l.i (omega arith)) ∙ l.invariant.2
 
 pub write-all-spec : {M : Type 1} → statement M
 write-all-spec =

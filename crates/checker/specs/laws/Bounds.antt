@@ -7,155 +7,155 @@ use Rattle.std.proofs.Common.{sym, subst, arith}
 use Rattle.std.proofs.Math.Bool.{true, false}
 use Rattle.std.proofs.lemmas.List.{length-map}
 use Rattle.layout.specs.Layout.{pack, unpack, bytes}
-use Rattle.layout.specs.Line.{Line, faultFrom}
-use Rattle.layout.specs.laws.LineLaws.{fault-first}
+use Rattle.layout.specs.Line.{Line, fault_from}
+use Rattle.layout.specs.laws.LineLaws.{fault_first}
 use Rattle.sheet.specs.declared.Header.{Header}
 use Rattle.sheet.specs.declared.Record.{Record}
-use Rattle.sheet.specs.Versions.{mostRecords, bytesNeeded}
-use Rattle.sheet.specs.laws.VersionLaws.{regular-at}
-use Rattle.sheet.specs.Lines.{headerLines, plateWidths, memberWidths}
+use Rattle.sheet.specs.Versions.{most_records, bytes_needed}
+use Rattle.sheet.specs.laws.VersionLaws.{regular_at}
+use Rattle.sheet.specs.Lines.{header_lines, plate_widths, member_widths}
 use Rattle.sheet.specs.Refusals.{Answer, given, refused}
 use Rattle.sheet.specs.laws.RefusalLaws.{Which, which, none, first, later}
-use Rattle.sheet.specs.Header.{versionField, versionIn, headerFields, headerOf, readHeader}
-use Rattle.sheet.specs.Slender.{tooSlender}
-use Rattle.sheet.specs.laws.HeaderLaws.{fields-lines, header-ranges}
-use Rattle.sheet.specs.laws.HeaderBack.{header-read-fine}
-use Rattle.sheet.specs.Record.{plateIn, plateLinesOf, memberLinesOf, recordIn, readRecord, recordAt, linesAt, fields_at}
-use Rattle.sheet.specs.Exactly.{Cases, byFault, headerCases, recordCases}
-use Rattle.sheet.specs.laws.RecordExactly.{record-by-fields}
+use Rattle.sheet.specs.Header.{version_field, version_in, header_fields, header_of, read_header}
+use Rattle.sheet.specs.Slender.{too_slender}
+use Rattle.sheet.specs.laws.HeaderLaws.{fields_lines, header_ranges}
+use Rattle.sheet.specs.laws.HeaderBack.{header_read_fine}
+use Rattle.sheet.specs.Record.{plate_in, plate_lines_of, member_lines_of, record_in, read_record, record_at, lines_at, fields_at}
+use Rattle.sheet.specs.Exactly.{Cases, by_fault, header_cases, record_cases}
+use Rattle.sheet.specs.laws.RecordExactly.{record_by_fields}
 use Rattle.checker.specs.declared.Entry.{Entry}
-use Rattle.checker.specs.Check.{◌then◌, demand, sheetHeader, sheetSize, headerFor, recordsPart, recordPart, partsFrom, soundAfter, recordsIn, Sheet, sheetIn, entry_of, verdicts, failures}
+use Rattle.checker.specs.Check.{◌then◌, demand, sheet_header, sheet_size, header_for, records_part, record_part, parts_from, sound_after, records_in, Sheet, sheet_in, entry_of, verdicts, failures}
 use Rattle.checker.specs.Rows.{Row, RefusedBy, Refusable, Counts}
-use Rattle.checker.specs.laws.FrontLaws.{header-fits}
-use Rattle.checker.specs.laws.CheckLaws.{sheet-whole}
+use Rattle.checker.specs.laws.FrontLaws.{header_fits}
+use Rattle.checker.specs.laws.CheckLaws.{sheet_whole}
 
 -- no field has a number past the last
-pub most : (ls : List Line) (vs : List ℕ) → length vs ≡ length ls → faultFrom 1 ls vs ≤ length ls
-most ls vs same = go (faultFrom 1 ls vs) refl
+pub most : (ls : List Line) (vs : List ℕ) → length vs ≡ length ls → fault_from 1 ls vs ≤ length ls
+most ls vs same = go (fault_from 1 ls vs) refl
   where
-    go : (f : ℕ) → faultFrom 1 ls vs ≡ f → f ≤ length ls
+    go : (f : ℕ) → fault_from 1 ls vs ≡ f → f ≤ length ls
     go zero e = omega arith
-    go (suc i) e = let l = (fault-first ls vs same i e).inside in omega arith
+    go (suc i) e = let l = (fault_first ls vs same i e).inside in omega arith
 
-pub fault-told : {A : Type 0} (c : Cases) (f : ℕ) (a : A) → Row c.first c.at → Row c.later (c.place f) → Refusable (byFault c f a)
-fault-told {A} c f a p q = go (which c.first c.at c.later c.place f a)
+pub fault_told : {A : Type 0} (c : Cases) (f : ℕ) (a : A) → Row c.first c.at → Row c.later (c.place f) → Refusable (by_fault c f a)
+fault_told {A} c f a p q = go (which c.first c.at c.later c.place f a)
   where
-    go : Which c.first c.at c.later c.place f a → Refusable (byFault c f a)
+    go : Which c.first c.at c.later c.place f a → Refusable (by_fault c f a)
     go (none z w) = subst (λ (t : Answer A). Refusable t) (sym w) tt
     go (first z w) = subst (λ (t : Answer A). Refusable t) (sym w) p
     go (later z w) = subst (λ (t : Answer A). Refusable t) (sym w) q
 
 -- a row from its three parts
-pub row : (k p : ℕ) → 1 ≤ k → k ≤ 9 → p < 32 * mostRecords → Row k p
+pub row : (k p : ℕ) → 1 ≤ k → k ≤ 9 → p < 32 * most_records → Row k p
 row k p a b c = record { some = a; last = b; inside = c }
 
-pub by-test : {A : Type 0} (t : Bool) (k p : ℕ) (x : Answer A) → Row k p → Refusable x → Refusable (cond t (refused k p) x)
-by-test true k p x r t = r
-by-test false k p x r t = t
+pub by_test : {A : Type 0} (t : Bool) (k p : ℕ) (x : Answer A) → Row k p → Refusable x → Refusable (cond t (refused k p) x)
+by_test true k p x r t = r
+by_test false k p x r t = t
 
 -- of any rows
 module _ (P : ℕ → ℕ → Type 0) where
-  pub then-told : {A B : Type 0} (x : Answer A) (rest : A → Answer B) → RefusedBy P x → ((a : A) → x ≡ given a → RefusedBy P (rest a)) → RefusedBy P (x then rest)
+  pub then_told : {A B : Type 0} (x : Answer A) (rest : A → Answer B) → RefusedBy P x → ((a : A) → x ≡ given a → RefusedBy P (rest a)) → RefusedBy P (x then rest)
   unfolding ◌then◌
-  then-told (given a) rest t h = h a refl
-  then-told (refused k p) rest t h = t
+  then_told (given a) rest t h = h a refl
+  then_told (refused k p) rest t h = t
 
-  pub demand-told : (t : Bool) (k : ℕ) → P k 0 → RefusedBy P (demand t k)
+  pub demand_told : (t : Bool) (k : ℕ) → P k 0 → RefusedBy P (demand t k)
   unfolding demand
-  demand-told true k r = tt
-  demand-told false k r = r
+  demand_told true k r = tt
+  demand_told false k r = r
 
   -- what is one of these is one of those
-  pub told-also : (Q : ℕ → ℕ → Type 0) {A : Type 0} (x : Answer A) → ((k p : ℕ) → P k p → Q k p) → RefusedBy P x → RefusedBy Q x
-  told-also Q (given a) f t = tt
-  told-also Q (refused k p) f t = f k p t
+  pub told_also : (Q : ℕ → ℕ → Type 0) {A : Type 0} (x : Answer A) → ((k p : ℕ) → P k p → Q k p) → RefusedBy P x → RefusedBy Q x
+  told_also Q (given a) f t = tt
+  told_also Q (refused k p) f t = f k p t
 
-pub read-header-told : (s : List ℕ) → Refusable (readHeader s)
-unfolding readHeader
-read-header-told s =
-    let v = versionIn s in
-    let c = headerCases (bytesNeeded (versionField s) v) in
-    let f = faultFrom 1 (headerLines v) (headerFields s) in
-    by-test (ltb (length s) (bytesNeeded (versionField s) v)) 1 0 (byFault c f (headerOf s)) (row 1 0 (omega arith) (omega arith) (omega arith))
-    (fault-told c f (headerOf s) (row 2 0 (omega arith) (omega arith) (omega arith))
-    (row 3 f (omega arith) (omega arith) (omega (arith, most (headerLines v) (headerFields s) (fields-lines s), (regular-at (versionField s)).named))))
+pub read_header_told : (s : List ℕ) → Refusable (read_header s)
+unfolding read_header
+read_header_told s =
+    let v = version_in s in
+    let c = header_cases (bytes_needed (version_field s) v) in
+    let f = fault_from 1 (header_lines v) (header_fields s) in
+    by_test (ltb (length s) (bytes_needed (version_field s) v)) 1 0 (by_fault c f (header_of s)) (row 1 0 (omega arith) (omega arith) (omega arith))
+    (fault_told c f (header_of s) (row 2 0 (omega arith) (omega arith) (omega arith))
+    (row 3 f (omega arith) (omega arith) (omega (arith, most (header_lines v) (header_fields s) (fields_lines s), (regular_at (version_field s)).named))))
 
-record-most : (n : ℕ) → faultFrom 1 (linesAt n) (fields_at n) ≤ 13
-record-most n = go (plateIn n)
+record_most : (n : ℕ) → fault_from 1 (lines_at n) (fields_at n) ≤ 13
+record_most n = go (plate_in n)
   where
     vs : List ℕ
-    vs = unpack plateWidths n
+    vs = unpack plate_widths n
 
     ws : List ℕ
-    ws = unpack memberWidths n
+    ws = unpack member_widths n
 
-    go : (t : Bool) → faultFrom 1 (cond t (plateLinesOf vs) (memberLinesOf ws)) (cond t vs ws) ≤ 13
-    go true = omega (arith, most (plateLinesOf vs) vs refl)
-    go false = omega (arith, most (memberLinesOf ws) ws refl)
+    go : (t : Bool) → fault_from 1 (cond t (plate_lines_of vs) (member_lines_of ws)) (cond t vs ws) ≤ 13
+    go true = omega (arith, most (plate_lines_of vs) vs refl)
+    go false = omega (arith, most (member_lines_of ws) ws refl)
 
-pub record-told : (i : ℕ) (s : List ℕ) → i < mostRecords → Refusable (readRecord i s)
-unfolding readRecord
-record-told i s l =
+pub record_told : (i : ℕ) (s : List ℕ) → i < most_records → Refusable (read_record i s)
+unfolding read_record
+record_told i s l =
     let n = pack (bytes 16) (take 16 s) in
-    let f = faultFrom 1 (linesAt n) (fields_at n) in
-    by-test (ltb (length s) 16) 1 0 (recordIn i n) (row 1 0 (omega arith) (omega arith) (omega arith))
-    (subst (λ (t : Answer Record). Refusable t) (sym (record-by-fields i n))
-    (fault-told (recordCases i) f (recordAt n) (row 6 i (omega arith) (omega arith) (omega arith)) (row 7 (32 * i + f) (omega arith) (omega arith) (omega (arith, record-most n)))))
+    let f = fault_from 1 (lines_at n) (fields_at n) in
+    by_test (ltb (length s) 16) 1 0 (record_in i n) (row 1 0 (omega arith) (omega arith) (omega arith))
+    (subst (λ (t : Answer Record). Refusable t) (sym (record_by_fields i n))
+    (fault_told (record_cases i) f (record_at n) (row 6 i (omega arith) (omega arith) (omega arith)) (row 7 (32 * i + f) (omega arith) (omega arith) (omega (arith, record_most n)))))
 
-sound-told : (i before : ℕ) (b : List ℕ) → i < mostRecords → Refusable (soundAfter i before b)
-unfolding soundAfter
-sound-told i before b l =
-    then-told Row (readRecord i b) (λ r. cond (ltb before r.id) (given r) (refused 8 i)) (record-told i b l) (λ r e. go r (ltb before r.id))
+sound_told : (i before : ℕ) (b : List ℕ) → i < most_records → Refusable (sound_after i before b)
+unfolding sound_after
+sound_told i before b l =
+    then_told Row (read_record i b) (λ r. cond (ltb before r.id) (given r) (refused 8 i)) (record_told i b l) (λ r e. go r (ltb before r.id))
   where
     go : (r : Record) (t : Bool) → Refusable (cond t (given r) (refused 8 i))
     go r true = tt
     go r false = row 8 i (omega arith) (omega arith) (omega arith)
 
-records-told : (s : List ℕ) (count i before : ℕ) → i + count ≤ mostRecords → Refusable (recordsIn i before (partsFrom s i count))
-unfolding recordsIn partsFrom
-records-told s zero i before l = tt
-records-told s (suc count) i before l =
-    then-told Row (soundAfter i before (recordPart s i)) (λ r. recordsIn (i + 1) r.id (partsFrom s (i + 1) count) then λ rs. given (r ∷ rs))
-    (sound-told i before (recordPart s i) (omega arith))
-    (λ r e. then-told Row (recordsIn (i + 1) r.id (partsFrom s (i + 1) count)) (λ rs. given (r ∷ rs)) (records-told s count (i + 1) r.id (omega arith)) (λ rs q. tt))
+records_told : (s : List ℕ) (count i before : ℕ) → i + count ≤ most_records → Refusable (records_in i before (parts_from s i count))
+unfolding records_in parts_from
+records_told s zero i before l = tt
+records_told s (suc count) i before l =
+    then_told Row (sound_after i before (record_part s i)) (λ r. records_in (i + 1) r.id (parts_from s (i + 1) count) then λ rs. given (r ∷ rs))
+    (sound_told i before (record_part s i) (omega arith))
+    (λ r e. then_told Row (records_in (i + 1) r.id (parts_from s (i + 1) count)) (λ rs. given (r ∷ rs)) (records_told s count (i + 1) r.id (omega arith)) (λ rs q. tt))
 
-sheet-header-told : (s : List ℕ) → Refusable (sheetHeader s)
-unfolding sheetHeader
-sheet-header-told s =
-    then-told Row (readHeader s) (λ h. demand (not (tooSlender h)) 9 then λ u. given h) (read-header-told s)
-    (λ h e. then-told Row (demand (not (tooSlender h)) 9) (λ u. given h) (demand-told Row (not (tooSlender h)) 9 (row 9 0 (omega arith) (omega arith) (omega arith))) (λ u q. tt))
+sheet_header_told : (s : List ℕ) → Refusable (sheet_header s)
+unfolding sheet_header
+sheet_header_told s =
+    then_told Row (read_header s) (λ h. demand (not (too_slender h)) 9 then λ u. given h) (read_header_told s)
+    (λ h e. then_told Row (demand (not (too_slender h)) 9) (λ u. given h) (demand_told Row (not (too_slender h)) 9 (row 9 0 (omega arith) (omega arith) (omega arith))) (λ u q. tt))
 
-header-told : (s : List ℕ) (space : ℕ) → Refusable (headerFor s space)
-unfolding headerFor
-header-told s space =
-    then-told Row (sheetHeader s) (λ h. demand (eqb (length s) (sheetSize h)) 4 then λ u. demand (leb (4 * h.count) space) 5 then λ v. given h) (sheet-header-told s)
-    (λ h e. then-told Row (demand (eqb (length s) (sheetSize h)) 4) (λ u. demand (leb (4 * h.count) space) 5 then λ v. given h) (demand-told Row (eqb (length s) (sheetSize h)) 4 (row 4 0 (omega arith) (omega arith) (omega arith)))
-    (λ u q. then-told Row (demand (leb (4 * h.count) space) 5) (λ v. given h) (demand-told Row (leb (4 * h.count) space) 5 (row 5 0 (omega arith) (omega arith) (omega arith))) (λ v w. tt)))
+header_told : (s : List ℕ) (space : ℕ) → Refusable (header_for s space)
+unfolding header_for
+header_told s space =
+    then_told Row (sheet_header s) (λ h. demand (eqb (length s) (sheet_size h)) 4 then λ u. demand (leb (4 * h.count) space) 5 then λ v. given h) (sheet_header_told s)
+    (λ h e. then_told Row (demand (eqb (length s) (sheet_size h)) 4) (λ u. demand (leb (4 * h.count) space) 5 then λ v. given h) (demand_told Row (eqb (length s) (sheet_size h)) 4 (row 4 0 (omega arith) (omega arith) (omega arith)))
+    (λ u q. then_told Row (demand (leb (4 * h.count) space) 5) (λ v. given h) (demand_told Row (leb (4 * h.count) space) 5 (row 5 0 (omega arith) (omega arith) (omega arith))) (λ v w. tt)))
 
-pub count_most : (s : List ℕ) (h : Header) → readHeader s ≡ given h → h.count ≤ mostRecords
-count_most s h e = (header-ranges h (header-read-fine s h e)).count-few
+pub count_most : (s : List ℕ) (h : Header) → read_header s ≡ given h → h.count ≤ most_records
+count_most s h e = (header_ranges h (header_read_fine s h e)).count_few
 
 -- the number and the place of a refusal, whatever the sheet
-pub sheet-told : (s : List ℕ) (space : ℕ) → Refusable (sheetIn s space)
-unfolding sheetIn
-sheet-told s space =
-    then-told Row (headerFor s space) (λ h. recordsIn 0 0 (partsFrom (recordsPart h s) 0 h.count) then λ rs. given (record { header = h; records = rs })) (header-told s space)
-    (λ h e. then-told Row (recordsIn 0 0 (partsFrom (recordsPart h s) 0 h.count)) (λ rs. given (record { header = h; records = rs }))
-    (records-told (recordsPart h s) h.count 0 0 (omega (arith, count_most s h (header-fits s space h e).read))) (λ rs q. tt))
+pub sheet_told : (s : List ℕ) (space : ℕ) → Refusable (sheet_in s space)
+unfolding sheet_in
+sheet_told s space =
+    then_told Row (header_for s space) (λ h. records_in 0 0 (parts_from (records_part h s) 0 h.count) then λ rs. given (record { header = h; records = rs })) (header_told s space)
+    (λ h e. then_told Row (records_in 0 0 (parts_from (records_part h s) 0 h.count)) (λ rs. given (record { header = h; records = rs }))
+    (records_told (records_part h s) h.count 0 0 (omega (arith, count_most s h (header_fits s space h e).read))) (λ rs q. tt))
 
-pub failures-most : (es : List Entry) → failures es ≤ length es
+pub failures_most : (es : List Entry) → failures es ≤ length es
 unfolding failures
-failures-most [] = omega arith
-failures-most (e ∷ es) = go (eqb e.rule 0) (failures-most es)
+failures_most [] = omega arith
+failures_most (e ∷ es) = go (eqb e.rule 0) (failures_most es)
   where
     go : (t : Bool) → failures es ≤ length es → cond t 0 1 + failures es ≤ length (e ∷ es)
     go true l = omega arith
     go false l = omega arith
 
-pub sheet-counts : (s : List ℕ) (space : ℕ) (t : Sheet) → sheetIn s space ≡ given t → Counts space t
+pub sheet_counts : (s : List ℕ) (space : ℕ) (t : Sheet) → sheet_in s space ≡ given t → Counts space t
 unfolding verdicts
-sheet-counts s space t e =
-    let w = sheet-whole s space t e in
+sheet_counts s space t e =
+    let w = sheet_whole s space t e in
     let few = count_most s t.header w.header.read in
     let one_each = length-map t.records (entry_of t.header) in
-    record { inside = w.header.fits; records = few; failed = omega (arith, failures-most (verdicts t), one_each, w.number) }
+    record { inside = w.header.fits; records = few; failed = omega (arith, failures_most (verdicts t), one_each, w.number) }

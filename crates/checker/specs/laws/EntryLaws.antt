@@ -4,101 +4,101 @@ use Rattle.std.specs.Prelude.{ℕ, ◌≤◌, ◌<◌, ◌^◌, ◌≡◌, refl,
 use Rattle.std.proofs.Common.{sym, ap, ◌∙◌, arith, take-append-drop, lt-ltb, le-ltb, eq-eqb, eqb-true}
 use Rattle.std.proofs.Math.Decide.{dec_lt}
 use Rattle.layout.specs.Layout.{pack, unpack, bytes, Fit}
-use Rattle.layout.specs.laws.Laws.{pack-lt, pack-unpack-lt, unpack-pack}
-use Rattle.layout.specs.Line.{Allowed, linesFit}
-use Rattle.layout.specs.laws.LineLaws.{none-all, all_none, allowed-fit}
+use Rattle.layout.specs.laws.Laws.{pack_lt, pack_unpack_lt, unpack_pack}
+use Rattle.layout.specs.Line.{Allowed, lines_fit}
+use Rattle.layout.specs.laws.LineLaws.{none_all, all_none, allowed_fit}
 use Rattle.sheet.specs.Refusals.{given, refused}
-use Rattle.sheet.specs.laws.RefusalLaws.{given-refused, given-same}
+use Rattle.sheet.specs.laws.RefusalLaws.{given_refused, given_same}
 use Rattle.checker.specs.declared.Entry.{Entry}
-use Rattle.checker.specs.Entry.{verdictTable, verdictLines, verdictWidths, entryValues, entry_at, entryFault, entryRefused, entryIn, read_entry, entryBytes, writeEntry}
+use Rattle.checker.specs.Entry.{verdict_table, verdict_lines, verdict_widths, entry_values, entry_at, entry_fault, entry_refused, entry_in, read_entry, entry_bytes, write_entry}
 
 -- ---- an entry with no fault
 
 -- every value that a line allows fits it
-table_fits : (passed : Bool) → linesFit (verdictTable passed) ≡ true
+table_fits : (passed : Bool) → lines_fit (verdict_table passed) ≡ true
 table_fits true = refl
 table_fits false = refl
 
 -- each of its values is allowed
-entry-allowed : (e : Entry) → entryFault e ≡ 0 → Allowed (verdictLines e.rule) (entryValues e)
-unfolding entryFault
-entry-allowed e z = none-all 0 (verdictLines e.rule) (entryValues e) z
+entry_allowed : (e : Entry) → entry_fault e ≡ 0 → Allowed (verdict_lines e.rule) (entry_values e)
+unfolding entry_fault
+entry_allowed e z = none_all 0 (verdict_lines e.rule) (entry_values e) z
 
 -- and the other way round
-pub allowed-entry : (e : Entry) → Allowed (verdictLines e.rule) (entryValues e) → entryFault e ≡ 0
-unfolding entryFault
-allowed-entry e a = all_none 1 (verdictLines e.rule) (entryValues e) a
+pub allowed_entry : (e : Entry) → Allowed (verdict_lines e.rule) (entry_values e) → entry_fault e ≡ 0
+unfolding entry_fault
+allowed_entry e a = all_none 1 (verdict_lines e.rule) (entry_values e) a
 
 -- its values fit their fields
-pub entry-fit : (e : Entry) → entryFault e ≡ 0 → Fit verdictWidths (entryValues e)
-entry-fit e z = allowed-fit (verdictLines e.rule) (entryValues e) (table_fits (eqb e.rule 0)) (entry-allowed e z)
+pub entry_fit : (e : Entry) → entry_fault e ≡ 0 → Fit verdict_widths (entry_values e)
+entry_fit e z = allowed_fit (verdict_lines e.rule) (entry_values e) (table_fits (eqb e.rule 0)) (entry_allowed e z)
 
 -- ---- there and back
 
 -- the number of an entry is one of 32 bits
-entry_lt : (e : Entry) → entryFault e ≡ 0 → pack verdictWidths (entryValues e) < 2 ^ 32
-entry_lt e z = pack-lt verdictWidths (entryValues e) (entry-fit e z)
+entry_lt : (e : Entry) → entry_fault e ≡ 0 → pack verdict_widths (entry_values e) < 2 ^ 32
+entry_lt e z = pack_lt verdict_widths (entry_values e) (entry_fit e z)
 
 -- reading, by the length
-entry-short : (s : List ℕ) → length s < 4 → read_entry s ≡ refused 1 0
+entry_short : (s : List ℕ) → length s < 4 → read_entry s ≡ refused 1 0
 unfolding read_entry
-entry-short s l = rw (lt-ltb _ _ l)
+entry_short s l = rw (lt-ltb _ _ l)
 
-entry-long : (s : List ℕ) → 4 ≤ length s → read_entry s ≡ entryIn (pack (bytes 4) (take 4 s))
+entry_long : (s : List ℕ) → 4 ≤ length s → read_entry s ≡ entry_in (pack (bytes 4) (take 4 s))
 unfolding read_entry
-entry-long s l = rw (le-ltb _ _ l)
+entry_long s l = rw (le-ltb _ _ l)
 
 -- what stands in the output is read
-pub bytes_read : (e : Entry) (rest : List ℕ) → entryFault e ≡ 0 → read_entry (entryBytes e ++ rest) ≡ given e
-unfolding entryIn
+pub bytes_read : (e : Entry) (rest : List ℕ) → entry_fault e ≡ 0 → read_entry (entry_bytes e ++ rest) ≡ given e
+unfolding entry_in
 bytes_read e rest z =
-    let n = pack verdictWidths (entryValues e) in
-    let back : pack (bytes 4) (entryBytes e) ≡ n = pack-unpack-lt (bytes 4) n (entry_lt e z) in
-    let fields : unpack verdictWidths n ≡ entryValues e = unpack-pack verdictWidths (entryValues e) (entry-fit e z) in
-    entry-long (entryBytes e ++ rest) (omega arith)
-    ∙ ap entryIn back
-    ∙ ap (λ (vs : List ℕ). entryRefused (entryFault (entry_at vs)) (given (entry_at vs))) fields
-    ∙ ap (λ (t : Bool). cond t (given e) (refused 7 (entryFault e))) (eq-eqb (entryFault e) 0 z)
+    let n = pack verdict_widths (entry_values e) in
+    let back : pack (bytes 4) (entry_bytes e) ≡ n = pack_unpack_lt (bytes 4) n (entry_lt e z) in
+    let fields : unpack verdict_widths n ≡ entry_values e = unpack_pack verdict_widths (entry_values e) (entry_fit e z) in
+    entry_long (entry_bytes e ++ rest) (omega arith)
+    ∙ ap entry_in back
+    ∙ ap (λ (vs : List ℕ). entry_refused (entry_fault (entry_at vs)) (given (entry_at vs))) fields
+    ∙ ap (λ (t : Bool). cond t (given e) (refused 7 (entry_fault e))) (eq-eqb (entry_fault e) 0 z)
 
 -- the bytes after writing
-pub bytes-written : (e : Entry) (o : List ℕ) → 4 ≤ length o → entryFault e ≡ 0 → (writeEntry e o).bytes ≡ entryBytes e ++ drop 4 o
-unfolding writeEntry
-bytes-written e o l z = rw (le-ltb _ _ l, eq-eqb (entryFault e) 0 z)
+pub bytes_written : (e : Entry) (o : List ℕ) → 4 ≤ length o → entry_fault e ≡ 0 → (write_entry e o).bytes ≡ entry_bytes e ++ drop 4 o
+unfolding write_entry
+bytes_written e o l z = rw (le-ltb _ _ l, eq-eqb (entry_fault e) 0 z)
 
 -- what was written is read
-pub written_read : (e : Entry) (o : List ℕ) → 4 ≤ length o → entryFault e ≡ 0 → read_entry (writeEntry e o).bytes ≡ given e
-written_read e o l z = ap read_entry (bytes-written e o l z) ∙ bytes_read e (drop 4 o) z
+pub written_read : (e : Entry) (o : List ℕ) → 4 ≤ length o → entry_fault e ≡ 0 → read_entry (write_entry e o).bytes ≡ given e
+written_read e o l z = ap read_entry (bytes_written e o l z) ∙ bytes_read e (drop 4 o) z
 
 -- what is refused by a field
-by-fault : (t : Bool) (f : ℕ) (a e : Entry) → cond t (given a) (refused 7 f) ≡ given e → (t ≡ true) × (a ≡ e)
-by-fault true f a e g = (refl, given-same g)
-by-fault false f a e g = given-refused (sym g)
+by_fault_lem : (t : Bool) (f : ℕ) (a e : Entry) → cond t (given a) (refused 7 f) ≡ given e → (t ≡ true) × (a ≡ e)
+by_fault_lem true f a e g = (refl, given_same g)
+by_fault_lem false f a e g = given_refused (sym g)
 
 -- where an entry is given, there are four bytes and no field is at fault
-module _ (s : List ℕ) (e : Entry) (given-e : read_entry s ≡ given e) where
-  pub read-long : 4 ≤ length s
-  read-long = go (dec_lt (length s) 4)
+module _ (s : List ℕ) (e : Entry) (given_e : read_entry s ≡ given e) where
+  pub read_long : 4 ≤ length s
+  read_long = go (dec_lt (length s) 4)
     where
       go : Dec (length s < 4) → 4 ≤ length s
-      go (yes l) = given-refused (sym given-e ∙ entry-short s l)
+      go (yes l) = given_refused (sym given_e ∙ entry_short s l)
       go (no l) = omega arith
 
   abbrev fields : List ℕ
-  fields = unpack verdictWidths (pack (bytes 4) (take 4 s))
+  fields = unpack verdict_widths (pack (bytes 4) (take 4 s))
 
-  read-in : (eqb (entryFault (entry_at fields)) 0 ≡ true) × (entry_at fields ≡ e)
-  unfolding entryIn
-  read-in = by-fault (eqb (entryFault (entry_at fields)) 0) (entryFault (entry_at fields)) (entry_at fields) e (sym (entry-long s read-long) ∙ given-e)
+  read_in : (eqb (entry_fault (entry_at fields)) 0 ≡ true) × (entry_at fields ≡ e)
+  unfolding entry_in
+  read_in = by_fault_lem (eqb (entry_fault (entry_at fields)) 0) (entry_fault (entry_at fields)) (entry_at fields) e (sym (entry_long s read_long) ∙ given_e)
 
-  pub read-sound : entryFault e ≡ 0
-  read-sound = ap entryFault (sym read-in.1) ∙ eqb-true _ _ read-in.0
+  pub read_sound : entry_fault e ≡ 0
+  read_sound = ap entry_fault (sym read_in.1) ∙ eqb-true _ _ read_in.0
 
   -- what was read is written, byte for byte
-  pub read-written : Fit (bytes 4) (take 4 s) → (writeEntry e s).bytes ≡ s
-  read-written f =
+  pub read_written : Fit (bytes 4) (take 4 s) → (write_entry e s).bytes ≡ s
+  read_written f =
       let n = pack (bytes 4) (take 4 s) in
-      let same : pack verdictWidths (entryValues e) ≡ n = ap (λ (a : Entry). pack verdictWidths (entryValues a)) (sym read-in.1) ∙ pack-unpack-lt verdictWidths n (pack-lt (bytes 4) (take 4 s) f) in
-      bytes-written e s read-long read-sound
+      let same : pack verdict_widths (entry_values e) ≡ n = ap (λ (a : Entry). pack verdict_widths (entry_values a)) (sym read_in.1) ∙ pack_unpack_lt verdict_widths n (pack_lt (bytes 4) (take 4 s) f) in
+      bytes_written e s read_long read_sound
       ∙ ap (λ (k : ℕ). unpack (bytes 4) k ++ drop 4 s) same
-      ∙ ap (λ (l : List ℕ). l ++ drop 4 s) (unpack-pack (bytes 4) (take 4 s) f)
+      ∙ ap (λ (l : List ℕ). l ++ drop 4 s) (unpack_pack (bytes 4) (take 4 s) f)
       ∙ take-append-drop 4 s

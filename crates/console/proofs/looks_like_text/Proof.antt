@@ -7,17 +7,17 @@ use mathlib.Core.List.{List, [], ◌∷◌}
 use native.Mathlib.Omega.{arith}
 use borrow.Author.Rules.{rules}
 use lib.ListN.{length, get_or}
-use Rattle.console.specs.Console.{beginsText, looksLikeText}
+use Rattle.console.specs.Console.{begins_text, looks_like_text}
 use Rattle.console.proofs.looks_like_text.Statement.{statement}
 use Rattle.console.proofs.looks_like_text.Tie as tie
 
-nothing : (s : List ℕ) → length s ≡ 0 → false ≡ looksLikeText s
-unfolding looksLikeText
+nothing : (s : List ℕ) → length s ≡ 0 → false ≡ looks_like_text s
+unfolding looks_like_text
 nothing [] e = refl
 nothing (b ∷ s) e = absurd (omega arith)
 
-by_first : (s : List ℕ) → (length s ≡ 0 → ⊥) → (r : Bool) → r ≡ beginsText (get_or s 0 0) → r ≡ looksLikeText s
-unfolding looksLikeText
+by_first : (s : List ℕ) → (length s ≡ 0 → ⊥) → (r : Bool) → r ≡ begins_text (get_or s 0 0) → r ≡ looks_like_text s
+unfolding looks_like_text
 by_first [] n r e = absurd (n refl)
 by_first (b ∷ s) n r e = e
 

@@ -2,27 +2,27 @@
 -- Assumes nothing.
 use Rattle.std.specs.Prelude.{◌≡◌, refl, true, false, List, [], ◌∷◌, map, ℕ}
 use Rattle.sheet.specs.Refusals.{given, refused}
-use Rattle.sheet.specs.Header.{rawFault}
-use Rattle.sheet.specs.Record.{plateFault, memberFault}
-use Rattle.sheet.specs.Versions.{longestSheet}
-use Rattle.decimal.specs.Decimal.{digitsIn, decimalOf}
-use Rattle.decimal.specs.Line.{moreOf, line_of}
-use Rattle.fields.specs.Number.{longerOf, digitOf, digitsOf}
-use Rattle.fields.specs.Marks.{outside, marksAt}
-use Rattle.fields.specs.Lines.{lines_of, linesAt}
+use Rattle.sheet.specs.Header.{raw_fault}
+use Rattle.sheet.specs.Record.{plate_fault, member_fault}
+use Rattle.sheet.specs.Versions.{longest_sheet}
+use Rattle.decimal.specs.Decimal.{digits_in, decimal_of}
+use Rattle.decimal.specs.Line.{more_of, line_of}
+use Rattle.fields.specs.Number.{longer_of, digit_of, digits_of}
+use Rattle.fields.specs.Marks.{outside, marks_at}
+use Rattle.fields.specs.Lines.{lines_of, lines_at}
 use Rattle.rows.specs.Pack.{below}
-use Rattle.rows.specs.Rows.{headerLine, recordLine}
+use Rattle.rows.specs.Rows.{header_line, record_line}
 use Rattle.checker.specs.Check.{Sheet}
 use Rattle.checker.specs.laws.Computing.{reading}
-use Rattle.checker.specs.Unjudged.{soundSheet}
-use Rattle.csv.specs.Read.{recordsMade, sheetMade, sheetFrom}
-use Rattle.csv.specs.Write.{linesText, text_of, textFrom}
-use Rattle.csv_laws.specs.Form.{fieldsText, formOf, writtenForm}
-use Rattle.csv_laws.specs.Variants.{Line, doubled as twice, cellsText, spelling, Variant}
+use Rattle.checker.specs.Unjudged.{sound_sheet}
+use Rattle.sheet_csv.specs.Read.{records_made, sheet_made, sheet_from}
+use Rattle.sheet_csv.specs.Write.{lines_text, text_of, text_from}
+use Rattle.csv_laws.specs.Form.{fields_text, form_of, written_form}
+use Rattle.csv_laws.specs.Variants.{Line, doubled as twice, cells_text, spelling, Variant}
 
 -- all that reading a text computes with, under one name for an `unfolding` line
 unfoldable pub converting : Type 0
-unfolding sheetFrom sheetMade recordsMade linesAt lines_of marksAt outside digitsOf digitOf longerOf headerLine recordLine below soundSheet reading rawFault plateFault memberFault
+unfolding sheet_from sheet_made records_made lines_at lines_of marks_at outside digits_of digit_of longer_of header_line record_line below sound_sheet reading raw_fault plate_fault member_fault
 converting = Unit {0}
 
 -- the document's two members on vessel V, as a sheet, as text, and as another program may write it: some fields quoted, LF alone, none at the end
@@ -36,146 +36,146 @@ abbrev pub other : List ℕ
 other = 34 ∷ 49 ∷ 34 ∷ 44 ∷ 56 ∷ 48 ∷ 48 ∷ 48 ∷ 44 ∷ 50 ∷ 53 ∷ 48 ∷ 44 ∷ 54 ∷ 48 ∷ 44 ∷ 48 ∷ 44 ∷ 34 ∷ 50 ∷ 48 ∷ 48 ∷ 48 ∷ 48 ∷ 34 ∷ 44 ∷ 50 ∷ 48 ∷ 48 ∷ 48 ∷ 48 ∷ 48 ∷ 44 ∷ 34 ∷ 50 ∷ 34 ∷ 10 ∷ 50 ∷ 44 ∷ 55 ∷ 44 ∷ 49 ∷ 48 ∷ 48 ∷ 48 ∷ 44 ∷ 48 ∷ 44 ∷ 53 ∷ 48 ∷ 48 ∷ 44 ∷ 54 ∷ 48 ∷ 48 ∷ 44 ∷ 48 ∷ 44 ∷ 48 ∷ 44 ∷ 48 ∷ 44 ∷ 48 ∷ 44 ∷ 48 ∷ 10 ∷ 34 ∷ 53 ∷ 34 ∷ 44 ∷ 49 ∷ 50 ∷ 44 ∷ 48 ∷ 44 ∷ 53 ∷ 48 ∷ 48 ∷ 44 ∷ 51 ∷ 48 ∷ 48 ∷ 44 ∷ 52 ∷ 50 ∷ 48 ∷ 44 ∷ 49 ∷ 48 ∷ 48 ∷ 44 ∷ 49 ∷ 48 ∷ 48 ∷ 44 ∷ 57 ∷ 48 ∷ 44 ∷ 53 ∷ 48 ∷ 44 ∷ 53 ∷ 54 ∷ 48 ∷ 44 ∷ 49 ∷ 54 ∷ 56 ∷ 44 ∷ 34 ∷ 49 ∷ 48 ∷ 48 ∷ 48 ∷ 34 ∷ []
 
 -- both ways, in outputs that just have room
-text-read : sheetFrom text 44 ≡ given sheet
+text_read : sheet_from text 44 ≡ given sheet
 unfolding converting
-text-read = refl
+text_read = refl
 
-sheet-written : textFrom sheet 109 ≡ given text
-unfolding converting digitsIn decimalOf moreOf line_of linesText text_of textFrom
-sheet-written = refl
+sheet_written : text_from sheet 109 ≡ given text
+unfolding converting digits_in decimal_of more_of line_of lines_text text_of text_from
+sheet_written = refl
 
-other-read : (sheetFrom other 44 ≡ given sheet) × (writtenForm other ≡ text)
-unfolding converting fieldsText formOf
-other-read = (refl, refl)
+other_read : (sheet_from other 44 ≡ given sheet) × (written_form other ≡ text)
+unfolding converting fields_text form_of
+other_read = (refl, refl)
 
 -- the same with every field in quotes, LF alone, and nothing behind the last line
-abbrev quotedLine : List ℕ → Line
-quotedLine ns = record { cells = map (λ (n : ℕ). record { bytes = decimalOf n; quoted = true }) ns; both = false }
+abbrev quoted_line : List ℕ → Line
+quoted_line ns = record { cells = map (λ (n : ℕ). record { bytes = decimal_of n; quoted = true }) ns; both = false }
 
-abbrev quotedLines : List Line
-quotedLines = map quotedLine ((1 ∷ 8000 ∷ 250 ∷ 60 ∷ 0 ∷ 20000 ∷ 200000 ∷ 2 ∷ []) ∷ (2 ∷ 7 ∷ 1000 ∷ 0 ∷ 500 ∷ 600 ∷ 0 ∷ 0 ∷ 0 ∷ 0 ∷ 0 ∷ []) ∷ (5 ∷ 12 ∷ 0 ∷ 500 ∷ 300 ∷ 420 ∷ 100 ∷ 100 ∷ 90 ∷ 50 ∷ 560 ∷ 168 ∷ 1000 ∷ []) ∷ [])
+abbrev quoted_lines : List Line
+quoted_lines = map quoted_line ((1 ∷ 8000 ∷ 250 ∷ 60 ∷ 0 ∷ 20000 ∷ 200000 ∷ 2 ∷ []) ∷ (2 ∷ 7 ∷ 1000 ∷ 0 ∷ 500 ∷ 600 ∷ 0 ∷ 0 ∷ 0 ∷ 0 ∷ 0 ∷ []) ∷ (5 ∷ 12 ∷ 0 ∷ 500 ∷ 300 ∷ 420 ∷ 100 ∷ 100 ∷ 90 ∷ 50 ∷ 560 ∷ 168 ∷ 1000 ∷ []) ∷ [])
 
 abbrev pub quoted : List ℕ
 quoted = 34 ∷ 49 ∷ 34 ∷ 44 ∷ 34 ∷ 56 ∷ 48 ∷ 48 ∷ 48 ∷ 34 ∷ 44 ∷ 34 ∷ 50 ∷ 53 ∷ 48 ∷ 34 ∷ 44 ∷ 34 ∷ 54 ∷ 48 ∷ 34 ∷ 44 ∷ 34 ∷ 48 ∷ 34 ∷ 44 ∷ 34 ∷ 50 ∷ 48 ∷ 48 ∷ 48 ∷ 48 ∷ 34 ∷ 44 ∷ 34 ∷ 50 ∷ 48 ∷ 48 ∷ 48 ∷ 48 ∷ 48 ∷ 34 ∷ 44 ∷ 34 ∷ 50 ∷ 34 ∷ 10 ∷ 34 ∷ 50 ∷ 34 ∷ 44 ∷ 34 ∷ 55 ∷ 34 ∷ 44 ∷ 34 ∷ 49 ∷ 48 ∷ 48 ∷ 48 ∷ 34 ∷ 44 ∷ 34 ∷ 48 ∷ 34 ∷ 44 ∷ 34 ∷ 53 ∷ 48 ∷ 48 ∷ 34 ∷ 44 ∷ 34 ∷ 54 ∷ 48 ∷ 48 ∷ 34 ∷ 44 ∷ 34 ∷ 48 ∷ 34 ∷ 44 ∷ 34 ∷ 48 ∷ 34 ∷ 44 ∷ 34 ∷ 48 ∷ 34 ∷ 44 ∷ 34 ∷ 48 ∷ 34 ∷ 44 ∷ 34 ∷ 48 ∷ 34 ∷ 10 ∷ 34 ∷ 53 ∷ 34 ∷ 44 ∷ 34 ∷ 49 ∷ 50 ∷ 34 ∷ 44 ∷ 34 ∷ 48 ∷ 34 ∷ 44 ∷ 34 ∷ 53 ∷ 48 ∷ 48 ∷ 34 ∷ 44 ∷ 34 ∷ 51 ∷ 48 ∷ 48 ∷ 34 ∷ 44 ∷ 34 ∷ 52 ∷ 50 ∷ 48 ∷ 34 ∷ 44 ∷ 34 ∷ 49 ∷ 48 ∷ 48 ∷ 34 ∷ 44 ∷ 34 ∷ 49 ∷ 48 ∷ 48 ∷ 34 ∷ 44 ∷ 34 ∷ 57 ∷ 48 ∷ 34 ∷ 44 ∷ 34 ∷ 53 ∷ 48 ∷ 34 ∷ 44 ∷ 34 ∷ 53 ∷ 54 ∷ 48 ∷ 34 ∷ 44 ∷ 34 ∷ 49 ∷ 54 ∷ 56 ∷ 34 ∷ 44 ∷ 34 ∷ 49 ∷ 48 ∷ 48 ∷ 48 ∷ 34 ∷ []
 
-quoted-spelled : spelling false quotedLines ≡ quoted
-unfolding digitsIn decimalOf twice cellsText spelling
-quoted-spelled = refl
+quoted_spelled : spelling false quoted_lines ≡ quoted
+unfolding digits_in decimal_of twice cells_text spelling
+quoted_spelled = refl
 
-quoted-variant : (t : Sheet) × (soundSheet sheet ≡ given t) × Variant t quotedLines
+quoted_variant : (t : Sheet) × (sound_sheet sheet ≡ given t) × Variant t quoted_lines
 unfolding converting
-quoted-variant = (_, refl, refl)
+quoted_variant = (_, refl, refl)
 
-quoted-read : sheetFrom quoted 44 ≡ given sheet
+quoted_read : sheet_from quoted 44 ≡ given sheet
 unfolding converting
-quoted-read = refl
+quoted_read = refl
 
 -- a byte less
-no_room : (sheetFrom text 43 ≡ refused 5 0) × (textFrom sheet 108 ≡ refused 5 0)
-unfolding converting digitsIn decimalOf moreOf line_of linesText text_of textFrom
+no_room : (sheet_from text 43 ≡ refused 5 0) × (text_from sheet 108 ≡ refused 5 0)
+unfolding converting digits_in decimal_of more_of line_of lines_text text_of text_from
 no_room = (refl, refl)
 
 -- the empty text
-empty : sheetFrom ([]) longestSheet ≡ refused 14 1
+empty : sheet_from ([]) longest_sheet ≡ refused 14 1
 unfolding converting
 empty = refl
 
 -- an empty line
-blank : sheetFrom (10 ∷ []) longestSheet ≡ refused 14 1
+blank : sheet_from (10 ∷ []) longest_sheet ≡ refused 14 1
 unfolding converting
 blank = refl
 
 -- an empty line at the end
-blank-behind : sheetFrom (49 ∷ 44 ∷ 56 ∷ 48 ∷ 48 ∷ 48 ∷ 44 ∷ 50 ∷ 53 ∷ 48 ∷ 44 ∷ 54 ∷ 48 ∷ 44 ∷ 48 ∷ 44 ∷ 50 ∷ 48 ∷ 48 ∷ 48 ∷ 48 ∷ 44 ∷ 50 ∷ 48 ∷ 48 ∷ 48 ∷ 48 ∷ 48 ∷ 44 ∷ 48 ∷ 13 ∷ 10 ∷ 13 ∷ 10 ∷ []) longestSheet ≡ refused 14 2
+blank_behind : sheet_from (49 ∷ 44 ∷ 56 ∷ 48 ∷ 48 ∷ 48 ∷ 44 ∷ 50 ∷ 53 ∷ 48 ∷ 44 ∷ 54 ∷ 48 ∷ 44 ∷ 48 ∷ 44 ∷ 50 ∷ 48 ∷ 48 ∷ 48 ∷ 48 ∷ 44 ∷ 50 ∷ 48 ∷ 48 ∷ 48 ∷ 48 ∷ 48 ∷ 44 ∷ 48 ∷ 13 ∷ 10 ∷ 13 ∷ 10 ∷ []) longest_sheet ≡ refused 14 2
 unfolding converting
-blank-behind = refl
+blank_behind = refl
 
 -- a quote that is not closed
-unclosed : sheetFrom (34 ∷ 49 ∷ 44 ∷ 56 ∷ 48 ∷ 48 ∷ 48 ∷ 10 ∷ []) longestSheet ≡ refused 14 1
+unclosed : sheet_from (34 ∷ 49 ∷ 44 ∷ 56 ∷ 48 ∷ 48 ∷ 48 ∷ 10 ∷ []) longest_sheet ≡ refused 14 1
 unfolding converting
 unclosed = refl
 
 -- a quote inside a plain field
-misplaced : sheetFrom (49 ∷ 44 ∷ 56 ∷ 48 ∷ 48 ∷ 48 ∷ 44 ∷ 50 ∷ 53 ∷ 48 ∷ 44 ∷ 54 ∷ 48 ∷ 44 ∷ 48 ∷ 44 ∷ 50 ∷ 48 ∷ 48 ∷ 48 ∷ 48 ∷ 44 ∷ 50 ∷ 48 ∷ 48 ∷ 48 ∷ 48 ∷ 48 ∷ 44 ∷ 48 ∷ 10 ∷ 50 ∷ 44 ∷ 55 ∷ 34 ∷ 10 ∷ []) longestSheet ≡ refused 14 2
+misplaced : sheet_from (49 ∷ 44 ∷ 56 ∷ 48 ∷ 48 ∷ 48 ∷ 44 ∷ 50 ∷ 53 ∷ 48 ∷ 44 ∷ 54 ∷ 48 ∷ 44 ∷ 48 ∷ 44 ∷ 50 ∷ 48 ∷ 48 ∷ 48 ∷ 48 ∷ 44 ∷ 50 ∷ 48 ∷ 48 ∷ 48 ∷ 48 ∷ 48 ∷ 44 ∷ 48 ∷ 10 ∷ 50 ∷ 44 ∷ 55 ∷ 34 ∷ 10 ∷ []) longest_sheet ≡ refused 14 2
 unfolding converting
 misplaced = refl
 
 -- a blank behind a closing quote
-followed : sheetFrom (34 ∷ 49 ∷ 34 ∷ 32 ∷ 44 ∷ 56 ∷ 48 ∷ 48 ∷ 48 ∷ []) longestSheet ≡ refused 14 1
+followed : sheet_from (34 ∷ 49 ∷ 34 ∷ 32 ∷ 44 ∷ 56 ∷ 48 ∷ 48 ∷ 48 ∷ []) longest_sheet ≡ refused 14 1
 unfolding converting
 followed = refl
 
 -- a doubled quote is a byte of its field, which is no number then
-doubled : sheetFrom (49 ∷ 44 ∷ 56 ∷ 48 ∷ 48 ∷ 48 ∷ 44 ∷ 50 ∷ 53 ∷ 48 ∷ 44 ∷ 54 ∷ 48 ∷ 44 ∷ 48 ∷ 44 ∷ 50 ∷ 48 ∷ 48 ∷ 48 ∷ 48 ∷ 44 ∷ 50 ∷ 48 ∷ 48 ∷ 48 ∷ 48 ∷ 48 ∷ 44 ∷ 34 ∷ 48 ∷ 34 ∷ 34 ∷ 34 ∷ []) longestSheet ≡ refused 14 1
+doubled : sheet_from (49 ∷ 44 ∷ 56 ∷ 48 ∷ 48 ∷ 48 ∷ 44 ∷ 50 ∷ 53 ∷ 48 ∷ 44 ∷ 54 ∷ 48 ∷ 44 ∷ 48 ∷ 44 ∷ 50 ∷ 48 ∷ 48 ∷ 48 ∷ 48 ∷ 44 ∷ 50 ∷ 48 ∷ 48 ∷ 48 ∷ 48 ∷ 48 ∷ 44 ∷ 34 ∷ 48 ∷ 34 ∷ 34 ∷ 34 ∷ []) longest_sheet ≡ refused 14 1
 unfolding converting
 doubled = refl
 
 -- a leading zero
-leading : sheetFrom (49 ∷ 44 ∷ 48 ∷ 56 ∷ 48 ∷ 48 ∷ 48 ∷ 44 ∷ 50 ∷ 53 ∷ 48 ∷ 44 ∷ 54 ∷ 48 ∷ 44 ∷ 48 ∷ 44 ∷ 50 ∷ 48 ∷ 48 ∷ 48 ∷ 48 ∷ 44 ∷ 50 ∷ 48 ∷ 48 ∷ 48 ∷ 48 ∷ 48 ∷ 44 ∷ 48 ∷ []) longestSheet ≡ refused 14 1
+leading : sheet_from (49 ∷ 44 ∷ 48 ∷ 56 ∷ 48 ∷ 48 ∷ 48 ∷ 44 ∷ 50 ∷ 53 ∷ 48 ∷ 44 ∷ 54 ∷ 48 ∷ 44 ∷ 48 ∷ 44 ∷ 50 ∷ 48 ∷ 48 ∷ 48 ∷ 48 ∷ 44 ∷ 50 ∷ 48 ∷ 48 ∷ 48 ∷ 48 ∷ 48 ∷ 44 ∷ 48 ∷ []) longest_sheet ≡ refused 14 1
 unfolding converting
 leading = refl
 
 -- a CR alone
-bare : sheetFrom (49 ∷ 44 ∷ 56 ∷ 48 ∷ 48 ∷ 48 ∷ 44 ∷ 50 ∷ 53 ∷ 48 ∷ 44 ∷ 54 ∷ 48 ∷ 44 ∷ 48 ∷ 44 ∷ 50 ∷ 48 ∷ 48 ∷ 48 ∷ 48 ∷ 44 ∷ 50 ∷ 48 ∷ 48 ∷ 48 ∷ 48 ∷ 48 ∷ 44 ∷ 48 ∷ 13 ∷ []) longestSheet ≡ refused 14 1
+bare : sheet_from (49 ∷ 44 ∷ 56 ∷ 48 ∷ 48 ∷ 48 ∷ 44 ∷ 50 ∷ 53 ∷ 48 ∷ 44 ∷ 54 ∷ 48 ∷ 44 ∷ 48 ∷ 44 ∷ 50 ∷ 48 ∷ 48 ∷ 48 ∷ 48 ∷ 44 ∷ 50 ∷ 48 ∷ 48 ∷ 48 ∷ 48 ∷ 48 ∷ 44 ∷ 48 ∷ 13 ∷ []) longest_sheet ≡ refused 14 1
 unfolding converting
 bare = refl
 
 -- a byte-order mark
-mark : sheetFrom (239 ∷ 187 ∷ 191 ∷ 49 ∷ 44 ∷ 56 ∷ 48 ∷ 48 ∷ 48 ∷ 44 ∷ 50 ∷ 53 ∷ 48 ∷ 44 ∷ 54 ∷ 48 ∷ 44 ∷ 48 ∷ 44 ∷ 50 ∷ 48 ∷ 48 ∷ 48 ∷ 48 ∷ 44 ∷ 50 ∷ 48 ∷ 48 ∷ 48 ∷ 48 ∷ 48 ∷ 44 ∷ 48 ∷ []) longestSheet ≡ refused 14 1
+mark : sheet_from (239 ∷ 187 ∷ 191 ∷ 49 ∷ 44 ∷ 56 ∷ 48 ∷ 48 ∷ 48 ∷ 44 ∷ 50 ∷ 53 ∷ 48 ∷ 44 ∷ 54 ∷ 48 ∷ 44 ∷ 48 ∷ 44 ∷ 50 ∷ 48 ∷ 48 ∷ 48 ∷ 48 ∷ 44 ∷ 50 ∷ 48 ∷ 48 ∷ 48 ∷ 48 ∷ 48 ∷ 44 ∷ 48 ∷ []) longest_sheet ≡ refused 14 1
 unfolding converting
 mark = refl
 
 -- 2 to the power of the field's bits
-wide : sheetFrom (49 ∷ 44 ∷ 49 ∷ 54 ∷ 51 ∷ 56 ∷ 52 ∷ 44 ∷ 50 ∷ 53 ∷ 48 ∷ 44 ∷ 54 ∷ 48 ∷ 44 ∷ 48 ∷ 44 ∷ 50 ∷ 48 ∷ 48 ∷ 48 ∷ 48 ∷ 44 ∷ 50 ∷ 48 ∷ 48 ∷ 48 ∷ 48 ∷ 48 ∷ 44 ∷ 48 ∷ []) longestSheet ≡ refused 14 1
+wide : sheet_from (49 ∷ 44 ∷ 49 ∷ 54 ∷ 51 ∷ 56 ∷ 52 ∷ 44 ∷ 50 ∷ 53 ∷ 48 ∷ 44 ∷ 54 ∷ 48 ∷ 44 ∷ 48 ∷ 44 ∷ 50 ∷ 48 ∷ 48 ∷ 48 ∷ 48 ∷ 44 ∷ 50 ∷ 48 ∷ 48 ∷ 48 ∷ 48 ∷ 48 ∷ 44 ∷ 48 ∷ []) longest_sheet ≡ refused 14 1
 unfolding converting
 wide = refl
 
 -- runs of one bit
-runs : sheetFrom (49 ∷ 44 ∷ 56 ∷ 48 ∷ 48 ∷ 48 ∷ 44 ∷ 50 ∷ 53 ∷ 48 ∷ 44 ∷ 54 ∷ 48 ∷ 44 ∷ 50 ∷ 44 ∷ 50 ∷ 48 ∷ 48 ∷ 48 ∷ 48 ∷ 44 ∷ 50 ∷ 48 ∷ 48 ∷ 48 ∷ 48 ∷ 48 ∷ 44 ∷ 48 ∷ []) longestSheet ≡ refused 14 1
+runs : sheet_from (49 ∷ 44 ∷ 56 ∷ 48 ∷ 48 ∷ 48 ∷ 44 ∷ 50 ∷ 53 ∷ 48 ∷ 44 ∷ 54 ∷ 48 ∷ 44 ∷ 50 ∷ 44 ∷ 50 ∷ 48 ∷ 48 ∷ 48 ∷ 48 ∷ 44 ∷ 50 ∷ 48 ∷ 48 ∷ 48 ∷ 48 ∷ 48 ∷ 44 ∷ 48 ∷ []) longest_sheet ≡ refused 14 1
 unfolding converting
 runs = refl
 
 -- a version of more than four bits
-version-wide : sheetFrom (49 ∷ 54 ∷ 44 ∷ 56 ∷ 48 ∷ 48 ∷ 48 ∷ []) longestSheet ≡ refused 14 1
+version_wide : sheet_from (49 ∷ 54 ∷ 44 ∷ 56 ∷ 48 ∷ 48 ∷ 48 ∷ []) longest_sheet ≡ refused 14 1
 unfolding converting
-version-wide = refl
+version_wide = refl
 
 -- a header of two fields
-header-count : sheetFrom (49 ∷ 44 ∷ 56 ∷ 48 ∷ 48 ∷ 48 ∷ []) longestSheet ≡ refused 15 1
+header_count : sheet_from (49 ∷ 44 ∷ 56 ∷ 48 ∷ 48 ∷ 48 ∷ []) longest_sheet ≡ refused 15 1
 unfolding converting
-header-count = refl
+header_count = refl
 
 -- version 2 with the fields of version 1
-header-count-2 : sheetFrom (50 ∷ 44 ∷ 56 ∷ 48 ∷ 48 ∷ 48 ∷ 44 ∷ 50 ∷ 53 ∷ 48 ∷ 44 ∷ 54 ∷ 48 ∷ 44 ∷ 48 ∷ 44 ∷ 50 ∷ 48 ∷ 48 ∷ 48 ∷ 48 ∷ 44 ∷ 50 ∷ 48 ∷ 48 ∷ 48 ∷ 48 ∷ 48 ∷ 44 ∷ 48 ∷ []) longestSheet ≡ refused 15 1
+header_count_2 : sheet_from (50 ∷ 44 ∷ 56 ∷ 48 ∷ 48 ∷ 48 ∷ 44 ∷ 50 ∷ 53 ∷ 48 ∷ 44 ∷ 54 ∷ 48 ∷ 44 ∷ 48 ∷ 44 ∷ 50 ∷ 48 ∷ 48 ∷ 48 ∷ 48 ∷ 44 ∷ 50 ∷ 48 ∷ 48 ∷ 48 ∷ 48 ∷ 48 ∷ 44 ∷ 48 ∷ []) longest_sheet ≡ refused 15 1
 unfolding converting
-header-count-2 = refl
+header_count_2 = refl
 
 -- a plate of three fields, of which one is no number
-plate-count : sheetFrom (49 ∷ 44 ∷ 56 ∷ 48 ∷ 48 ∷ 48 ∷ 44 ∷ 50 ∷ 53 ∷ 48 ∷ 44 ∷ 54 ∷ 48 ∷ 44 ∷ 48 ∷ 44 ∷ 50 ∷ 48 ∷ 48 ∷ 48 ∷ 48 ∷ 44 ∷ 50 ∷ 48 ∷ 48 ∷ 48 ∷ 48 ∷ 48 ∷ 44 ∷ 48 ∷ 10 ∷ 50 ∷ 44 ∷ 55 ∷ 44 ∷ 120 ∷ 10 ∷ []) longestSheet ≡ refused 15 2
+plate_count : sheet_from (49 ∷ 44 ∷ 56 ∷ 48 ∷ 48 ∷ 48 ∷ 44 ∷ 50 ∷ 53 ∷ 48 ∷ 44 ∷ 54 ∷ 48 ∷ 44 ∷ 48 ∷ 44 ∷ 50 ∷ 48 ∷ 48 ∷ 48 ∷ 48 ∷ 44 ∷ 50 ∷ 48 ∷ 48 ∷ 48 ∷ 48 ∷ 48 ∷ 44 ∷ 48 ∷ 10 ∷ 50 ∷ 44 ∷ 55 ∷ 44 ∷ 120 ∷ 10 ∷ []) longest_sheet ≡ refused 15 2
 unfolding converting
-plate-count = refl
+plate_count = refl
 
 -- a member of three
-member-count : sheetFrom (49 ∷ 44 ∷ 56 ∷ 48 ∷ 48 ∷ 48 ∷ 44 ∷ 50 ∷ 53 ∷ 48 ∷ 44 ∷ 54 ∷ 48 ∷ 44 ∷ 48 ∷ 44 ∷ 50 ∷ 48 ∷ 48 ∷ 48 ∷ 48 ∷ 44 ∷ 50 ∷ 48 ∷ 48 ∷ 48 ∷ 48 ∷ 48 ∷ 44 ∷ 48 ∷ 10 ∷ 50 ∷ 44 ∷ 55 ∷ 44 ∷ 49 ∷ 48 ∷ 48 ∷ 48 ∷ 44 ∷ 48 ∷ 44 ∷ 53 ∷ 48 ∷ 48 ∷ 44 ∷ 54 ∷ 48 ∷ 48 ∷ 44 ∷ 48 ∷ 44 ∷ 48 ∷ 44 ∷ 48 ∷ 44 ∷ 48 ∷ 44 ∷ 48 ∷ 10 ∷ 53 ∷ 44 ∷ 49 ∷ 50 ∷ 44 ∷ 48 ∷ []) longestSheet ≡ refused 15 3
+member_count : sheet_from (49 ∷ 44 ∷ 56 ∷ 48 ∷ 48 ∷ 48 ∷ 44 ∷ 50 ∷ 53 ∷ 48 ∷ 44 ∷ 54 ∷ 48 ∷ 44 ∷ 48 ∷ 44 ∷ 50 ∷ 48 ∷ 48 ∷ 48 ∷ 48 ∷ 44 ∷ 50 ∷ 48 ∷ 48 ∷ 48 ∷ 48 ∷ 48 ∷ 44 ∷ 48 ∷ 10 ∷ 50 ∷ 44 ∷ 55 ∷ 44 ∷ 49 ∷ 48 ∷ 48 ∷ 48 ∷ 44 ∷ 48 ∷ 44 ∷ 53 ∷ 48 ∷ 48 ∷ 44 ∷ 54 ∷ 48 ∷ 48 ∷ 44 ∷ 48 ∷ 44 ∷ 48 ∷ 44 ∷ 48 ∷ 44 ∷ 48 ∷ 44 ∷ 48 ∷ 10 ∷ 53 ∷ 44 ∷ 49 ∷ 50 ∷ 44 ∷ 48 ∷ []) longest_sheet ≡ refused 15 3
 unfolding converting
-member-count = refl
+member_count = refl
 
 -- a version that is not known, with anything behind it
-version : sheetFrom (49 ∷ 53 ∷ 44 ∷ 120 ∷ []) longestSheet ≡ refused 2 0
+version : sheet_from (49 ∷ 53 ∷ 44 ∷ 120 ∷ []) longest_sheet ≡ refused 2 0
 unfolding converting
 version = refl
 
 -- a length that fits its field and is not allowed
-value : sheetFrom (49 ∷ 44 ∷ 56 ∷ 44 ∷ 50 ∷ 53 ∷ 48 ∷ 44 ∷ 54 ∷ 48 ∷ 44 ∷ 48 ∷ 44 ∷ 50 ∷ 48 ∷ 48 ∷ 48 ∷ 48 ∷ 44 ∷ 50 ∷ 48 ∷ 48 ∷ 48 ∷ 48 ∷ 48 ∷ 44 ∷ 48 ∷ []) longestSheet ≡ refused 3 2
+value : sheet_from (49 ∷ 44 ∷ 56 ∷ 44 ∷ 50 ∷ 53 ∷ 48 ∷ 44 ∷ 54 ∷ 48 ∷ 44 ∷ 48 ∷ 44 ∷ 50 ∷ 48 ∷ 48 ∷ 48 ∷ 48 ∷ 44 ∷ 50 ∷ 48 ∷ 48 ∷ 48 ∷ 48 ∷ 48 ∷ 44 ∷ 48 ∷ []) longest_sheet ≡ refused 3 2
 unfolding converting
 value = refl
 
 -- a line of a record too many
-lines : sheetFrom (49 ∷ 44 ∷ 56 ∷ 48 ∷ 48 ∷ 48 ∷ 44 ∷ 50 ∷ 53 ∷ 48 ∷ 44 ∷ 54 ∷ 48 ∷ 44 ∷ 48 ∷ 44 ∷ 50 ∷ 48 ∷ 48 ∷ 48 ∷ 48 ∷ 44 ∷ 50 ∷ 48 ∷ 48 ∷ 48 ∷ 48 ∷ 48 ∷ 44 ∷ 48 ∷ 10 ∷ 50 ∷ 44 ∷ 55 ∷ 44 ∷ 49 ∷ 48 ∷ 48 ∷ 48 ∷ 44 ∷ 48 ∷ 44 ∷ 53 ∷ 48 ∷ 48 ∷ 44 ∷ 54 ∷ 48 ∷ 48 ∷ 44 ∷ 48 ∷ 44 ∷ 48 ∷ 44 ∷ 48 ∷ 44 ∷ 48 ∷ 44 ∷ 48 ∷ []) longestSheet ≡ refused 4 0
+lines : sheet_from (49 ∷ 44 ∷ 56 ∷ 48 ∷ 48 ∷ 48 ∷ 44 ∷ 50 ∷ 53 ∷ 48 ∷ 44 ∷ 54 ∷ 48 ∷ 44 ∷ 48 ∷ 44 ∷ 50 ∷ 48 ∷ 48 ∷ 48 ∷ 48 ∷ 44 ∷ 50 ∷ 48 ∷ 48 ∷ 48 ∷ 48 ∷ 48 ∷ 44 ∷ 48 ∷ 10 ∷ 50 ∷ 44 ∷ 55 ∷ 44 ∷ 49 ∷ 48 ∷ 48 ∷ 48 ∷ 44 ∷ 48 ∷ 44 ∷ 53 ∷ 48 ∷ 48 ∷ 44 ∷ 54 ∷ 48 ∷ 48 ∷ 44 ∷ 48 ∷ 44 ∷ 48 ∷ 44 ∷ 48 ∷ 44 ∷ 48 ∷ 44 ∷ 48 ∷ []) longest_sheet ≡ refused 4 0
 unfolding converting
 lines = refl
 
 -- a kind that is not known, with anything behind it
-kind : sheetFrom (49 ∷ 44 ∷ 56 ∷ 48 ∷ 48 ∷ 48 ∷ 44 ∷ 50 ∷ 53 ∷ 48 ∷ 44 ∷ 54 ∷ 48 ∷ 44 ∷ 48 ∷ 44 ∷ 50 ∷ 48 ∷ 48 ∷ 48 ∷ 48 ∷ 44 ∷ 50 ∷ 48 ∷ 48 ∷ 48 ∷ 48 ∷ 48 ∷ 44 ∷ 49 ∷ 10 ∷ 57 ∷ 44 ∷ 34 ∷ 97 ∷ 44 ∷ 98 ∷ 34 ∷ []) longestSheet ≡ refused 6 0
+kind : sheet_from (49 ∷ 44 ∷ 56 ∷ 48 ∷ 48 ∷ 48 ∷ 44 ∷ 50 ∷ 53 ∷ 48 ∷ 44 ∷ 54 ∷ 48 ∷ 44 ∷ 48 ∷ 44 ∷ 50 ∷ 48 ∷ 48 ∷ 48 ∷ 48 ∷ 44 ∷ 50 ∷ 48 ∷ 48 ∷ 48 ∷ 48 ∷ 48 ∷ 44 ∷ 49 ∷ 10 ∷ 57 ∷ 44 ∷ 34 ∷ 97 ∷ 44 ∷ 98 ∷ 34 ∷ []) longest_sheet ≡ refused 6 0
 unfolding converting
 kind = refl

@@ -4,7 +4,7 @@ use Rattle.std.specs.Prelude.{ℕ, zero, suc, ◌+◌, ◌≤◌, ◌<◌, ◌�
 use Rattle.std.proofs.Common.{sym, ap, ◌∙◌, arith, lt-ltb, le-ltb}
 use Rattle.std.proofs.Math.Decide.{dec_lt}
 use Rattle.fields.specs.Lines.{Lines}
-use Rattle.csv.specs.Read.{nextLine}
+use Rattle.sheet_csv.specs.Read.{next_line}
 use Rattle.csv_laws.specs.Faults.{FirstFaulty, quotes, line, later}
 
 -- so many lines without a fault stand before the first faulty one
@@ -13,15 +13,15 @@ before quotes = 0
 before (line j) = 0
 before (later j f) = suc (before f)
 
-next-below : (p : ℕ) → p < 4294967295 → nextLine p ≡ p + 1
-next-below p l = rw (lt-ltb p 4294967295 l)
+next_below : (p : ℕ) → p < 4294967295 → next_line p ≡ p + 1
+next_below p l = rw (lt-ltb p 4294967295 l)
 
-next_up : (p : ℕ) → p ≤ nextLine p
+next_up : (p : ℕ) → p ≤ next_line p
 next_up p = go (dec_lt p 4294967295)
   where
-    go : Dec (p < 4294967295) → p ≤ nextLine p
-    go (yes l) = omega (arith, next-below p l)
-    go (no l) = let e : nextLine p ≡ p = rw (le-ltb p 4294967295 (omega arith)) in omega arith
+    go : Dec (p < 4294967295) → p ≤ next_line p
+    go (yes l) = omega (arith, next_below p l)
+    go (no l) = let e : next_line p ≡ p = rw (le-ltb p 4294967295 (omega arith)) in omega arith
 
 grows : {head : Bool} {p : ℕ} {ls : Lines} {n q : ℕ} → FirstFaulty head p ls n q → p ≤ q
 grows quotes = omega arith
@@ -32,4 +32,4 @@ grows (later {p = p} j f) = omega (arith, grows f, next_up p)
 pub place_is : {head : Bool} {p : ℕ} {ls : Lines} {n q : ℕ} (f : FirstFaulty head p ls n q) → q < 4294967295 → q ≡ p + before f
 place_is (quotes {p = p}) l = let z : p ≡ p + 0 = omega arith in z
 place_is (line {p = p} j) l = let z : p ≡ p + 0 = omega arith in z
-place_is (later {p = p} j f) l = omega (arith, place_is f l, next-below p (omega (arith, grows f, next_up p)))
+place_is (later {p = p} j f) l = omega (arith, place_is f l, next_below p (omega (arith, grows f, next_up p)))

@@ -4,13 +4,13 @@
 use Rattle.std.specs.Prelude.{ℕ, ◌≡◌, refl, List, [], ◌∷◌, ◌++◌, take, set}
 use Rattle.sheet.specs.Refusals.{Answer, given, refused}
 use Rattle.checker.specs.declared.Entry.{Entry}
-use Rattle.checker.specs.Entry.{entryBytes, read_entry}
-use Rattle.decimal.specs.Decimal.{digitsIn, decimalOf}
-use Rattle.decimal.specs.Line.{moreOf, line_of}
-use Rattle.report.specs.Text.{printed, linesText, textBy, text_of}
-use Rattle.checker.specs.Check.{answer_of, outputOf, fourAt}
+use Rattle.checker.specs.Entry.{entry_bytes, read_entry}
+use Rattle.decimal.specs.Decimal.{digits_in, decimal_of}
+use Rattle.decimal.specs.Line.{more_of, line_of}
+use Rattle.report.specs.Text.{printed, lines_text, text_by, text_of}
+use Rattle.checker.specs.Check.{answer_of, output_of, four_at}
 use Rattle.checker.specs.laws.Computing.{reading, checking}
-use Rattle.demands.specs.Raise.{replaced, withScantling, raisedTimes}
+use Rattle.demands.specs.Raise.{replaced, with_scantling, raised_times}
 use Rattle.demands.specs.EmptyPrograms.{checker}
 
 -- V's header, without its last byte, which has the count
@@ -56,13 +56,13 @@ abbrev pub lent : List ℕ
 lent = 170 ∷ 170 ∷ 170 ∷ 170 ∷ 170 ∷ 170 ∷ 170 ∷ 170 ∷ 170 ∷ []
 
 -- as the document prints it: 7 3 617, 12 5 567, each with source 0, 2 records and 2 failures; the ninth byte is as it was lent
-pub example-answer : answer_of example 9 ≡ given (record { n = 2; failed = 2 })
+pub example_answer : answer_of example 9 ≡ given (record { n = 2; failed = 2 })
 unfolding checking
-example-answer = refl
+example_answer = refl
 
-pub example-output : outputOf example lent ≡ (entryBytes (record { id = 7; rule = 3; required = 617; source = 0 }) ++ (entryBytes (record { id = 12; rule = 5; required = 567; source = 0 }) ++ (170 ∷ [])))
+pub example_output : output_of example lent ≡ (entry_bytes (record { id = 7; rule = 3; required = 617; source = 0 }) ++ (entry_bytes (record { id = 12; rule = 5; required = 567; source = 0 }) ++ (170 ∷ [])))
 unfolding checking
-example-output = refl
+example_output = refl
 
 -- and as text, byte for byte what the document shows, with the sources
 pub example-text :
@@ -71,17 +71,17 @@ pub example-text :
     ∷ 49 ∷ 50 ∷ 32 ∷ 53 ∷ 32 ∷ 53 ∷ 54 ∷ 55 ∷ 32 ∷ 48 ∷ 10
     ∷ 50 ∷ 32 ∷ 50 ∷ 10
     ∷ [])
-unfolding text_of printed textBy linesText line_of moreOf decimalOf digitsIn checking
+unfolding text_of printed text_by lines_text line_of more_of decimal_of digits_in checking
 example-text = refl
 
 -- mended, nothing fails
-pub mended-answer : answer_of mended 9 ≡ given (record { n = 2; failed = 0 })
+pub mended_answer : answer_of mended 9 ≡ given (record { n = 2; failed = 0 })
 unfolding checking
-mended-answer = refl
+mended_answer = refl
 
 -- the example with one byte too few, one byte changed, one too many, or too short an output, for each row of the table but 9: the version is 15, the wave height 61, the
 -- second record's kind 9, its K 1001, its id 7
-pub row-by-row : (answer_of (take 11 example) 9 ≡ refused 1 0)
+pub row_by_row : (answer_of (take 11 example) 9 ≡ refused 1 0)
     × (answer_of (set example 0 247) 9 ≡ refused 2 0)
     × (answer_of (set example 4 208) 9 ≡ refused 3 4)
     × (answer_of (example ++ (0 ∷ [])) 9 ≡ refused 4 0)
@@ -90,16 +90,16 @@ pub row-by-row : (answer_of (take 11 example) 9 ≡ refused 1 0)
     × (answer_of (set example 43 233) 9 ≡ refused 7 45)
     × (answer_of (set example 29 28) 9 ≡ refused 8 1)
 unfolding answer_of reading
-row-by-row = (refl, refl, refl, refl, refl, refl, refl, refl)
+row_by_row = (refl, refl, refl, refl, refl, refl, refl, refl)
 
 -- what is read for the light record after so many raisings
-abbrev pub lightAfter : ℕ → Answer Entry
-lightAfter count = read_entry (fourAt 0 (checker.after (raisedTimes checker lent count 0 light) lent))
+abbrev pub light_after : ℕ → Answer Entry
+light_after count = read_entry (four_at 0 (checker.after (raised_times checker lent count 0 light) lent))
 
 -- two raisings are not enough: 4 420, then 5 567, then 6 168, and a pass only after the third
-pub two-not-enough : (lightAfter 0 ≡ given (record { id = 12; rule = 4; required = 420; source = 0 }))
-    × (lightAfter 1 ≡ given (record { id = 12; rule = 5; required = 567; source = 0 }))
-    × (lightAfter 2 ≡ given (record { id = 12; rule = 6; required = 168; source = 0 }))
-    × (lightAfter 3 ≡ given (record { id = 12; rule = 0; required = 0; source = 0 }))
-unfolding raisedTimes withScantling replaced checking
-two-not-enough = (refl, refl, refl, refl)
+pub two_not_enough : (light_after 0 ≡ given (record { id = 12; rule = 4; required = 420; source = 0 }))
+    × (light_after 1 ≡ given (record { id = 12; rule = 5; required = 567; source = 0 }))
+    × (light_after 2 ≡ given (record { id = 12; rule = 6; required = 168; source = 0 }))
+    × (light_after 3 ≡ given (record { id = 12; rule = 0; required = 0; source = 0 }))
+unfolding raised_times with_scantling replaced checking
+two_not_enough = (refl, refl, refl, refl)

@@ -5,87 +5,87 @@ use Rattle.std.proofs.Common.{sym, ap, subst, ◌∙◌, arith, length-drop, len
 use Rattle.quantity.specs.Range.{from}
 use Rattle.layout.specs.Layout.{pack, unpack, bytes}
 use Rattle.layout.specs.Line.{Allowed}
-use Rattle.quantity.specs.laws.RangeLaws.{low-high}
+use Rattle.quantity.specs.laws.RangeLaws.{low_high}
 use Rattle.sheet.specs.declared.Header.{Header}
 use Rattle.sheet.specs.declared.Record.{Record}
 use Rattle.sheet.specs.Versions.{Version}
-use Rattle.sheet.specs.Lines.{plateWidths, memberWidths}
+use Rattle.sheet.specs.Lines.{plate_widths, member_widths}
 use Rattle.sheet.specs.Refusals.{given}
-use Rattle.sheet.specs.Header.{headerSize, headerOf, readHeader}
-use Rattle.sheet.specs.laws.HeaderBack.{read-holds}
-use Rattle.sheet.specs.laws.HeaderExactly.{header-read-given}
-use Rattle.sheet.specs.Record.{plateRecord, memberRecord, plateLinesOf, memberLinesOf, recordAt, number_in, linesAt, fields_at}
-use Rattle.sheet.specs.laws.RecordExactly.{record-read-given}
-use Rattle.checker.specs.Check.{recordsPart, recordPart, recordOf}
-use Rattle.checker.specs.laws.CheckLaws.{part-past}
-use Rattle.demands.specs.Table.{headSize, number_of, kind_of, id_of, HeaderSound, RecordSound}
+use Rattle.sheet.specs.Header.{header_size, header_of, read_header}
+use Rattle.sheet.specs.laws.HeaderBack.{read_holds}
+use Rattle.sheet.specs.laws.HeaderExactly.{header_read_given}
+use Rattle.sheet.specs.Record.{plate_record, member_record, plate_lines_of, member_lines_of, record_at, number_in, lines_at, fields_at}
+use Rattle.sheet.specs.laws.RecordExactly.{record_read_given}
+use Rattle.checker.specs.Check.{records_part, record_part, record_of}
+use Rattle.checker.specs.laws.CheckLaws.{part_past}
+use Rattle.demands.specs.Table.{head_size, number_of, kind_of, id_of, HeaderSound, RecordSound}
 
 -- the bytes of all records: those after the header's
-abbrev pub recordsOf : List ℕ → List ℕ
-recordsOf s = drop (headSize s) s
+abbrev pub records_of : List ℕ → List ℕ
+records_of s = drop (head_size s) s
 
 module _ (s : List ℕ) where
   -- the header that its fields are is the one that is read
-  pub header-sound : (h : Header) → readHeader s ≡ given h → HeaderSound s × (headerOf s ≡ h)
-  header-sound h e = let r = (header-read-given s h).0 e in (record { long = r.0; fields = r.1 }, r.2)
+  pub header_sound : (h : Header) → read_header s ≡ given h → HeaderSound s × (header_of s ≡ h)
+  header_sound h e = let r = (header_read_given s h).0 e in (record { long = r.0; fields = r.1 }, r.2)
 
-  pub header-given : HeaderSound s → readHeader s ≡ given (headerOf s)
-  header-given f = (header-read-given s (headerOf s)).1 (f.long, f.fields, refl)
+  pub header_given : HeaderSound s → read_header s ≡ given (header_of s)
+  header_given f = (header_read_given s (header_of s)).1 (f.long, f.fields, refl)
 
   -- its bytes are as many as its version takes, and the others are the records'
-  pub size-read : (h : Header) → readHeader s ≡ given h → headSize s ≡ headerSize h
-  size-read h e = ap (λ (v : Version). v.size) (read-holds s h e).version
+  pub size_read : (h : Header) → read_header s ≡ given h → head_size s ≡ header_size h
+  size_read h e = ap (λ (v : Version). v.size) (read_holds s h e).version
 
-  pub records-read : (h : Header) → readHeader s ≡ given h → recordsOf s ≡ recordsPart h s
-  records-read h e = ap (λ (k : ℕ). drop k s) (size-read h e)
+  pub records_read : (h : Header) → read_header s ≡ given h → records_of s ≡ records_part h s
+  records_read h e = ap (λ (k : ℕ). drop k s) (size_read h e)
 
 -- the sixteen bytes of record i, among the bytes of all records, as they are read
-module _ (s b : List ℕ) (all : recordsOf s ≡ b) (i : ℕ) where
-  part-is : recordPart b i ≡ take 16 (drop (headSize s + 16 * i) s)
-  part-is = ap (λ (l : List ℕ). recordPart l i) (sym all) ∙ part-past (headSize s) s i
+module _ (s b : List ℕ) (all : records_of s ≡ b) (i : ℕ) where
+  part_is : record_part b i ≡ take 16 (drop (head_size s + 16 * i) s)
+  part_is = ap (λ (l : List ℕ). record_part l i) (sym all) ∙ part_past (head_size s) s i
 
-  pub number_read : number_in (recordPart b i) ≡ number_of s i
-  number_read = ap number_in part-is ∙ ap (pack (bytes 16)) (take-take 16 16 (drop (headSize s + 16 * i) s) (omega arith))
+  pub number_read : number_in (record_part b i) ≡ number_of s i
+  number_read = ap number_in part_is ∙ ap (pack (bytes 16)) (take-take 16 16 (drop (head_size s + 16 * i) s) (omega arith))
 
-  pub part_length : headSize s + 16 * i + 16 ≤ length s → 16 ≤ length (recordPart b i)
+  pub part_length : head_size s + 16 * i + 16 ≤ length s → 16 ≤ length (record_part b i)
   part_length l =
-      omega (arith, ap length part-is, length-take-le 16 (drop (headSize s + 16 * i) s) (omega (arith, length-drop (headSize s + 16 * i) s)))
+      omega (arith, ap length part_is, length-take-le 16 (drop (head_size s + 16 * i) s) (omega (arith, length-drop (head_size s + 16 * i) s)))
 
   -- a record that is read is within its values, and is the one that its fields are
-  pub record-sound : (r : Record) → recordOf b i ≡ given r → RecordSound s i × (recordAt (number_of s i) ≡ r)
-  record-sound r e =
-      let q = (record-read-given i (recordPart b i) r).0 e in
-      (subst (λ (n : ℕ). Allowed (linesAt n) (fields_at n)) number_read q.1, ap recordAt (sym number_read) ∙ q.2)
+  pub record_sound : (r : Record) → record_of b i ≡ given r → RecordSound s i × (record_at (number_of s i) ≡ r)
+  record_sound r e =
+      let q = (record_read_given i (record_part b i) r).0 e in
+      (subst (λ (n : ℕ). Allowed (lines_at n) (fields_at n)) number_read q.1, ap record_at (sym number_read) ∙ q.2)
 
-  pub record_is : headSize s + 16 * i + 16 ≤ length s → RecordSound s i → recordOf b i ≡ given (recordAt (number_of s i))
+  pub record_is : head_size s + 16 * i + 16 ≤ length s → RecordSound s i → record_of b i ≡ given (record_at (number_of s i))
   record_is l a =
-      (record-read-given i (recordPart b i) (recordAt (number_of s i))).1
-      (part_length l, subst (λ (n : ℕ). Allowed (linesAt n) (fields_at n)) (sym number_read) a, ap recordAt number_read)
+      (record_read_given i (record_part b i) (record_at (number_of s i))).1
+      (part_length l, subst (λ (n : ℕ). Allowed (lines_at n) (fields_at n)) (sym number_read) a, ap record_at number_read)
 
 module _ (s : List ℕ) (i : ℕ) where
-  pub record-id-field : (recordAt (number_of s i)).id ≡ id_of s i
-  record-id-field = go (ltb (kind_of s i) 5)
+  pub record_id_field : (record_at (number_of s i)).id ≡ id_of s i
+  record_id_field = go (ltb (kind_of s i) 5)
     where
       vs : List ℕ
-      vs = unpack plateWidths (number_of s i)
+      vs = unpack plate_widths (number_of s i)
 
       ws : List ℕ
-      ws = unpack memberWidths (number_of s i)
+      ws = unpack member_widths (number_of s i)
 
-      go : (t : Bool) → (cond t (plateRecord vs) (memberRecord ws)).id ≡ get_or (cond t vs ws) 1 0
+      go : (t : Bool) → (cond t (plate_record vs) (member_record ws)).id ≡ get_or (cond t vs ws) 1 0
       go true = refl
       go false = refl
 
   -- its id is at least 1
-  pub sound-id : RecordSound s i → 1 ≤ id_of s i
-  sound-id a = go (ltb (kind_of s i) 5) a
+  pub sound_id : RecordSound s i → 1 ≤ id_of s i
+  sound_id a = go (ltb (kind_of s i) 5) a
     where
       vs : List ℕ
-      vs = unpack plateWidths (number_of s i)
+      vs = unpack plate_widths (number_of s i)
 
       ws : List ℕ
-      ws = unpack memberWidths (number_of s i)
+      ws = unpack member_widths (number_of s i)
 
-      go : (t : Bool) → Allowed (cond t (plateLinesOf vs) (memberLinesOf ws)) (cond t vs ws) → 1 ≤ get_or (cond t vs ws) 1 0
-      go true b = (low-high (from 1 1000) (get_or vs 1 0) b.1.0).0
-      go false b = (low-high (from 1 1000) (get_or ws 1 0) b.1.0).0
+      go : (t : Bool) → Allowed (cond t (plate_lines_of vs) (member_lines_of ws)) (cond t vs ws) → 1 ≤ get_or (cond t vs ws) 1 0
+      go true b = (low_high (from 1 1000) (get_or vs 1 0) b.1.0).0
+      go false b = (low_high (from 1 1000) (get_or ws 1 0) b.1.0).0

@@ -7,15 +7,15 @@ use Rattle.truth.specs.laws.Tests.{clash}
 use Rattle.layout.specs.Layout.{unpack}
 use Rattle.sheet.specs.declared.Header.{Header}
 use Rattle.sheet.specs.Exactly.{Exactly}
-use Rattle.sheet.specs.Lines.{plateWidths, memberWidths}
-use Rattle.sheet.specs.Record.{plateAt, memberAt, plateRecord, memberRecord}
-use Rattle.verdict.specs.Verdict.{Rule, pass, failing, verdictOf, metIn}
+use Rattle.sheet.specs.Lines.{plate_widths, member_widths}
+use Rattle.sheet.specs.Record.{plate_at, member_at, plate_record, member_record}
+use Rattle.verdict.specs.Verdict.{Rule, pass, failing, verdict_of, met_in}
 use Rattle.plating.specs.Rules.{asked1, asked2, asked3}
-use Rattle.framing.specs.Rules.{webRule, bendingRule, shearRule}
-use Rattle.hull.specs.Hull.{rulesOf, verdict}
+use Rattle.framing.specs.Rules.{web_rule, bending_rule, shear_rule}
+use Rattle.hull.specs.Hull.{rules_of, verdict}
 use Rattle.demands.specs.Table.{number_of, kind_of}
-use Rattle.demands.specs.Raise.{theHeader, theRecord, meetsRule}
-use Rattle.demands.specs.Demands.{firstRule, AnswersTo, FirstUnmet}
+use Rattle.demands.specs.Raise.{the_header, the_record, meets_rule}
+use Rattle.demands.specs.Demands.{first_rule, AnswersTo, FirstUnmet}
 
 -- ---- of the rules n, n + 1 and n + 2, by which of them are met
 
@@ -95,9 +95,9 @@ module _ (n : ℕ) (met : ℕ → Bool) where
 -- ---- of a record
 
 -- the number of the first of three rules that fails
-rule-of : (a b c : Rule)
-    → (verdictOf (a ∷ b ∷ c ∷ [])).rule ≡ cond (a.asks a.has) (cond (b.asks b.has) (cond (c.asks c.has) 0 c.number) b.number) a.number
-rule-of a b c = go (a.asks a.has) (b.asks b.has) (c.asks c.has)
+rule_of : (a b c : Rule)
+    → (verdict_of (a ∷ b ∷ c ∷ [])).rule ≡ cond (a.asks a.has) (cond (b.asks b.has) (cond (c.asks c.has) 0 c.number) b.number) a.number
+rule_of a b c = go (a.asks a.has) (b.asks b.has) (c.asks c.has)
   where
     go : (x y z : Bool) → (cond x (cond y (cond z pass (failing c)) (failing b)) (failing a)).rule ≡ cond x (cond y (cond z 0 c.number) b.number) a.number
     go true true true = refl
@@ -107,34 +107,34 @@ rule-of a b c = go (a.asks a.has) (b.asks b.has) (c.asks c.has)
 
 module _ (s : List ℕ) (i : ℕ) where
   -- the verdict names the first of its rules that it does not meet
-  rule-first : (verdict (theHeader s) (theRecord s i)).rule ≡ first_of (firstRule s i) (meetsRule s i)
-  rule-first = go (theHeader s) (unpack plateWidths (number_of s i)) (unpack memberWidths (number_of s i)) (ltb (kind_of s i) 5)
+  rule_first : (verdict (the_header s) (the_record s i)).rule ≡ first_of (first_rule s i) (meets_rule s i)
+  rule_first = go (the_header s) (unpack plate_widths (number_of s i)) (unpack member_widths (number_of s i)) (ltb (kind_of s i) 5)
     where
       go : (h : Header) (vs ws : List ℕ) (t : Bool)
-          → (verdict h (cond t (plateRecord vs) (memberRecord ws))).rule ≡ first_of (cond t 1 4) (λ k. metIn k (rulesOf h (cond t (plateRecord vs) (memberRecord ws))))
+          → (verdict h (cond t (plate_record vs) (member_record ws))).rule ≡ first_of (cond t 1 4) (λ k. met_in k (rules_of h (cond t (plate_record vs) (member_record ws))))
       go h vs ws true =
           let kind = get_or vs 0 0 in
-          let p = plateAt vs in
-          rule-of (asked1 h kind p) (asked2 h kind p) (asked3 h kind p)
+          let p = plate_at vs in
+          rule_of (asked1 h kind p) (asked2 h kind p) (asked3 h kind p)
       go h vs ws false =
           let kind = get_or ws 0 0 in
-          let m = memberAt ws in
-          rule-of (webRule h kind m) (bendingRule h kind m) (shearRule h kind m)
+          let m = member_at ws in
+          rule_of (web_rule h kind m) (bending_rule h kind m) (shear_rule h kind m)
 
   low : (t : Bool) → 1 ≤ cond t 1 4
   low true = omega arith
   low false = omega arith
 
-  pub rule-passes : Exactly ((verdict (theHeader s) (theRecord s i)).rule ≡ 0) ((k : ℕ) → AnswersTo s i k → meetsRule s i k ≡ true)
-  rule-passes =
-      let q = passes (firstRule s i) (meetsRule s i) (low (ltb (kind_of s i) 5)) in (
-        λ e k o. q.0 (sym rule-first ∙ e) k (omega (arith, o.0), omega (arith, o.1)),
-        λ all. rule-first ∙ q.1 (λ k o. all k (omega (arith, o.0), omega (arith, o.1))),
+  pub rule_passes : Exactly ((verdict (the_header s) (the_record s i)).rule ≡ 0) ((k : ℕ) → AnswersTo s i k → meets_rule s i k ≡ true)
+  rule_passes =
+      let q = passes (first_rule s i) (meets_rule s i) (low (ltb (kind_of s i) 5)) in (
+        λ e k o. q.0 (sym rule_first ∙ e) k (omega (arith, o.0), omega (arith, o.1)),
+        λ all. rule_first ∙ q.1 (λ k o. all k (omega (arith, o.0), omega (arith, o.1))),
       )
 
-  pub rule-fails : (k : ℕ) → 1 ≤ k → Exactly ((verdict (theHeader s) (theRecord s i)).rule ≡ k) (FirstUnmet s i k)
-  rule-fails k from =
-      let q = fails (firstRule s i) (meetsRule s i) k from in (
-        λ e. let w = q.0 (sym rule-first ∙ e) in record { own = w.own; unmet = w.unmet; earlier = λ j o l. w.earlier j o (omega arith) },
-        λ w. rule-first ∙ q.1 (record { own = w.own; unmet = w.unmet; earlier = λ j o l. w.earlier j o (omega arith) }),
+  pub rule_fails : (k : ℕ) → 1 ≤ k → Exactly ((verdict (the_header s) (the_record s i)).rule ≡ k) (FirstUnmet s i k)
+  rule_fails k from =
+      let q = fails (first_rule s i) (meets_rule s i) k from in (
+        λ e. let w = q.0 (sym rule_first ∙ e) in record { own = w.own; unmet = w.unmet; earlier = λ j o l. w.earlier j o (omega arith) },
+        λ w. rule_first ∙ q.1 (record { own = w.own; unmet = w.unmet; earlier = λ j o l. w.earlier j o (omega arith) }),
       )

@@ -10,13 +10,13 @@ use Rattle.std.proofs.lemmas.List.{take-append-le, drop-append-le}
 use Rattle.sheet.specs.declared.Header.{Header}
 use Rattle.sheet.specs.declared.Record.{Record}
 use Rattle.sheet.specs.Refusals.{given}
-use Rattle.sheet.specs.Header.{headerSize, readHeader}
-use Rattle.sheet.specs.laws.HeaderFront.{header-prefix}
-use Rattle.sheet.specs.Record.{readRecord, recordFault, recordBytes}
-use Rattle.sheet.specs.laws.OwnBytes.{record-bytes-length, record-bytes-read}
-use Rattle.checker.specs.Check.{recordOf}
-use Rattle.checker.specs.laws.CheckLaws.{part-past}
-use Rattle.demands.specs.Table.{headSize}
+use Rattle.sheet.specs.Header.{header_size, read_header}
+use Rattle.sheet.specs.laws.HeaderFront.{header_prefix}
+use Rattle.sheet.specs.Record.{read_record, record_fault, record_bytes}
+use Rattle.sheet.specs.laws.OwnBytes.{record_bytes_length, record_bytes_read}
+use Rattle.checker.specs.Check.{record_of}
+use Rattle.checker.specs.laws.CheckLaws.{part_past}
+use Rattle.demands.specs.Table.{head_size}
 use Rattle.demands.specs.Raise.{replaced}
 
 -- ---- lists
@@ -27,8 +27,8 @@ three p b q = p ++ (b ++ q)
 
 module _ (p b q : List ℕ) (m : ℕ) (lp : length p ≡ m) (lb : length b ≡ 16) where
   -- the middle part
-  in-middle : take 16 (drop m (three p b q)) ≡ b
-  in-middle = ap (take 16) (drop_at p (b ++ q) m lp) ∙ take_at b q 16 lb
+  in_middle : take 16 (drop m (three p b q)) ≡ b
+  in_middle = ap (take 16) (drop_at p (b ++ q) m lp) ∙ take_at b q 16 lb
 
   -- sixteen before it
   before : (a : ℕ) → a + 16 ≤ m → take 16 (drop a (three p b q)) ≡ take 16 (drop a p)
@@ -46,25 +46,25 @@ module _ (p b q : List ℕ) (m : ℕ) (lp : length p ≡ m) (lb : length b ≡ 1
 
 -- ---- a sheet with one record replaced, whose header has k bytes
 
-module _ (s : List ℕ) (k : ℕ) (sized : headSize s ≡ k) (i : ℕ) (r : Record) (z : recordFault r 0 ≡ 0) (l : k + 16 * i + 16 ≤ length s) where
+module _ (s : List ℕ) (k : ℕ) (sized : head_size s ≡ k) (i : ℕ) (r : Record) (z : record_fault r 0 ≡ 0) (l : k + 16 * i + 16 ≤ length s) where
   abbrev new : List ℕ
-  new = replaced i (recordBytes r) s
+  new = replaced i (record_bytes r) s
 
   abbrev from : ℕ
   from = k + 16 * i
 
   abbrev bytes_of : List ℕ
-  bytes_of = three (take from s) (recordBytes r) (drop (from + 16) s)
+  bytes_of = three (take from s) (record_bytes r) (drop (from + 16) s)
 
   new_is : new ≡ bytes_of
   unfolding replaced
-  new_is = ap (λ (n : ℕ). take (n + 16 * i) s ++ (recordBytes r ++ drop (n + 16 * i + 16) s)) sized
+  new_is = ap (λ (n : ℕ). take (n + 16 * i) s ++ (record_bytes r ++ drop (n + 16 * i + 16) s)) sized
 
-  start-length : length (take from s) ≡ from
-  start-length = length-take-le from s (omega arith)
+  start_length : length (take from s) ≡ from
+  start_length = length-take-le from s (omega arith)
 
-  old-length : length (take 16 (drop from s)) ≡ 16
-  old-length = length-take-le 16 (drop from s) (omega (arith, length-drop from s))
+  old_length : length (take 16 (drop from s)) ≡ 16
+  old_length = length-take-le 16 (drop from s) (omega (arith, length-drop from s))
 
   -- the sheet as it was, in the same three parts
   parts : three (take from s) (take 16 (drop from s)) (drop (from + 16) s) ≡ s
@@ -73,43 +73,43 @@ module _ (s : List ℕ) (k : ℕ) (sized : headSize s ≡ k) (i : ℕ) (r : Reco
       ∙ ap (λ (t : List ℕ). take from s ++ t) (take-append-drop 16 (drop from s))
       ∙ take-append-drop from s
 
-  pub replaced-length : length new ≡ length s
-  replaced-length =
+  pub replaced_length : length new ≡ length s
+  replaced_length =
       ap length new_is
-      ∙ omega (arith, length-append (take from s) (recordBytes r ++ drop (from + 16) s), length-append (recordBytes r) (drop (from + 16) s), length-drop (from + 16) s, start-length, record-bytes-length r)
+      ∙ omega (arith, length-append (take from s) (record_bytes r ++ drop (from + 16) s), length-append (record_bytes r) (drop (from + 16) s), length-drop (from + 16) s, start_length, record_bytes_length r)
 
   -- the header is read as before
-  pub replaced-header : (h : Header) → headerSize h ≡ k → readHeader s ≡ given h → readHeader new ≡ given h
-  replaced-header h size e =
-      let a : headerSize h ≤ length (take from s) = omega (arith, start-length) in
-      let same : take (headerSize h) new ≡ take (headerSize h) s =
-      ap (take (headerSize h)) new_is
-      ∙ take-append-le (headerSize h) (take from s) (recordBytes r ++ drop (from + 16) s) a
-      ∙ take-take (headerSize h) from s (omega arith) in
-      header-prefix s new h e same
+  pub replaced_header : (h : Header) → header_size h ≡ k → read_header s ≡ given h → read_header new ≡ given h
+  replaced_header h size e =
+      let a : header_size h ≤ length (take from s) = omega (arith, start_length) in
+      let same : take (header_size h) new ≡ take (header_size h) s =
+      ap (take (header_size h)) new_is
+      ∙ take-append-le (header_size h) (take from s) (record_bytes r ++ drop (from + 16) s) a
+      ∙ take-take (header_size h) from s (omega arith) in
+      header_prefix s new h e same
 
   -- record i is the new one
-  pub replaced-record : recordOf (drop k new) i ≡ given r
-  replaced-record =
-      ap (readRecord i)
-      (part-past k new i ∙ ap (λ (t : List ℕ). take 16 (drop from t)) new_is ∙ in-middle (take from s) (recordBytes r) (drop (from + 16) s) from start-length (record-bytes-length r))
-      ∙ record-bytes-read i r z
+  pub replaced_record : record_of (drop k new) i ≡ given r
+  replaced_record =
+      ap (read_record i)
+      (part_past k new i ∙ ap (λ (t : List ℕ). take 16 (drop from t)) new_is ∙ in_middle (take from s) (record_bytes r) (drop (from + 16) s) from start_length (record_bytes_length r))
+      ∙ record_bytes_read i r z
 
   -- and every other record is read as before
-  pub replaced-others : (j : ℕ) → (j ≡ i → ⊥) → recordOf (drop k new) j ≡ recordOf (drop k s) j
-  replaced-others j n = ap (readRecord j) (part-past k new j ∙ ap (λ (t : List ℕ). take 16 (drop (k + 16 * j) t)) new_is ∙ go (dec_lt j i) ∙ sym (part-past k s j))
+  pub replaced_others : (j : ℕ) → (j ≡ i → ⊥) → record_of (drop k new) j ≡ record_of (drop k s) j
+  replaced_others j n = ap (read_record j) (part_past k new j ∙ ap (λ (t : List ℕ). take 16 (drop (k + 16 * j) t)) new_is ∙ go (dec_lt j i) ∙ sym (part_past k s j))
     where
       go : Dec (j < i) → take 16 (drop (k + 16 * j) bytes_of) ≡ take 16 (drop (k + 16 * j) s)
       go (yes h) =
-          before (take from s) (recordBytes r) (drop (from + 16) s) from start-length (record-bytes-length r) (k + 16 * j) (omega arith)
-          ∙ sym (before (take from s) (take 16 (drop from s)) (drop (from + 16) s) from start-length old-length (k + 16 * j) (omega arith))
+          before (take from s) (record_bytes r) (drop (from + 16) s) from start_length (record_bytes_length r) (k + 16 * j) (omega arith)
+          ∙ sym (before (take from s) (take 16 (drop from s)) (drop (from + 16) s) from start_length old_length (k + 16 * j) (omega arith))
           ∙ ap (λ (t : List ℕ). take 16 (drop (k + 16 * j) t)) parts
       go (no h) =
           let m = 16 * (j - i - 1) in
           let at : from + 16 + m ≡ k + 16 * j = omega (arith, n) in
           let old = three (take from s) (take 16 (drop from s)) (drop (from + 16) s) in
           ap (λ (x : ℕ). take 16 (drop x bytes_of)) (sym at)
-          ∙ after (take from s) (recordBytes r) (drop (from + 16) s) from start-length (record-bytes-length r) m
-          ∙ sym (after (take from s) (take 16 (drop from s)) (drop (from + 16) s) from start-length old-length m)
+          ∙ after (take from s) (record_bytes r) (drop (from + 16) s) from start_length (record_bytes_length r) m
+          ∙ sym (after (take from s) (take 16 (drop from s)) (drop (from + 16) s) from start_length old_length m)
           ∙ ap (λ (x : ℕ). take 16 (drop x old)) at
           ∙ ap (λ (t : List ℕ). take 16 (drop (k + 16 * j) t)) parts

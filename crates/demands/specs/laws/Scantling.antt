@@ -9,58 +9,58 @@ use Rattle.sheet.specs.declared.Header.{Header}
 use Rattle.sheet.specs.declared.Record.{Record}
 use Rattle.sheet.specs.Exactly.{Exactly}
 use Rattle.verdict.specs.declared.Verdict.{Verdict}
-use Rattle.verdict.specs.Verdict.{metIn}
-use Rattle.verdict.specs.Raising.{Failing, Later, AllMonotone, Required, the-rule}
-use Rattle.verdict.specs.laws.RaisingLaws.{failing-of, failing-above, names, has-under}
-use Rattle.verdict.specs.laws.PutLaws.{put-met, put-later, put-fails}
-use Rattle.hull.specs.Hull.{rulesOf, verdict}
-use Rattle.hull.specs.Raising.{putRecord, gaugeTop, InGauge, base, OwnRule}
-use Rattle.hull.specs.laws.PutLaws.{rules-rising, failing-own, rule-top, body-put}
-use Rattle.hull.specs.laws.RaisingLaws.{rules-monotone}
+use Rattle.verdict.specs.Verdict.{met_in}
+use Rattle.verdict.specs.Raising.{Failing, Later, AllMonotone, Required, the_rule}
+use Rattle.verdict.specs.laws.RaisingLaws.{failing_of, failing_above, names, has_under}
+use Rattle.verdict.specs.laws.PutLaws.{put_met, put_later, put_fails}
+use Rattle.hull.specs.Hull.{rules_of, verdict}
+use Rattle.hull.specs.Raising.{put_record, gauge_top, InGauge, base, OwnRule}
+use Rattle.hull.specs.laws.PutLaws.{rules_rising, failing_own, rule_top, body_put}
+use Rattle.hull.specs.laws.RaisingLaws.{rules_monotone}
 use Rattle.demands.specs.Raise.{Reaches}
 
-pub rule-above : (h : Header) (r : Record) → Failing (verdict h r) (rulesOf h r) → 1 ≤ (verdict h r).rule
-rule-above h r f = omega (arith, failing-above (base r.body) (verdict h r) (rulesOf h r) (rules-rising h r.kind r.body) f)
+pub rule_above : (h : Header) (r : Record) → Failing (verdict h r) (rules_of h r) → 1 ≤ (verdict h r).rule
+rule_above h r f = omega (arith, failing_above (base r.body) (verdict h r) (rules_of h r) (rules_rising h r.kind r.body) f)
 
 module _ (h : Header) (r : Record) (some : 1 ≤ (verdict h r).rule) where
-  failing-rule : Failing (verdict h r) (rulesOf h r)
-  failing-rule = failing-of (rulesOf h r) (λ p. omega (arith, ap (λ (v : Verdict). v.rule) p))
+  failing_rule : Failing (verdict h r) (rules_of h r)
+  failing_rule = failing_of (rules_of h r) (λ p. omega (arith, ap (λ (v : Verdict). v.rule) p))
 
-  monotone : AllMonotone (rulesOf h r)
-  monotone = rules-monotone h r.kind r.body
+  monotone : AllMonotone (rules_of h r)
+  monotone = rules_monotone h r.kind r.body
 
-  least : Required (the-rule failing-rule).asks (the-rule failing-rule).top (verdict h r).required
-  least = (names failing-rule monotone).least
+  least : Required (the_rule failing_rule).asks (the_rule failing_rule).top (verdict h r).required
+  least = (names failing_rule monotone).least
 
-  top : (the-rule failing-rule).top ≡ gaugeTop (verdict h r).rule
-  top = rule-top h r.kind r.body (verdict h r) failing-rule
+  top : (the_rule failing_rule).top ≡ gauge_top (verdict h r).rule
+  top = rule_top h r.kind r.body (verdict h r) failing_rule
 
   -- the rule named is the record's own
-  pub named-own : OwnRule r.body (verdict h r).rule
-  named-own = failing-own h r.kind r.body (verdict h r) failing-rule
+  pub named_own : OwnRule r.body (verdict h r).rule
+  named_own = failing_own h r.kind r.body (verdict h r) failing_rule
 
   -- the number is in the gauge
-  pub number-in-gauge : (verdict h r).required ≤ gaugeTop (verdict h r).rule
-  number-in-gauge = go (verdict h r).required refl
+  pub number_in_gauge : (verdict h r).required ≤ gauge_top (verdict h r).rule
+  number_in_gauge = go (verdict h r).required refl
     where
-      go : (n : ℕ) → (verdict h r).required ≡ n → n ≤ gaugeTop (verdict h r).rule
+      go : (n : ℕ) → (verdict h r).required ≡ n → n ≤ gauge_top (verdict h r).rule
       go zero e = omega arith
       go (suc n) e = omega (arith, least.within (omega arith), top)
 
   module _ (x : ℕ) (gauge : InGauge (verdict h r).rule x) where
     -- what the rule says of x
-    asked : (the-rule failing-rule).asks x ≡ metIn (verdict h r).rule (rulesOf h (putRecord (verdict h r).rule x r))
+    asked : (the_rule failing_rule).asks x ≡ met_in (verdict h r).rule (rules_of h (put_record (verdict h r).rule x r))
     asked =
         sym
-        (put-met x ((the-rule failing-rule).has ≤ x) (verdict h r) (base r.body) (rulesOf h r) (rulesOf h (putRecord (verdict h r).rule x r)) (rules-rising h r.kind r.body)
-        (body-put h r.kind r.body (verdict h r) failing-rule x)
-        failing-rule)
+        (put_met x ((the_rule failing_rule).has ≤ x) (verdict h r) (base r.body) (rules_of h r) (rules_of h (put_record (verdict h r).rule x r)) (rules_rising h r.kind r.body)
+        (body_put h r.kind r.body (verdict h r) failing_rule x)
+        failing_rule)
 
     -- x meets the rule exactly when it is not below the number
-    asks-exactly : Exactly ((the-rule failing-rule).asks x ≡ true) (Reaches (verdict h r).required x)
-    asks-exactly = (λ e. go (verdict h r).required refl e, λ b. least.larger b.0 x b.1)
+    asks_exactly : Exactly ((the_rule failing_rule).asks x ≡ true) (Reaches (verdict h r).required x)
+    asks_exactly = (λ e. go (verdict h r).required refl e, λ b. least.larger b.0 x b.1)
       where
-        go : (n : ℕ) → (verdict h r).required ≡ n → (the-rule failing-rule).asks x ≡ true → Reaches n x
+        go : (n : ℕ) → (verdict h r).required ≡ n → (the_rule failing_rule).asks x ≡ true → Reaches n x
         go zero e t = clash t (least.none e x gauge.0 (omega (arith, gauge.1, top)))
         go (suc n) e t = (omega arith, inside (dec_lt x (suc n)))
           where
@@ -68,27 +68,27 @@ module _ (h : Header) (r : Record) (some : 1 ≤ (verdict h r).rule) where
             inside (yes l) = clash t (least.smaller x gauge.0 (omega arith))
             inside (no l) = omega arith
 
-    pub met-exactly : Exactly (metIn (verdict h r).rule (rulesOf h (putRecord (verdict h r).rule x r)) ≡ true) (Reaches (verdict h r).required x)
-    met-exactly = (λ e. asks-exactly.0 (asked ∙ e), λ b. sym asked ∙ asks-exactly.1 b)
+    pub met_exactly : Exactly (met_in (verdict h r).rule (rules_of h (put_record (verdict h r).rule x r)) ≡ true) (Reaches (verdict h r).required x)
+    met_exactly = (λ e. asks_exactly.0 (asked ∙ e), λ b. sym asked ∙ asks_exactly.1 b)
 
     -- and then the verdict is a pass or a later rule
-    pub later-exactly : Exactly (Later (verdict h r).rule (verdict h (putRecord (verdict h r).rule x r))) (Reaches (verdict h r).required x)
-    later-exactly = (λ w. go ((the-rule failing-rule).asks x) refl w, back)
+    pub later_exactly : Exactly (Later (verdict h r).rule (verdict h (put_record (verdict h r).rule x r))) (Reaches (verdict h r).required x)
+    later_exactly = (λ w. go ((the_rule failing_rule).asks x) refl w, back)
       where
-        go : (b : Bool) → (the-rule failing-rule).asks x ≡ b → Later (verdict h r).rule (verdict h (putRecord (verdict h r).rule x r)) → Reaches (verdict h r).required x
-        go true e w = asks-exactly.0 e
+        go : (b : Bool) → (the_rule failing_rule).asks x ≡ b → Later (verdict h r).rule (verdict h (put_record (verdict h r).rule x r)) → Reaches (verdict h r).required x
+        go true e w = asks_exactly.0 e
         go false e w =
             absurd
-            (put-fails x ((the-rule failing-rule).has ≤ x) (verdict h r) (base r.body) (rulesOf h r) (rulesOf h (putRecord (verdict h r).rule x r)) (rules-rising h r.kind r.body)
-            (body-put h r.kind r.body (verdict h r) failing-rule x)
-            failing-rule
+            (put_fails x ((the_rule failing_rule).has ≤ x) (verdict h r) (base r.body) (rules_of h r) (rules_of h (put_record (verdict h r).rule x r)) (rules_rising h r.kind r.body)
+            (body_put h r.kind r.body (verdict h r) failing_rule x)
+            failing_rule
             e
             w)
 
-        back : Reaches (verdict h r).required x → Later (verdict h r).rule (verdict h (putRecord (verdict h r).rule x r))
+        back : Reaches (verdict h r).required x → Later (verdict h r).rule (verdict h (put_record (verdict h r).rule x r))
         back b =
-            put-later x ((the-rule failing-rule).has ≤ x) (verdict h r) (base r.body) (rulesOf h r) (rulesOf h (putRecord (verdict h r).rule x r)) (rules-rising h r.kind r.body) monotone
-            (body-put h r.kind r.body (verdict h r) failing-rule x)
-            (omega (arith, (has-under failing-rule monotone b.0).0))
-            failing-rule
-            (asks-exactly.1 b)
+            put_later x ((the_rule failing_rule).has ≤ x) (verdict h r) (base r.body) (rules_of h r) (rules_of h (put_record (verdict h r).rule x r)) (rules_rising h r.kind r.body) monotone
+            (body_put h r.kind r.body (verdict h r) failing_rule x)
+            (omega (arith, (has_under failing_rule monotone b.0).0))
+            failing_rule
+            (asks_exactly.1 b)

@@ -6,17 +6,17 @@ use Prim.Native.Nat.{◌+◌, ◌≤◌, ◌<◌}
 use native.Mathlib.Omega.{arith}
 use lib.ListN.{length}
 use Rattle.sheet.specs.declared.Header.{Header}
-use Rattle.sheet.specs.Refusals.{given, toldOutcome, headerRefused}
-use Rattle.sheet.specs.Header.{headerSize, headerFault}
+use Rattle.sheet.specs.Refusals.{given, told_outcome, header_refused}
+use Rattle.sheet.specs.Header.{header_size, header_fault}
 use Rattle.sheet.specs.laws.VersionLaws.{regular}
-use Rattle.checker.specs.Check.{sheetSize}
+use Rattle.checker.specs.Check.{sheet_size}
 use Rattle.edit.specs.Edit.{highest, counting, inserting}
-use Rattle.edit.proofs.Answers.{no_room, room-for-one, at-highest, below-highest, size, its-header, place-most, put_full, put-inserted}
+use Rattle.edit.proofs.Answers.{no_room, room_for_one, at_highest, below_highest, size, its_header, place_most, put_full, put_inserted}
 use Rattle.edit.proofs.put_new.Statement.{statement}
 use Rattle.edit.proofs.put_new.Tie as tie
 
 -- the buffer has room for the sheet
-within : (c : tie.Start) → (c.args.len ≡ sheetSize c.args.h) × (c.args.len ≤ length c.args.buf.now) × (c.args.h.count ≤ highest c.args.h)
+within : (c : tie.Start) → (c.args.len ≡ sheet_size c.args.h) × (c.args.len ≤ length c.args.buf.now) × (c.args.h.count ≤ highest c.args.h)
 within c = size c.args.buf.now c.args.len c.args.h c.requires.0
 
 returns : tie.Need-returns
@@ -34,11 +34,11 @@ module _ (c : tie.After-header-fault) where
   more : c.before.counted.result ≡ counting (start_of.args.h.count + 1) start_of.args.h
   more = c.before.counted.ensures
 
-  tested : toldOutcome c.header-fault.result ≡ headerRefused (headerFault (counting (start_of.args.h.count + 1) start_of.args.h)) (given (tt {0}))
-  tested = c.header-fault.ensures ∙ ap (λ (g : Header). headerRefused (headerFault g) (given (tt {0}))) more
+  tested : told_outcome c.header-fault.result ≡ header_refused (header_fault (counting (start_of.args.h.count + 1) start_of.args.h)) (given (tt {0}))
+  tested = c.header-fault.ensures ∙ ap (λ (g : Header). header_refused (header_fault g) (given (tt {0}))) more
 
-  sound : headerFault start_of.args.h ≡ 0
-  sound = its-header start_of.args.buf.now start_of.args.len start_of.args.h start_of.pre.0
+  sound : header_fault start_of.args.h ≡ 0
+  sound = its_header start_of.args.buf.now start_of.args.len start_of.args.h start_of.pre.0
 
   room : start_of.args.len + 16 ≤ length start_of.args.buf.now
   room = omega (arith, (within start_of).1, c.before.before.before.if1.false)
@@ -50,14 +50,14 @@ returns-2 c =
     let a = s.args in
     let b = a.buf.now in
     put_full b a.len a.h s.pre.0 a.r s.pre.1 s.pre.3
-    (at-highest a.h (sound f) a.len (length b) _ _ (room f) (sym (ap toldOutcome c.enum_told.given.1) ∙ tested f))
+    (at_highest a.h (sound f) a.len (length b) _ _ (room f) (sym (ap told_outcome c.enum_told.given.1) ∙ tested f))
 
 -- none of the header's fields is at fault, and n is below its highest
-fine : (c : tie.After-enum-told2) → let a = (start_of c.before.before).args in (headerFault (counting (a.h.count + 1) a.h) ≡ 0) × (a.h.count < highest a.h)
+fine : (c : tie.After-enum-told2) → let a = (start_of c.before.before).args in (header_fault (counting (a.h.count + 1) a.h) ≡ 0) × (a.h.count < highest a.h)
 fine c =
     let f = c.before.before in
     let a = (start_of f).args in
-    below-highest a.h (sound f) (sym (ap toldOutcome c.enum-told2.given.1) ∙ tested f)
+    below_highest a.h (sound f) (sym (ap told_outcome c.enum-told2.given.1) ∙ tested f)
 
 insert-requires : tie.Need-insert-requires
 insert-requires c κs =
@@ -66,9 +66,9 @@ insert-requires c κs =
     let a = s.args in
     let b = a.buf.now in
     record {
-      header = ap (λ (g : Header). headerFault g) (more f) ∙ (fine c.before).0;
+      header = ap (λ (g : Header). header_fault g) (more f) ∙ (fine c.before).0;
       sound = s.pre.1;
-      inside = omega (arith, ap (λ (g : Header). headerSize g) (more f), (within s).0, s.pre.2, place-most b a.len a.h s.pre.0 a.r.id);
+      inside = omega (arith, ap (λ (g : Header). header_size g) (more f), (within s).0, s.pre.2, place_most b a.len a.h s.pre.0 a.r.id);
       room = room f;
     }
 
@@ -80,7 +80,7 @@ returns-3 c =
     let s = start_of f in
     let a = s.args in
     let b = a.buf.now in
-    put-inserted b a.len a.h s.pre.0 a.r s.pre.1 s.pre.3 (room-for-one a.h a.len (length b) (room f) (fine e).1) f.before.counted.result (more f)
+    put_inserted b a.len a.h s.pre.0 a.r s.pre.1 s.pre.3 (room_for_one a.h a.len (length b) (room f) (fine e).1) f.before.counted.result (more f)
     p.insert.new.0
     (p.insert.ensures ∙ ap (λ n. inserting f.before.counted.result n a.len a.r b) s.pre.2)
 

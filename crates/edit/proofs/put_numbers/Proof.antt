@@ -2,11 +2,11 @@
 -- Assumes nothing.
 use borrow.Author.Rules.{rules}
 use mathlib.Core.Path.{sym, ap, subst, ◌∙◌}
-use Rattle.sheet.specs.Refusals.{Answer, toldHeader, toldRecord}
-use Rattle.numbers.specs.laws.Back.{record-numbers-same}
+use Rattle.sheet.specs.Refusals.{Answer, told_header, told_record}
+use Rattle.numbers.specs.laws.Back.{record_numbers_same}
 use Rattle.edit.specs.Edit.{After, Edits}
 use Rattle.edit.specs.Steps.{Known}
-use Rattle.edit.proofs.Answers.{known, numbers-turned, numbers-refused, numbers-taken}
+use Rattle.edit.proofs.Answers.{known, numbers_turned, numbers_refused, numbers_taken}
 use Rattle.edit.proofs.put_numbers.Statement.{statement}
 use Rattle.edit.proofs.put_numbers.Tie as tie
 
@@ -16,20 +16,20 @@ module _ (c : tie.After-read2) where
   start_of = c.before.before.before.before.before
 
   sheet : Known start_of.args.buf.now start_of.args.len c.read2.given.0.0
-  sheet = known start_of.args.buf.now start_of.args.len c.read2.given.0.0 (sym (ap toldHeader c.read2.given.1) ∙ c.before.before.sheet-at.ensures)
+  sheet = known start_of.args.buf.now start_of.args.len c.read2.given.0.0 (sym (ap told_header c.read2.given.1) ∙ c.before.before.sheet-at.ensures)
 
 returns : tie.Need-returns
 returns c =
     let at-sheet = c.before.before.before in
     let a = at-sheet.before.before.before.args in
-    numbers-turned a.buf.now a.len a.f _ (sym (ap toldHeader c.before.read.given.1) ∙ at-sheet.sheet-at.ensures)
+    numbers_turned a.buf.now a.len a.f _ (sym (ap told_header c.before.read.given.1) ∙ at-sheet.sheet-at.ensures)
 
 returns-2 : tie.Need-returns-2
 returns-2 c =
     let f = c.before.before.before in
     let g = f.before.before in
     let a = (start_of g).args in
-    numbers-refused a.buf.now a.len g.read2.given.0.0 (sheet g) a.f c.before.taken.given.0.0 (sym (ap toldRecord c.before.taken.given.1) ∙ f.record-from.ensures)
+    numbers_refused a.buf.now a.len g.read2.given.0.0 (sheet g) a.f c.before.taken.given.0.0 (sym (ap told_record c.before.taken.given.1) ∙ f.record-from.ensures)
 
 put-sound-requires : tie.Need-put-sound-requires
 put-sound-requires c κs =
@@ -38,7 +38,7 @@ put-sound-requires c κs =
     let g = f.before.before in
     let a = (start_of g).args in
     let r = h.taken2.given.0.0 in
-    (sheet g, (record-numbers-same g.read2.given.0.0.count a.f r (sym (sym (ap toldRecord h.taken2.given.1) ∙ f.record-from.ensures))).0)
+    (sheet g, (record_numbers_same g.read2.given.0.0.count a.f r (sym (sym (ap told_record h.taken2.given.1) ∙ f.record-from.ensures))).0)
 
 returns-3 : tie.Need-returns-3
 returns-3 c =
@@ -48,7 +48,7 @@ returns-3 c =
     let g = f.before.before in
     let a = (start_of g).args in
     let r = h.taken2.given.0.0 in
-    let same = numbers-taken a.buf.now a.len g.read2.given.0.0 (sheet g) a.f r (sym (ap toldRecord h.taken2.given.1) ∙ f.record-from.ensures) in
+    let same = numbers_taken a.buf.now a.len g.read2.given.0.0 (sheet g) a.f r (sym (ap told_record h.taken2.given.1) ∙ f.record-from.ensures) in
     subst (λ (x : Answer After). Edits x a.buf.now p.put-sound.result p.put-sound.new.0) (sym same) p.put-sound.ensures
 
 pub put-numbers-spec : {M : Type 1} → statement M

@@ -7,27 +7,27 @@ use Prim.Native.Nat.{ℕ, ◌-◌, ◌*◌, ◌≤◌}
 use native.Mathlib.Omega.{arith}
 use lib.ListN.{length, length-drop}
 use borrow.Rule.Slice.PartMut.{mid_of}
-use Rattle.layout.specs.laws.Tail.{mid-past}
-use Rattle.sheet.specs.Header.{headerSize}
-use Rattle.checker.specs.Check.{sheetSize, recordsPart}
+use Rattle.layout.specs.laws.Tail.{mid_past}
+use Rattle.sheet.specs.Header.{header_size}
+use Rattle.checker.specs.Check.{sheet_size, records_part}
 use Rattle.edit.specs.Edit.{replacing}
-use Rattle.edit.specs.Steps.{place_in, hasIn}
-use Rattle.edit.proofs.Answers.{size, place-within, put-replaced}
+use Rattle.edit.specs.Steps.{place_in, has_in}
+use Rattle.edit.proofs.Answers.{size, place_within, put_replaced}
 use Rattle.edit.proofs.put_sound.Statement.{statement}
 use Rattle.edit.proofs.put_sound.Tie as tie
 
-within : (c : tie.Start) → sheetSize c.args.h ≤ length c.args.buf.now
+within : (c : tie.Start) → sheet_size c.args.h ≤ length c.args.buf.now
 within c = let w = size c.args.buf.now c.args.len c.args.h c.requires.0 in omega (arith, w.0, w.1)
 
 abbrev from-size : tie.After-size → tie.Start
 from-size c = c.before.before.before
 
 -- the bytes of all records
-past : (c : tie.After-size) → let a = (from-size c).args in mid_of c.size.result (length a.buf.now - c.size.result) a.buf.now ≡ recordsPart a.h a.buf.now
-past c = let a = (from-size c).args in mid-past c.size.result (headerSize a.h) a.buf.now c.size.ensures
+past : (c : tie.After-size) → let a = (from-size c).args in mid_of c.size.result (length a.buf.now - c.size.result) a.buf.now ≡ records_part a.h a.buf.now
+past c = let a = (from-size c).args in mid_past c.size.result (header_size a.h) a.buf.now c.size.ensures
 
 long : (c : tie.After-size) → let a = (from-size c).args in 16 * a.h.count ≤ length (mid_of c.size.result (length a.buf.now - c.size.result) a.buf.now)
-long c = let a = (from-size c).args in omega (arith, ap length (past c), length-drop (headerSize a.h) a.buf.now, within (from-size c))
+long c = let a = (from-size c).args in omega (arith, ap length (past c), length-drop (header_size a.h) a.buf.now, within (from-size c))
 
 -- where the id stands or belongs, and whether it is there
 module _ (c : tie.After-has-at) where
@@ -40,18 +40,18 @@ module _ (c : tie.After-has-at) where
   abbrev start_of : tie.Start
   start_of = from-size at_size
 
-  its-place : let a = start_of.args in place.place_of.result ≡ place_in (recordsPart a.h a.buf.now) a.h.count a.r.id
+  its-place : let a = start_of.args in place.place_of.result ≡ place_in (records_part a.h a.buf.now) a.h.count a.r.id
   its-place = let a = start_of.args in place.place_of.ensures.0 ∙ ap (λ (b : List ℕ). place_in b a.h.count a.r.id) (past at_size)
 
-  is-there : let a = start_of.args in c.has-at.result ≡ hasIn (recordsPart a.h a.buf.now) a.h.count a.r.id
-  is-there = let a = start_of.args in c.has-at.ensures ∙ ap (λ (b : List ℕ). hasIn b a.h.count a.r.id) (past at_size)
+  is-there : let a = start_of.args in c.has-at.result ≡ has_in (records_part a.h a.buf.now) a.h.count a.r.id
+  is-there = let a = start_of.args in c.has-at.ensures ∙ ap (λ (b : List ℕ). has_in b a.h.count a.r.id) (past at_size)
 
 replace-requires : tie.Need-replace-requires
 replace-requires c κs =
     let h = c.before.before in
     let s = start_of h in
     let a = s.args in
-    let l = place-within a.buf.now a.len a.h s.pre.0 a.r.id (sym (is-there h) ∙ c.before.if1.true) in
+    let l = place_within a.buf.now a.len a.h s.pre.0 a.r.id (sym (is-there h) ∙ c.before.if1.true) in
     (s.pre.1, omega (arith, within s, its-place h, l))
 
 returns : tie.Need-returns
@@ -61,7 +61,7 @@ returns c =
     let h = t.before in
     let s = start_of h in
     let a = s.args in
-    put-replaced a.buf.now a.len a.h s.pre.0 a.r s.pre.1 (sym (is-there h) ∙ t.if1.true) w.replace.new.0
+    put_replaced a.buf.now a.len a.h s.pre.0 a.r s.pre.1 (sym (is-there h) ∙ t.if1.true) w.replace.new.0
     (w.replace.ensures ∙ ap (λ n. replacing a.h n a.r a.buf.now) (its-place h))
 
 put-new-requires : tie.Need-put-new-requires

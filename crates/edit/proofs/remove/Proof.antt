@@ -2,8 +2,8 @@
 -- Assumes nothing.
 use borrow.Author.Rules.{rules}
 use mathlib.Core.Path.{sym, ap, ◌∙◌}
-use Rattle.sheet.specs.Refusals.{toldHeader}
-use Rattle.edit.proofs.Answers.{known, remove-refused}
+use Rattle.sheet.specs.Refusals.{told_header}
+use Rattle.edit.proofs.Answers.{known, remove_refused}
 use Rattle.edit.proofs.remove.Statement.{statement}
 use Rattle.edit.proofs.remove.Tie as tie
 
@@ -11,14 +11,14 @@ returns : tie.Need-returns
 returns c =
     let at-sheet = c.before.before.before in
     let a = at-sheet.before.before.before.args in
-    remove-refused a.buf.now a.len a.id _ (sym (ap toldHeader c.before.read.given.1) ∙ at-sheet.sheet-at.ensures)
+    remove_refused a.buf.now a.len a.id _ (sym (ap told_header c.before.read.given.1) ∙ at-sheet.sheet-at.ensures)
 
 remove-sound-requires : tie.Need-remove-sound-requires
 remove-sound-requires c κs =
     let g = c.before.before in
     let at-sheet = g.before.before in
     let a = at-sheet.before.before.before.args in
-    known a.buf.now a.len g.read2.given.0.0 (sym (ap toldHeader g.read2.given.1) ∙ at-sheet.sheet-at.ensures)
+    known a.buf.now a.len g.read2.given.0.0 (sym (ap told_header g.read2.given.1) ∙ at-sheet.sheet-at.ensures)
 
 pub remove-spec : {M : Type 1} → statement M
 remove-spec =

@@ -8,12 +8,12 @@ use Rattle.truth.specs.laws.Tests.{both}
 use Rattle.keyed.specs.Keyed.{position_of, has_of}
 use Rattle.sheet.specs.declared.Header.{Header}
 use Rattle.sheet.specs.declared.Record.{Record}
-use Rattle.sheet.specs.Refusals.{given, recordRefused}
-use Rattle.sheet.specs.laws.RefusalLaws.{given-same, by-none}
-use Rattle.sheet.specs.Record.{recordFault}
+use Rattle.sheet.specs.Refusals.{given, record_refused}
+use Rattle.sheet.specs.laws.RefusalLaws.{given_same, by_none}
+use Rattle.sheet.specs.Record.{record_fault}
 use Rattle.checker.specs.Check.{◌then◌, demand, Sheet}
-use Rattle.checker.specs.laws.ThenLaws.{then-given, demand-given}
-use Rattle.edit.specs.Edit.{sheetAt, highest, id_of, counting, replacing, inserting, removing, After, hasRoom, placing, put_in, removeIn}
+use Rattle.checker.specs.laws.ThenLaws.{then_given, demand_given}
+use Rattle.edit.specs.Edit.{sheet_at, highest, id_of, counting, replacing, inserting, removing, After, has_room, placing, put_in, remove_in}
 
 module _ (b : List ℕ) (len : ℕ) (t : Sheet) where
   abbrev h : Header
@@ -42,32 +42,32 @@ module _ (b : List ℕ) (len : ℕ) (t : Sheet) where
 
       go : (has : Bool) → has_of id_of r.id t.records ≡ has
           → cond has (given (record { size = len; bytes = replacing h i r b }))
-          (demand (hasRoom h len (length b)) 11 then λ u. given (record { size = len + 16; bytes = inserting (counting (t.header.count + 1) t.header) i len r b }))
+          (demand (has_room h len (length b)) 11 then λ u. given (record { size = len + 16; bytes = inserting (counting (t.header.count + 1) t.header) i len r b }))
           ≡ given a → Put r a
-      go true f g = replaces f (sym (given-same g))
+      go true f g = replaces f (sym (given_same g))
       go false f g =
-          let d = then-given (demand (hasRoom h len (length b)) 11) _ a g in
-          let m = both (leb (len + 16) (length b)) (ltb n (highest h)) (demand-given (hasRoom h len (length b)) 11 d.0 d.1) in
-          inserts f (leb-true (len + 16) (length b) m.0) (ltb-true n (highest h) m.1) (sym (given-same d.2))
+          let d = then_given (demand (has_room h len (length b)) 11) _ a g in
+          let m = both (leb (len + 16) (length b)) (ltb n (highest h)) (demand_given (has_room h len (length b)) 11 d.0 d.1) in
+          inserts f (leb-true (len + 16) (length b) m.0) (ltb-true n (highest h) m.1) (sym (given_same d.2))
 
-  module _ (found : sheetAt b len ≡ given t) where
-    pub put-done : (r : Record) (a : After) → put_in b len r ≡ given a → (recordFault r 0 ≡ 0) × Put r a
+  module _ (found : sheet_at b len ≡ given t) where
+    pub put_done : (r : Record) (a : After) → put_in b len r ≡ given a → (record_fault r 0 ≡ 0) × Put r a
     unfolding put_in
-    put-done r a e =
-        let s = then-given (sheetAt b len) _ a e in
-        let same : s.0 ≡ t = given-same (sym s.1 ∙ found) in
-        let f = then-given (recordRefused s.0.header.count (recordFault r 0) (given (tt {0}))) _ a s.2 in
+    put_done r a e =
+        let s = then_given (sheet_at b len) _ a e in
+        let same : s.0 ≡ t = given_same (sym s.1 ∙ found) in
+        let f = then_given (record_refused s.0.header.count (record_fault r 0) (given (tt {0}))) _ a s.2 in
         let m = s.0.header.count in
-        ((by-none 6 m 7 (λ k. 32 * m + k) (recordFault r 0) (tt {0}) f.0 f.1).0, placed r a (ap (λ (u : Sheet). placing u b len r) (sym same) ∙ f.2))
+        ((by_none 6 m 7 (λ k. 32 * m + k) (record_fault r 0) (tt {0}) f.0 f.1).0, placed r a (ap (λ (u : Sheet). placing u b len r) (sym same) ∙ f.2))
 
-    pub remove-done : (id : ℕ) (a : After) → removeIn b len id ≡ given a → Removed id a
-    unfolding removeIn
-    remove-done id a e =
-        let s = then-given (sheetAt b len) _ a e in
-        let same : s.0 ≡ t = given-same (sym s.1 ∙ found) in
-        let d = then-given (demand (has_of id_of id s.0.records) 10) _ a s.2 in
+    pub remove_done : (id : ℕ) (a : After) → remove_in b len id ≡ given a → Removed id a
+    unfolding remove_in
+    remove_done id a e =
+        let s = then_given (sheet_at b len) _ a e in
+        let same : s.0 ≡ t = given_same (sym s.1 ∙ found) in
+        let d = then_given (demand (has_of id_of id s.0.records) 10) _ a s.2 in
         record {
-          there = ap (λ (u : Sheet). has_of id_of id u.records) (sym same) ∙ demand-given (has_of id_of id s.0.records) 10 d.0 d.1;
-          after = sym (given-same d.2)
+          there = ap (λ (u : Sheet). has_of id_of id u.records) (sym same) ∙ demand_given (has_of id_of id s.0.records) 10 d.0 d.1;
+          after = sym (given_same d.2)
               ∙ ap (λ (u : Sheet). record { size = len - 16; bytes = removing (counting (u.header.count - 1) u.header) (position_of id_of id u.records) len b }) same;
         }

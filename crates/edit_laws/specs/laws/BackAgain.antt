@@ -10,24 +10,24 @@ use Rattle.layout.specs.Layout.{bytes, Fit}
 use Rattle.sheet.specs.declared.Header.{Header}
 use Rattle.sheet.specs.declared.Record.{Record}
 use Rattle.sheet.specs.Refusals.{given}
-use Rattle.sheet.specs.Header.{headerSize, headerBytes}
-use Rattle.sheet.specs.laws.HeaderBack.{header-bytes-same}
+use Rattle.sheet.specs.Header.{header_size, header_bytes}
+use Rattle.sheet.specs.laws.HeaderBack.{header_bytes_same}
 use Rattle.checker.specs.Check.{◌then◌, demand, part, Sheet}
 use Rattle.keyed.specs.Keyed.{position_of, has_of, put_of}
-use Rattle.keyed.specs.laws.Places.{place-le, put-length, put_has, put-place}
-use Rattle.edit.specs.Edit.{sheetAt, start, id_of, counting, inserting, removing, After, put_in, removeIn}
+use Rattle.keyed.specs.laws.Places.{place_le, put_length, put_has, put_place}
+use Rattle.edit.specs.Edit.{sheet_at, start, id_of, counting, inserting, removing, After, put_in, remove_in}
 use Rattle.edit.specs.laws.Taken.{Taken, taken_at}
 use Rattle.edit_laws.specs.laws.Rebuilt.{head_read}
-use Rattle.edit.specs.laws.Done.{Put, replaces, inserts, put-done}
+use Rattle.edit.specs.laws.Done.{Put, replaces, inserts, put_done}
 use Rattle.edit_laws.specs.Edits.{holding}
-use Rattle.edit_laws.specs.laws.Outcomes.{put-sheet}
-use Rattle.edit_laws.specs.laws.Touched.{inserted-before, inserted-moved, inserted-rest}
+use Rattle.edit_laws.specs.laws.Outcomes.{put_sheet}
+use Rattle.edit_laws.specs.laws.Touched.{inserted_before, inserted_moved, inserted_rest}
 
 -- a part behind what stands before it
 take_part : (b : List ℕ) (a e : ℕ) → a ≤ e → take a b ++ part b a e ≡ take e b
 take_part b a e l = let m : a + (e - a) ≡ e = omega arith in sym (ap (λ (k : ℕ). take k b) (sym m) ∙ take-add a (e - a) b)
 
-module _ (b : List ℕ) (len : ℕ) (t : Sheet) (found : sheetAt b len ≡ given t) (r : Record) (new : has_of id_of r.id t.records ≡ false) (fit : Fit (bytes (headerSize t.header)) (take (headerSize t.header) b)) where
+module _ (b : List ℕ) (len : ℕ) (t : Sheet) (found : sheet_at b len ≡ given t) (r : Record) (new : has_of id_of r.id t.records ≡ false) (fit : Fit (bytes (header_size t.header)) (take (header_size t.header) b)) where
   k : Taken b len t
   k = taken_at b len t found
 
@@ -38,29 +38,29 @@ module _ (b : List ℕ) (len : ℕ) (t : Sheet) (found : sheetAt b len ≡ given
   i = position_of id_of r.id t.records
 
   abbrev a : ℕ
-  a = headerSize t.header
+  a = header_size t.header
 
   inside : start h i ≤ len
-  inside = omega (arith, place-le id_of r.id t.records, k.number, k.whole)
+  inside = omega (arith, place_le id_of r.id t.records, k.number, k.whole)
 
   -- the bytes: the sheet, sixteen zeros where the record had made room, and every byte past them as it was
   abbrev left : After
   left = record { size = len; bytes = take len b ++ (replicate 16 0 ++ drop (len + 16) b) }
 
-  restored : (g : Header) → headerSize g ≡ headerSize h → len + 16 ≤ length b → removing h i (len + 16) (inserting g i len r b) ≡ take len b ++ (replicate 16 0 ++ drop (len + 16) b)
+  restored : (g : Header) → header_size g ≡ header_size h → len + 16 ≤ length b → removing h i (len + 16) (inserting g i len r b) ≡ take len b ++ (replicate 16 0 ++ drop (len + 16) b)
   unfolding removing
   restored g same m =
       let whole : take a (take a b) ≡ take a b = take-take a a b (omega arith) in
-      let own : headerBytes h ≡ take a b = header-bytes-same (take a b) h (head_read b len t k i) (subst (Fit (bytes a)) (sym whole) fit) ∙ whole in
+      let own : header_bytes h ≡ take a b = header_bytes_same (take a b) h (head_read b len t k i) (subst (Fit (bytes a)) (sym whole) fit) ∙ whole in
       let before : part (inserting g i len r b) a (start h i) ≡ part b a (start h i) =
-      subst (λ (n : ℕ). part (inserting g i len r b) n (n + 16 * i) ≡ part b n (n + 16 * i)) same (inserted-before b g i len r (omega (arith, same, inside)) m) in
+      subst (λ (n : ℕ). part (inserting g i len r b) n (n + 16 * i) ≡ part b n (n + 16 * i)) same (inserted_before b g i len r (omega (arith, same, inside)) m) in
       let moved : part (inserting g i len r b) (start h i + 16) (len + 16) ≡ part b (start h i) len =
-      subst (λ (n : ℕ). part (inserting g i len r b) (n + 16 * i + 16) (len + 16) ≡ part b (n + 16 * i) len) same (inserted-moved b g i len r (omega (arith, same, inside)) m) in
+      subst (λ (n : ℕ). part (inserting g i len r b) (n + 16 * i + 16) (len + 16) ≡ part b (n + 16 * i) len) same (inserted_moved b g i len r (omega (arith, same, inside)) m) in
       let x = part b a (start h i) in
       let y = part b (start h i) len in
       let rest = replicate 16 0 ++ drop (len + 16) b in
       ap₂ (λ (u v : List ℕ). u ++ (v ++ (part (inserting g i len r b) (start h i + 16) (len + 16) ++ (replicate 16 0 ++ drop (len + 16) (inserting g i len r b))))) own before
-      ∙ ap₂ (λ (u v : List ℕ). take a b ++ (x ++ (u ++ (replicate 16 0 ++ v)))) moved (inserted-rest b g i len r (omega (arith, same, inside)) m)
+      ∙ ap₂ (λ (u v : List ℕ). take a b ++ (x ++ (u ++ (replicate 16 0 ++ v)))) moved (inserted_rest b g i len r (omega (arith, same, inside)) m)
       ∙ sym (append_assoc (take a b) x (y ++ rest))
       ∙ ap (λ (u : List ℕ). u ++ (y ++ rest)) (take_part b a (start h i) (omega arith))
       ∙ sym (append_assoc (take (start h i) b) y rest)
@@ -68,23 +68,23 @@ module _ (b : List ℕ) (len : ℕ) (t : Sheet) (found : sheetAt b len ≡ given
 
   -- there are n + 1 records once it is in
   many : length (put_of id_of r t.records) ≡ h.count + 1
-  many = put-length id_of r t.records ∙ rw new (ap (λ (n : ℕ). n + 1) k.number)
+  many = put_length id_of r t.records ∙ rw new (ap (λ (n : ℕ). n + 1) k.number)
 
   fewer : counting (length (put_of id_of r t.records) - 1) h ≡ h
   fewer = let one : length (put_of id_of r t.records) - 1 ≡ h.count = omega (arith, many) in ap (λ (m : ℕ). counting m h) one
 
   -- a removal from the sheet that holds it
-  taken_out : (s : List ℕ) (size : ℕ) → sheetAt s size ≡ given (holding h (put_of id_of r t.records)) → removeIn s size r.id ≡ given (record { size = size - 16; bytes = removing h i size s })
-  unfolding removeIn ◌then◌ demand
+  taken_out : (s : List ℕ) (size : ℕ) → sheet_at s size ≡ given (holding h (put_of id_of r t.records)) → remove_in s size r.id ≡ given (record { size = size - 16; bytes = removing h i size s })
+  unfolding remove_in ◌then◌ demand
   taken_out s size f =
       rw (f, put_has id_of r t.records)
-      (ap₂ (λ (g : Header) (j : ℕ). given (record { size = size - 16; bytes = removing g j size s })) fewer (put-place id_of r t.records))
+      (ap₂ (λ (g : Header) (j : ℕ). given (record { size = size - 16; bytes = removing g j size s })) fewer (put_place id_of r t.records))
 
   -- the record, taken out of the buffer that putting it in has left
-  pub put-then-remove : (a : After) → put_in b len r ≡ given a → removeIn a.bytes a.size r.id ≡ given left
-  put-then-remove a e = go (put-done b len t found r a e).1 (taken_out a.bytes a.size (put-sheet b len t found r a e))
+  pub put_then_remove : (a : After) → put_in b len r ≡ given a → remove_in a.bytes a.size r.id ≡ given left
+  put_then_remove a e = go (put_done b len t found r a e).1 (taken_out a.bytes a.size (put_sheet b len t found r a e))
     where
-      go : Put b len t r a → removeIn a.bytes a.size r.id ≡ given (record { size = a.size - 16; bytes = removing h i a.size a.bytes }) → removeIn a.bytes a.size r.id ≡ given left
+      go : Put b len t r a → remove_in a.bytes a.size r.id ≡ given (record { size = a.size - 16; bytes = removing h i a.size a.bytes }) → remove_in a.bytes a.size r.id ≡ given left
       go (replaces has f) q = absurd (let z : ◌≡◌ {A = ℕ} 0 1 = cc in omega arith)
       go (inserts n m few f) q =
           let g = counting (h.count + 1) h in

@@ -5,14 +5,14 @@ use Rattle.keyed.specs.Keyed.{position_of, has_of}
 use Rattle.sheet.specs.declared.Record.{Record}
 use Rattle.sheet.specs.declared.Body.TheVariants.{Plate as isPlate}
 use Rattle.sheet.specs.Refusals.{given, refused}
-use Rattle.sheet.specs.Record.{plateFault}
+use Rattle.sheet.specs.Record.{plate_fault}
 use Rattle.checker.specs.laws.Computing.{reading}
-use Rattle.checker.specs.Unjudged.{soundSheet}
-use Rattle.edit.specs.Edit.{sheetAt, replacing, inserting, removing, placing, put_in, removeIn}
+use Rattle.checker.specs.Unjudged.{sound_sheet}
+use Rattle.edit.specs.Edit.{sheet_at, replacing, inserting, removing, placing, put_in, remove_in}
 
 -- all that an edit computes with, under one name for an `unfolding` line
 unfoldable pub editing : Type 0
-unfolding put_in removeIn placing replacing inserting removing position_of has_of sheetAt soundSheet reading plateFault
+unfolding put_in remove_in placing replacing inserting removing position_of has_of sheet_at sound_sheet reading plate_fault
 editing = Unit {0}
 
 -- V's header, with a count of one, two and three
@@ -51,28 +51,28 @@ plate id T =
     }
 
 -- mended to 617, as the checker asks: its own sixteen bytes change; as id 9 it goes in between, and the sixteen bytes behind the sheet are taken
-pub put-examples : (put_in (lent 0) 44 (plate 7 617) ≡ given (record { size = 44; bytes = vessel 16 ++ ((32 ∷ 31 ∷ 232 ∷ 0 ∷ 7 ∷ 208 ∷ 154 ∷ 64 ∷ 0 ∷ 0 ∷ 0 ∷ 0 ∷ 0 ∷ 0 ∷ 0 ∷ 0 ∷ []) ++ twelve) }))
+pub put_examples : (put_in (lent 0) 44 (plate 7 617) ≡ given (record { size = 44; bytes = vessel 16 ++ ((32 ∷ 31 ∷ 232 ∷ 0 ∷ 7 ∷ 208 ∷ 154 ∷ 64 ∷ 0 ∷ 0 ∷ 0 ∷ 0 ∷ 0 ∷ 0 ∷ 0 ∷ 0 ∷ []) ++ twelve) }))
     × (put_in (lent 17) 44 (plate 9 600) ≡ given (record { size = 60; bytes = vessel 24 ++ (seven ++ ((32 ∷ 39 ∷ 232 ∷ 0 ∷ 7 ∷ 208 ∷ 150 ∷ 0 ∷ 0 ∷ 0 ∷ 0 ∷ 0 ∷ 0 ∷ 0 ∷ 0 ∷ 0 ∷ []) ++ (twelve ++ (170 ∷ [])))) }))
 unfolding editing
-put-examples = (refl, refl)
+put_examples = (refl, refl)
 
 -- id 7 goes out, id 12 closes the gap, and sixteen zeros come free; past them nothing changes
-pub remove-example : removeIn (lent 1) 44 7 ≡ given (record { size = 28; bytes = vessel 8 ++ (twelve ++ (replicate 16 0 ++ (170 ∷ []))) })
+pub remove_example : remove_in (lent 1) 44 7 ≡ given (record { size = 28; bytes = vessel 8 ++ (twelve ++ (replicate 16 0 ++ (170 ∷ []))) })
 unfolding editing
-remove-example = refl
+remove_example = refl
 
 -- 1 for a length over the buffer, and under the header; 4 and 8 of the table's own; 6 for a kind that does not go with a plate and 7 for a thickness of 0, with 2 as
 -- the record; 10; and 11 one byte short
-pub refusal-examples : (put_in (lent 0) 45 (plate 7 617) ≡ refused 1 0)
+pub refusal_examples : (put_in (lent 0) 45 (plate 7 617) ≡ refused 1 0)
     × (put_in (lent 0) 11 (plate 7 617) ≡ refused 1 0)
     × (put_in (lent 0) 43 (plate 7 617) ≡ refused 4 0)
     × (put_in (set (lent 0) 29 28) 44 (plate 7 617) ≡ refused 8 1)
     × (put_in (lent 0) 44 (record { kind = 5; id = 7; body = (plate 7 617).body }) ≡ refused 6 2)
     × (put_in (lent 0) 44 (plate 7 0) ≡ refused 7 70)
-    × (removeIn (lent 0) 44 9 ≡ refused 10 0)
+    × (remove_in (lent 0) 44 9 ≡ refused 10 0)
     × (put_in (lent 15) 44 (plate 9 600) ≡ refused 11 0)
 unfolding editing
-refusal-examples = (refl, refl, refl, refl, refl, refl, refl, refl)
+refusal_examples = (refl, refl, refl, refl, refl, refl, refl, refl)
 
 -- the same vessel in version 2, with ZDB 300,000 and depth 300: the records stand behind twenty bytes
 abbrev second : ℕ → List ℕ
@@ -83,10 +83,10 @@ abbrev slender : List ℕ
 slender = set (set (second 16) 15 7) 16 32 ++ (seven ++ twelve)
 
 -- id 9 goes in between and id 7 goes out, as above; a length of 19 is under the header; a slender hull is 9, also in a sheet that is a byte short
-pub second-examples : (put_in (second 16 ++ (seven ++ (twelve ++ replicate 17 170))) 52 (plate 9 600) ≡ given (record { size = 68; bytes = second 24 ++ (seven ++ ((32 ∷ 39 ∷ 232 ∷ 0 ∷ 7 ∷ 208 ∷ 150 ∷ 0 ∷ 0 ∷ 0 ∷ 0 ∷ 0 ∷ 0 ∷ 0 ∷ 0 ∷ 0 ∷ []) ++ (twelve ++ (170 ∷ [])))) }))
-    × (removeIn (second 16 ++ (seven ++ (twelve ++ (170 ∷ [])))) 52 7 ≡ given (record { size = 36; bytes = second 8 ++ (twelve ++ (replicate 16 0 ++ (170 ∷ []))) }))
+pub second_examples : (put_in (second 16 ++ (seven ++ (twelve ++ replicate 17 170))) 52 (plate 9 600) ≡ given (record { size = 68; bytes = second 24 ++ (seven ++ ((32 ∷ 39 ∷ 232 ∷ 0 ∷ 7 ∷ 208 ∷ 150 ∷ 0 ∷ 0 ∷ 0 ∷ 0 ∷ 0 ∷ 0 ∷ 0 ∷ 0 ∷ 0 ∷ []) ++ (twelve ++ (170 ∷ [])))) }))
+    × (remove_in (second 16 ++ (seven ++ (twelve ++ (170 ∷ [])))) 52 7 ≡ given (record { size = 36; bytes = second 8 ++ (twelve ++ (replicate 16 0 ++ (170 ∷ []))) }))
     × (put_in (second 16 ++ (seven ++ twelve)) 19 (plate 7 617) ≡ refused 1 0)
     × (put_in slender 52 (plate 7 617) ≡ refused 9 0)
-    × (removeIn slender 51 7 ≡ refused 9 0)
+    × (remove_in slender 51 7 ≡ refused 9 0)
 unfolding editing
-second-examples = (refl, refl, refl, refl, refl)
+second_examples = (refl, refl, refl, refl, refl)

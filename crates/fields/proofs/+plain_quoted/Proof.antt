@@ -14,12 +14,12 @@ use Rattle.fields.specs.declared.Seen.{Seen}
 use Rattle.fields.specs.declared.Seen.TheVariants.{End, Comma, Line, Skip, Quote, Data}
 use Rattle.fields.specs.declared.Place.{Place}
 use Rattle.fields.specs.declared.Place.TheVariants.{Start, Inside, Closed}
-use Rattle.fields.specs.Number.{digitOf}
-use Rattle.fields.specs.Rest.{isClosed}
+use Rattle.fields.specs.Number.{digit_of}
+use Rattle.fields.specs.Rest.{is_closed}
 use Rattle.fields.specs.declared.Num.{Num}
 use Rattle.fields.specs.declared.Num.TheVariants.{Bad}
-use Rattle.fields.proofs.RestLaws.{bad-is, closed_is, open_is}
-use Rattle.fields.proofs.Laws.{ends, before-end, told, told-quote, told-byte, told-unclosed}
+use Rattle.fields.proofs.RestLaws.{bad_is, closed_is, open_is}
+use Rattle.fields.proofs.Laws.{ends, before_end, told, told_quote, told_byte, told_unclosed}
 use Rattle.fields.proofs.plain.Reads as plain
 use Rattle.fields.proofs.plain.Kinds as plain-kinds
 use Rattle.fields.proofs.+plain_quoted.Lts-plain as p
@@ -62,7 +62,7 @@ module _ (t : ℕ) (d : p.After-look (look-reads.Asked, look-reads.Learnt, plain
   module _ (k : Seen) (e : d.look.result ≡ k) where
     -- something stands at the place, so it is before the text's end
     here : ends k ≡ false → at < length s
-    here f = before-end s at k (sym e ∙ d.look.ensures) f
+    here f = before_end s at k (sym e ∙ d.look.ensures) f
 
     -- the field, by what stands at the place, and which kind of place it is
     by_cases : (q : Place) → d.before.before.args.place ≡ q
@@ -71,7 +71,7 @@ module _ (t : ℕ) (d : p.After-look (look-reads.Asked, look-reads.Learnt, plain
     by_cases q f = told s at d.before.before.args.place d.before.before.args.num k q (sym e ∙ d.look.ensures) f
 
   -- a byte of a plain field: the field goes on with it
-  to-byte : (b : ℕ) (x : Num) → d.look.result ≡ Data b → false ≡ isClosed d.before.before.args.place → x ≡ digitOf d.before.before.args.num b
+  to-byte : (b : ℕ) (x : Num) → d.look.result ≡ Data b → false ≡ is_closed d.before.before.args.place → x ≡ digit_of d.before.before.args.num b
       → field_of (outside (drop (at + 1) s) (at + 1) Inside) x ≡ field_of (outside (drop at s) at d.before.before.args.place) d.before.before.args.num
   unfolding field_of
   to-byte b x e f g =
@@ -87,10 +87,10 @@ module _ (t : ℕ) (d : q.After-digit (plain-below t, plain.Post, digit-reads.As
   to-quoted : (x : Num) → d.digit.result ≡ x → field_of (inside (drop (z.args.at + 1) z.args.text.now) (z.args.at + 1)) x ≡ field_of (inside (drop z.args.at z.args.text.now) z.args.at) z.args.num
   to-quoted x e =
       ap (λ (n : Num). field_of (inside (drop (z.args.at + 1) z.args.text.now) (z.args.at + 1)) n) (sym e ∙ d.digit.ensures)
-      ∙ sym (told-byte z.args.text.now z.args.at z.args.num d.before.before.before.if1.left d.before.if2.left)
+      ∙ sym (told_byte z.args.text.now z.args.at z.args.num d.before.before.before.if1.left d.before.if2.left)
 
 pub +plain-quoted-spec : {M : Type 1} → statement M
-unfolding field_of digitOf
+unfolding field_of digit_of
 +plain-quoted-spec =
     close μ-plain μ-quoted
     (λ t.
@@ -130,12 +130,12 @@ unfolding field_of digitOf
     (λ c. c.rest.ensures ∙ by_cases t c.before.before.before.before.before Quote c.before.before.before.enum-told5.given.1 Closed c.before.enum-told8.given.1)
     (λ c. let e = c.before.before.before in
     c.rest2.ensures ∙ to-byte t e.before.before.before.before.before.before _ Bad e.before.before.before.before.b.given.1 (sym e.before.if1.false ∙ e.before.before.is-closed.ensures)
-    (sym (bad-is _ (sym c.before.if2.true ∙ c.before.before.is-bad.ensures)) ∙ e.digit.ensures))
+    (sym (bad_is _ (sym c.before.if2.true ∙ c.before.before.is-bad.ensures)) ∙ e.digit.ensures))
     (λ c. let e = c.before.before.before in
     c.plain2.ensures ∙ to-byte t e.before.before.before.before.before.before _ _ e.before.before.before.before.b.given.1 (sym e.before.if1.false ∙ e.before.before.is-closed.ensures) e.digit.ensures))
     (λ t.
     q.spec (plain-below t, plain.Post, digit-reads.Asked, digit-reads.Learnt, is-bad-reads.Asked, is-bad-reads.Learnt, rest-reads.Asked, rest-reads.Learnt, quoted-below t, quoted.Post) (quoted-at t) quoted.Post
-    (λ c. sym (told-unclosed _ _ _ c.if1.true))
+    (λ c. sym (told_unclosed _ _ _ c.if1.true))
     (λ c. search rules)
     (λ c. search rules)
     (λ c κs. (omega arith, tt))
@@ -145,6 +145,6 @@ unfolding field_of digitOf
     (λ c κs. search rules)
     (λ c. search rules)
     (λ c κs. (omega arith, tt))
-    (λ c. c.plain.ensures ∙ sym (told-quote _ _ _ c.before.before.before.if1.false c.before.if2.true))
-    (λ c. c.rest.ensures ∙ to-quoted t c.before.before.before Bad (bad-is _ (sym c.before.if3.true ∙ c.before.before.is-bad.ensures)))
+    (λ c. c.plain.ensures ∙ sym (told_quote _ _ _ c.before.before.before.if1.false c.before.if2.true))
+    (λ c. c.rest.ensures ∙ to-quoted t c.before.before.before Bad (bad_is _ (sym c.before.if3.true ∙ c.before.before.is-bad.ensures)))
     (λ c. c.quoted.ensures ∙ to-quoted t c.before.before.before _ refl))

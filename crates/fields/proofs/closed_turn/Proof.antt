@@ -1,6 +1,6 @@
 use borrow.Author.Rules.{rules}
 use mathlib.Core.Path.{sym, ap}
-use Rattle.fields.specs.Rest.{closedTurn}
+use Rattle.fields.specs.Rest.{closed_turn}
 use Rattle.fields.proofs.closed_turn.Statement.{statement}
 use Rattle.fields.proofs.closed_turn.Tie as tie
 
@@ -10,6 +10,6 @@ closed-turn-spec =
     (tie.spec
     (λ c. search rules) (λ c. search rules) (λ c. search rules) (λ c. search rules) (λ c. search rules) (λ c. search rules)
     (λ c. search rules) (λ c. search rules) (λ c. search rules)
-    (λ c. sym (ap closedTurn c.enum-told4.given.1))
-    (λ c. sym (ap closedTurn c.enum-told5.given.1))
+    (λ c. sym (ap closed_turn c.enum-told4.given.1))
+    (λ c. sym (ap closed_turn c.enum-told5.given.1))
     (λ c. search rules))

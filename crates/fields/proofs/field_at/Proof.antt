@@ -1,11 +1,11 @@
 use borrow.Author.Rules.{rules}
-use Rattle.fields.specs.Marks.{marksAt}
-use Rattle.fields.specs.Field.{fieldAt}
+use Rattle.fields.specs.Marks.{marks_at}
+use Rattle.fields.specs.Field.{field_at}
 use Rattle.fields.proofs.field_at.Statement.{statement}
 use Rattle.fields.proofs.field_at.Tie as tie
 
 returns : tie.Need-returns
-unfolding fieldAt marksAt
+unfolding field_at marks_at
 returns c = search rules
 
 pub field-at-spec : {M : Type 1} → statement M

@@ -1,6 +1,6 @@
 use borrow.Author.Rules.{rules}
 use mathlib.Core.Path.{sym, ap}
-use Rattle.fields.specs.Rest.{plainTurn}
+use Rattle.fields.specs.Rest.{plain_turn}
 use Rattle.fields.proofs.plain_turn.Statement.{statement}
 use Rattle.fields.proofs.plain_turn.Tie as tie
 
@@ -10,6 +10,6 @@ plain-turn-spec =
     (tie.spec
     (λ c. search rules) (λ c. search rules) (λ c. search rules) (λ c. search rules) (λ c. search rules) (λ c. search rules)
     (λ c. search rules) (λ c. search rules) (λ c. search rules)
-    (λ c. sym (ap plainTurn c.enum-told4.given.1))
+    (λ c. sym (ap plain_turn c.enum-told4.given.1))
     (λ c. search rules)
-    (λ c. sym (ap plainTurn c.enum-told6.given.1)))
+    (λ c. sym (ap plain_turn c.enum-told6.given.1)))

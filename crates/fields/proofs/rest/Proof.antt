@@ -7,16 +7,16 @@ use Prim.Native.Nat.{ℕ, ◌+◌, ◌-◌, ◌<◌}
 use native.Mathlib.Omega.{arith}
 use lib.ListN.{length, drop}
 use Rattle.fields.specs.Field.{field_of}
-use Rattle.fields.specs.Rest.{marksIn}
+use Rattle.fields.specs.Rest.{marks_in}
 use Rattle.fields.specs.declared.Num.TheVariants.{Bad}
 use Rattle.fields.specs.declared.Turn.{Turn}
 use Rattle.fields.specs.declared.Turn.TheVariants as Turn
-use Rattle.fields.proofs.RestLaws.{turned, stops, rest-step, before-end}
+use Rattle.fields.proofs.RestLaws.{turned, stops, rest_step, before_end}
 use Rattle.fields.proofs.rest.Statement.{statement}
 use Rattle.fields.proofs.rest.Tie as tie
 
 abbrev invariant-loop : tie.invariant-loop
-invariant-loop text at here₀ m₀ here m = field_of (marksIn m (drop here text) here) Bad ≡ field_of (marksIn m₀ (drop at text) at) Bad
+invariant-loop text at here₀ m₀ here m = field_of (marks_in m (drop here text) here) Bad ≡ field_of (marks_in m₀ (drop at text) at) Bad
 
 abbrev decreases-loop : tie.decreases-loop
 decreases-loop text at here₀ m₀ here m = length text - here
@@ -29,10 +29,10 @@ module _ (d : tie.After-turn-at invariant-loop decreases-loop) (t : Turn) (e : d
   here = d.before.loop.here
 
   within : stops t ≡ false → here < length s
-  within f = before-end s here d.before.loop.m t (sym e ∙ d.turn_at.ensures) f
+  within f = before_end s here d.before.loop.m t (sym e ∙ d.turn_at.ensures) f
 
-  on : turned t (here + 1) (drop (here + 1) s) ≡ field_of (marksIn d.before.before.before.args.mode (drop d.before.before.before.args.at s) d.before.before.before.args.at) Bad
-  on = rest-step s here d.before.loop.m t (sym e ∙ d.turn_at.ensures) ∙ d.before.loop.inv
+  on : turned t (here + 1) (drop (here + 1) s) ≡ field_of (marks_in d.before.before.before.args.mode (drop d.before.before.before.args.at s) d.before.before.before.args.at) Bad
+  on = rest_step s here d.before.loop.m t (sym e ∙ d.turn_at.ensures) ∙ d.before.loop.inv
 
 pub rest-spec : {M : Type 1} → statement M
 rest-spec =

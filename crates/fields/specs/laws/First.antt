@@ -3,9 +3,9 @@
 -- Assumes nothing.
 use Rattle.std.specs.Prelude.{ℕ, suc, ◌+◌, ◌≤◌, ◌<◌, ◌≡◌, refl, Bool, true, false, cond, List, [], ◌∷◌, eqb, length, drop}
 use Rattle.std.proofs.Common.{sym, ap, ◌∙◌, subst, arith, length-drop, drop-drop}
-use Rattle.fields.specs.Number.{digitOf, digitsOf}
-use Rattle.fields.specs.Marks.{Marks, seen, by, outside, inside, marksAt}
-use Rattle.fields.specs.Field.{field_of, fieldAt}
+use Rattle.fields.specs.Number.{digit_of, digits_of}
+use Rattle.fields.specs.Marks.{Marks, seen, by, outside, inside, marks_at}
+use Rattle.fields.specs.Field.{field_of, field_at}
 use Rattle.fields.specs.declared.Num.{Num}
 use Rattle.fields.specs.declared.Num.TheVariants.{Empty}
 use Rattle.fields.specs.declared.Seen.{Seen}
@@ -45,43 +45,43 @@ marked b l at m (fault bs e) = fault (b ∷ bs) (ap (Marks.byte b) e)
 
 -- by what stands first
 module _ (b : ℕ) (s : List ℕ) (at : ℕ) (outs : (p : Place) → Ends s (at + 1) (outside s (at + 1) p)) (inss : Ends s (at + 1) (inside s (at + 1))) where
-  by-ends : (k : Seen) (p : Place) → Ends (b ∷ s) at (by k p (at + 1) (outside s (at + 1)) (inside s (at + 1)))
-  by-ends End p = end [] refl
-  by-ends Comma p = comma [] 1 (omega arith) (omega arith) refl
-  by-ends Line p = line [] 1 (omega arith) (omega arith) refl
-  by-ends Skip p = further b s at (outside s (at + 1) p) (outs p)
-  by-ends Quote Start = further b s at (inside s (at + 1)) inss
-  by-ends Quote Inside = fault [] refl
-  by-ends Quote Closed = marked 34 (b ∷ s) at (inside s (at + 1)) (further b s at (inside s (at + 1)) inss)
-  by-ends (Data c) Start = marked c (b ∷ s) at (outside s (at + 1) Inside) (further b s at (outside s (at + 1) Inside) (outs Inside))
-  by-ends (Data c) Inside = marked c (b ∷ s) at (outside s (at + 1) Inside) (further b s at (outside s (at + 1) Inside) (outs Inside))
-  by-ends (Data c) Closed = fault [] refl
+  by_ends : (k : Seen) (p : Place) → Ends (b ∷ s) at (by k p (at + 1) (outside s (at + 1)) (inside s (at + 1)))
+  by_ends End p = end [] refl
+  by_ends Comma p = comma [] 1 (omega arith) (omega arith) refl
+  by_ends Line p = line [] 1 (omega arith) (omega arith) refl
+  by_ends Skip p = further b s at (outside s (at + 1) p) (outs p)
+  by_ends Quote Start = further b s at (inside s (at + 1)) inss
+  by_ends Quote Inside = fault [] refl
+  by_ends Quote Closed = marked 34 (b ∷ s) at (inside s (at + 1)) (further b s at (inside s (at + 1)) inss)
+  by_ends (Data c) Start = marked c (b ∷ s) at (outside s (at + 1) Inside) (further b s at (outside s (at + 1) Inside) (outs Inside))
+  by_ends (Data c) Inside = marked c (b ∷ s) at (outside s (at + 1) Inside) (further b s at (outside s (at + 1) Inside) (outs Inside))
+  by_ends (Data c) Closed = fault [] refl
 
-  in-ends : (t : Bool) → Ends (b ∷ s) at (cond t (outside s (at + 1) Closed) (Marks.byte b (inside s (at + 1))))
-  in-ends true = further b s at (outside s (at + 1) Closed) (outs Closed)
-  in-ends false = marked b (b ∷ s) at (inside s (at + 1)) (further b s at (inside s (at + 1)) inss)
+  in_ends : (t : Bool) → Ends (b ∷ s) at (cond t (outside s (at + 1) Closed) (Marks.byte b (inside s (at + 1))))
+  in_ends true = further b s at (outside s (at + 1) Closed) (outs Closed)
+  in_ends false = marked b (b ∷ s) at (inside s (at + 1)) (further b s at (inside s (at + 1)) inss)
 
 mutual
   unfolding outside
 
-  out-ends : (l : List ℕ) (at : ℕ) (p : Place) → Ends l at (outside l at p)
-  out-ends [] at p = end [] refl
-  out-ends (b ∷ s) at p = by-ends b s at (λ q. out-ends s (at + 1) q) (ins-ends s (at + 1)) (seen b s) p
+  out_ends : (l : List ℕ) (at : ℕ) (p : Place) → Ends l at (outside l at p)
+  out_ends [] at p = end [] refl
+  out_ends (b ∷ s) at p = by_ends b s at (λ q. out_ends s (at + 1) q) (ins_ends s (at + 1)) (seen b s) p
 
-  ins-ends : (l : List ℕ) (at : ℕ) → Ends l at (inside l at)
-  ins-ends [] at = fault [] refl
-  ins-ends (b ∷ s) at = in-ends b s at (λ q. out-ends s (at + 1) q) (ins-ends s (at + 1)) (eqb b 34)
+  ins_ends : (l : List ℕ) (at : ℕ) → Ends l at (inside l at)
+  ins_ends [] at = fault [] refl
+  ins_ends (b ∷ s) at = in_ends b s at (λ q. out_ends s (at + 1) q) (ins_ends s (at + 1)) (eqb b 34)
 
 -- the first field from a place on: its bytes, and what is behind it
 pub data First (s : List ℕ) (at : ℕ) : Type 0 where
-  comma : (bs : List ℕ) (next : ℕ) → at < next → next ≤ length s → marksAt s at ≡ prefix bs (Marks.comma next (marksAt s next)) → First s at
-  line : (bs : List ℕ) (next : ℕ) → at < next → next ≤ length s → marksAt s at ≡ prefix bs (Marks.line next (marksAt s next)) → First s at
-  end : (bs : List ℕ) → marksAt s at ≡ prefix bs Marks.end → First s at
-  fault : (bs : List ℕ) → marksAt s at ≡ prefix bs Marks.fault → First s at
+  comma : (bs : List ℕ) (next : ℕ) → at < next → next ≤ length s → marks_at s at ≡ prefix bs (Marks.comma next (marks_at s next)) → First s at
+  line : (bs : List ℕ) (next : ℕ) → at < next → next ≤ length s → marks_at s at ≡ prefix bs (Marks.line next (marks_at s next)) → First s at
+  end : (bs : List ℕ) → marks_at s at ≡ prefix bs Marks.end → First s at
+  fault : (bs : List ℕ) → marks_at s at ≡ prefix bs Marks.fault → First s at
 
 pub first : (s : List ℕ) (at : ℕ) → First s at
-unfolding marksAt
-first s at = go (out-ends (drop at s) at Start)
+unfolding marks_at
+first s at = go (out_ends (drop at s) at Start)
   where
     behind : (j : ℕ) → drop j (drop at s) ≡ drop (at + j) s
     behind j = drop-drop j at s
@@ -95,7 +95,7 @@ first s at = go (out-ends (drop at s) at Start)
     go (fault bs e) = fault bs e
 
 -- the field's number is what its bytes spell
-pub field-prefix : (bs : List ℕ) (m : Marks) (n : Num) → field_of (prefix bs m) n ≡ field_of m (digitsOf n bs)
-unfolding field_of digitsOf
-field-prefix [] m n = refl
-field-prefix (b ∷ bs) m n = field-prefix bs m (digitOf n b)
+pub field_prefix : (bs : List ℕ) (m : Marks) (n : Num) → field_of (prefix bs m) n ≡ field_of m (digits_of n bs)
+unfolding field_of digits_of
+field_prefix [] m n = refl
+field_prefix (b ∷ bs) m n = field_prefix bs m (digit_of n b)

@@ -6,22 +6,22 @@ use mathlib.Core.Bool.{Bool, true, cond}
 use Prim.Native.Nat.{ℕ, ◌+◌, ◌-◌, ◌≤◌}
 use native.Mathlib.Omega.{arith}
 use lib.ListN.{length}
-use Rattle.filling.specs.Filling.{lineLeft}
+use Rattle.filling.specs.Filling.{line_left}
 use Rattle.filling.specs.laws.RowLaws.{one_left}
-use Rattle.filling.specs.laws.StepLaws.{counted, empty_at, Passes, at-comma, at-line, at-end, at-fault}
+use Rattle.filling.specs.laws.StepLaws.{counted, empty_at, Passes, at_comma, at_line, at_end, at_fault}
 use Rattle.filling.proofs.count_at.Statement.{statement}
 use Rattle.filling.proofs.count_at.Tie as tie
 
 abbrev invariant-loop : tie.invariant-loop
 invariant-loop text at here₀ count₀ kept₀ here count kept =
-    (count ≤ here) × (count ≤ length text) × ((lineLeft true text at).end ≡ (lineLeft true text here).end) × (length (lineLeft true text at).values ≡ counted text here count kept)
+    (count ≤ here) × (count ≤ length text) × ((line_left true text at).end ≡ (line_left true text here).end) × (length (line_left true text at).values ≡ counted text here count kept)
 
 abbrev decreases-loop : tie.decreases-loop
 decreases-loop text at here₀ count₀ kept₀ here count kept = length text - here
 
 -- past a comma the line goes on
 on : (c : tie.After-next invariant-loop decreases-loop) → Passes c.before.before.before.before.before.before.args.text.now c.before.before.before.before.loop.here c.next.given.0.1.0
-on c = at-comma _ _ c.next.given.0.0 c.next.given.0.1.0 (sym c.before.before.field-from.ensures ∙ c.next.given.1)
+on c = at_comma _ _ c.next.given.0.0 c.next.given.0.1.0 (sym c.before.before.field-from.ensures ∙ c.next.given.1)
 
 loop-again : tie.Need-loop-preserved invariant-loop decreases-loop
 loop-again c =
@@ -47,7 +47,7 @@ kept-last e = cond e.is-empty.result e.before.loop.auto (e.before.loop.count + 1
 last : (e : tie.After-is-empty invariant-loop decreases-loop) (n : ℕ) → n ≡ kept-last e
     → counted e.before.before.before.args.text.now e.before.loop.here e.before.loop.count e.before.loop.auto
     ≡ cond (empty_at e.before.before.before.args.text.now e.before.loop.here) e.before.loop.auto (e.before.loop.count + 1)
-    → n ≡ length (lineLeft true e.before.before.before.args.text.now e.before.before.before.args.at).values
+    → n ≡ length (line_left true e.before.before.before.args.text.now e.before.before.before.args.at).values
 last e n k f = k ∙ ap (λ (t : Bool). cond t e.before.loop.auto (e.before.loop.count + 1)) e.is-empty.ensures ∙ sym f ∙ sym e.before.loop.invariant.3
 
 returns : tie.Need-returns invariant-loop decreases-loop
@@ -56,7 +56,7 @@ returns c =
     let n = k.before.before in
     let e = n.before.before.before in
     let l = e.before in
-    let g = at-line l.before.before.args.text.now l.loop.here n.next2.given.0.0 n.next2.given.0.1.0 (sym n.before.before.field-from.ensures ∙ n.next2.given.1) in
+    let g = at_line l.before.before.args.text.now l.loop.here n.next2.given.0.0 n.next2.given.0.1.0 (sym n.before.before.field-from.ensures ∙ n.next2.given.1) in
     record { count = last e _ k.kept-by2.ensures (g.count l.loop.count l.loop.auto); end = c.end_Before.ensures ∙ sym (l.loop.invariant.2 ∙ g.end) }
 
 returns-2 : tie.Need-returns-2 invariant-loop decreases-loop
@@ -64,13 +64,13 @@ returns-2 c =
     let n = c.before in
     let e = n.before.before.before in
     let l = e.before in
-    let g = at-end l.before.before.args.text.now l.loop.here _ (sym n.before.before.field-from.ensures ∙ n.enum_told.given.1) in
+    let g = at_end l.before.before.args.text.now l.loop.here _ (sym n.before.before.field-from.ensures ∙ n.enum_told.given.1) in
     record { count = last e _ c.kept-by3.ensures (g.count l.loop.count l.loop.auto); end = sym (l.loop.invariant.2 ∙ g.end) }
 
 returns-3 : tie.Need-returns-3 invariant-loop decreases-loop
 returns-3 c =
     let l = c.before.before.before.before in
-    let g = at-fault l.before.before.args.text.now l.loop.here (sym c.before.before.field-from.ensures ∙ c.enum-told2.given.1) in
+    let g = at_fault l.before.before.args.text.now l.loop.here (sym c.before.before.field-from.ensures ∙ c.enum-told2.given.1) in
     record { count = sym (l.loop.invariant.3 ∙ g.count l.loop.count l.loop.auto); end = sym (l.loop.invariant.2 ∙ g.end) }
 
 pub count-at-spec : {M : Type 1} → statement M

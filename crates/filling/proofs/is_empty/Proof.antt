@@ -6,13 +6,13 @@ use mathlib.Core.Bool.{true}
 use lib.ListN.{drop}
 use Rattle.fields.specs.Marks.{seen_at}
 use Rattle.fields.specs.declared.Seen.{Seen}
-use Rattle.filling.specs.Filling.{blankBy}
+use Rattle.filling.specs.Filling.{blank_by}
 use Rattle.filling.proofs.is_empty.Statement.{statement}
 use Rattle.filling.proofs.is_empty.Tie as tie
 
 -- by what stands there
-by-seen : (c : tie.After-look) (k : Seen) → c.look.result ≡ k → blankBy true k true ≡ blankBy true (seen_at (drop c.before.before.args.at c.before.before.args.text.now)) true
-by-seen c k e = ap (λ (x : Seen). blankBy true x true) (sym e ∙ c.look.ensures)
+by-seen : (c : tie.After-look) (k : Seen) → c.look.result ≡ k → blank_by true k true ≡ blank_by true (seen_at (drop c.before.before.args.at c.before.before.args.text.now)) true
+by-seen c k e = ap (λ (x : Seen). blank_by true x true) (sym e ∙ c.look.ensures)
 
 pub is_empty_spec : {M : Type 1} → statement M
 is_empty_spec =

@@ -7,7 +7,7 @@ use Prim.Native.Nat.{◌+◌, ◌-◌}
 use borrow.Author.Tests.{not-true, not-false}
 use lib.ListN.{length, drop}
 use Rattle.filling.specs.Filling.{blank}
-use Rattle.filling.specs.laws.StepLaws.{rest-step, rest_end}
+use Rattle.filling.specs.laws.StepLaws.{rest_step, rest_end}
 use Rattle.filling.proofs.is_rest.Statement.{statement}
 use Rattle.filling.proofs.is_rest.Tie as tie
 
@@ -23,7 +23,7 @@ by-empty : (c : tie.After-is-empty invariant-loop decreases-loop) (t : Bool) →
 by-empty c t e =
     let s = c.before.before.before.before.args.text.now in
     let here = c.before.before.loop.here in
-    ap (λ (x : Bool). x && blank true (drop (here + 1) s)) (sym e ∙ c.is-empty.ensures) ∙ sym (rest-step s here c.before.loop-test.true) ∙ c.before.before.loop.invariant
+    ap (λ (x : Bool). x && blank true (drop (here + 1) s)) (sym e ∙ c.is-empty.ensures) ∙ sym (rest_step s here c.before.loop-test.true) ∙ c.before.before.loop.invariant
 
 pub is-rest-spec : {M : Type 1} → statement M
 is-rest-spec =

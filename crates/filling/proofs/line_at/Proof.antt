@@ -7,16 +7,16 @@ use mathlib.Core.List.{List}
 use Prim.Native.Nat.{ℕ}
 use Rattle.text.specs.declared.Line.{Line}
 use Rattle.text.specs.Line.{Reads, line_at}
-use Rattle.filling.specs.Filling.{lineLeft}
+use Rattle.filling.specs.Filling.{line_left}
 use Rattle.filling.proofs.line_at.Statement.{statement}
 use Rattle.filling.proofs.line_at.Tie as tie
 
-without : (filled : Bool) (s : List ℕ) (at : ℕ) (nums : List ℕ) (r : Line) (after : List ℕ) → filled ≡ true → Reads (lineLeft true s at) nums r after → Reads (lineLeft filled s at) nums r after
-without filled s at nums r after e h = subst (λ (t : Bool). Reads (lineLeft t s at) nums r after) (sym e) h
+without : (filled : Bool) (s : List ℕ) (at : ℕ) (nums : List ℕ) (r : Line) (after : List ℕ) → filled ≡ true → Reads (line_left true s at) nums r after → Reads (line_left filled s at) nums r after
+without filled s at nums r after e h = subst (λ (t : Bool). Reads (line_left t s at) nums r after) (sym e) h
 
-as-it-is : (filled : Bool) (s : List ℕ) (at : ℕ) (nums : List ℕ) (r : Line) (after : List ℕ) → filled ≡ false → Reads (line_at s at) nums r after → Reads (lineLeft filled s at) nums r after
-unfolding line_at lineLeft
-as-it-is filled s at nums r after e h = subst (λ (t : Bool). Reads (lineLeft t s at) nums r after) (sym e) h
+as-it-is : (filled : Bool) (s : List ℕ) (at : ℕ) (nums : List ℕ) (r : Line) (after : List ℕ) → filled ≡ false → Reads (line_at s at) nums r after → Reads (line_left filled s at) nums r after
+unfolding line_at line_left
+as-it-is filled s at nums r after e h = subst (λ (t : Bool). Reads (line_left t s at) nums r after) (sym e) h
 
 pub line-at-spec : {M : Type 1} → statement M
 line-at-spec =

@@ -4,7 +4,7 @@ use borrow.Author.Rules.{rules}
 use mathlib.Core.Path.{sym}
 use native.Mathlib.Omega.{arith}
 use lib.Seq.{length-take-le}
-use Rattle.filling.specs.laws.StepLaws.{part-read, all_read}
+use Rattle.filling.specs.laws.StepLaws.{part_read, all_read}
 use Rattle.filling.proofs.unfilled_at.Statement.{statement}
 use Rattle.filling.proofs.unfilled_at.Tie as tie
 
@@ -16,7 +16,7 @@ returns c =
     record {
       count = k.count_at.ensures.count;
       end = k.count_at.ensures.end;
-      numbers = part-read a.text.now a.at a.nums.now k.count_at.result.count _ k.count_at.ensures.count r.line-at.ensures.numbers;
+      numbers = part_read a.text.now a.at a.nums.now k.count_at.result.count _ k.count_at.ensures.count r.line-at.ensures.numbers;
     }
 
 returns-2 : tie.Need-returns-2

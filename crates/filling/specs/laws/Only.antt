@@ -4,8 +4,8 @@ use Rattle.std.specs.Prelude.{ℕ, ◌≡◌, Bool, List}
 use Rattle.text.specs.declared.Line.{Line}
 use Rattle.text.specs.Line.{Reads}
 use Rattle.text.specs.laws.Only as text
-use Rattle.filling.specs.Filling.{lineLeft}
+use Rattle.filling.specs.Filling.{line_left}
 
-pub line-at-only : (s : List ℕ) (at : ℕ) (filled : Bool) (nums : List ℕ) (q r : Line) (a b : List ℕ)
-    → Reads (lineLeft filled s at) nums q a → Reads (lineLeft filled s at) nums r b → (q ≡ r) × (a ≡ b)
-line-at-only s at filled nums q r a b e f = text.line-at-only (lineLeft filled s at) nums q r a b e f
+pub line_at_only : (s : List ℕ) (at : ℕ) (filled : Bool) (nums : List ℕ) (q r : Line) (a b : List ℕ)
+    → Reads (line_left filled s at) nums q a → Reads (line_left filled s at) nums r b → (q ≡ r) × (a ≡ b)
+line_at_only s at filled nums q r a b e f = text.line_at_only (line_left filled s at) nums q r a b e f

@@ -16,10 +16,10 @@ record InRange (n ends eta q x : ℕ) : Type 0 where
 
 in-range : {n ends eta q x : ℕ} → Product n ends eta q x → InRange n ends eta q x
 in-range h =
-    let a = mul-le-mul h.n-high h.ends-high in
-    let b = mul-le-mul a h.eta-high in
-    let c = mul-le-mul b h.load-high in
-    record { first = a; second = b; third = c; whole = mul-le-mul c h.x-high }
+    let a = mul-le-mul h.n_high h.ends_high in
+    let b = mul-le-mul a h.eta_high in
+    let c = mul-le-mul b h.load_high in
+    record { first = a; second = b; third = c; whole = mul-le-mul c h.x_high }
 
 pub product-spec : {M : Type 1} → statement M
 product-spec =

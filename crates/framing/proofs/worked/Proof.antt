@@ -3,37 +3,37 @@
 use borrow.Author.Rules.{rules}
 use mathlib.Core.Path.{◌≡◌, sym, ap, ◌∙◌}
 use Rattle.sheet.specs.Refusals.{given}
-use Rattle.sheet.specs.Record.{ofMember}
-use Rattle.sheet.specs.laws.HeaderLaws.{header-ranges}
-use Rattle.sheet.specs.laws.RecordLaws.{member-ranges}
+use Rattle.sheet.specs.Record.{of_member}
+use Rattle.sheet.specs.laws.HeaderLaws.{header_ranges}
+use Rattle.sheet.specs.laws.RecordLaws.{member_ranges}
 use Rattle.verdict.specs.Judged.{Sound}
-use Rattle.verdict.specs.laws.JudgedLaws.{admitted-sound, turned-away, sound-given}
-use Rattle.framing.specs.Work.{toldWork, workOf}
+use Rattle.verdict.specs.laws.JudgedLaws.{admitted_sound, turned_away, sound_given}
+use Rattle.framing.specs.Work.{told_work, work_of}
 use Rattle.framing.proofs.worked.Statement.{statement}
 use Rattle.framing.proofs.worked.Tie as tie
 
 -- where nothing is at fault
-sound : (c : tie.After-enum-told) → let a = c.before.before.before.args in Sound a.h (ofMember a.kind a.id a.m)
-sound c = admitted-sound _ _ _ c.before.before.admitted-member.ensures c.enum_told.given.1
+sound : (c : tie.After-enum-told) → let a = c.before.before.before.args in Sound a.h (of_member a.kind a.id a.m)
+sound c = admitted_sound _ _ _ c.before.before.admitted-member.ensures c.enum_told.given.1
 
 returns : tie.Need-returns
 returns c =
     let at-admitted = c.before.before.before in
     let a = at-admitted.before.args in
-    turned-away a.h (ofMember a.kind a.id a.m) _ at-admitted.admitted-member.ensures (workOf a.h a.kind a.m) _ c.before.admitted.given.1
+    turned_away a.h (of_member a.kind a.id a.m) _ at-admitted.admitted-member.ensures (work_of a.h a.kind a.m) _ c.before.admitted.given.1
 
 member-work-requires : tie.Need-member-work-requires
 member-work-requires c κs =
     let a = c.before.before.before.before.args in
     let s = sound c.before in
-    (header-ranges a.h s.header, member-ranges a.kind a.id a.m s.body, c.member-load.ensures)
+    (header_ranges a.h s.header, member_ranges a.kind a.id a.m s.body, c.member-load.ensures)
 
 returns-2 : tie.Need-returns-2
 returns-2 c =
     let told = c.before.before in
     let a = told.before.before.before.args in
-    let work : toldWork c.member-work.result ≡ workOf a.h a.kind a.m = c.member-work.ensures in
-    ap given work ∙ sym (sound-given a.h (ofMember a.kind a.id a.m) (workOf a.h a.kind a.m) (sound told))
+    let work : told_work c.member-work.result ≡ work_of a.h a.kind a.m = c.member-work.ensures in
+    ap given work ∙ sym (sound_given a.h (of_member a.kind a.id a.m) (work_of a.h a.kind a.m) (sound told))
 
 pub worked-spec : {M : Type 1} → statement M
 worked-spec =

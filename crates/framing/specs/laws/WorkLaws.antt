@@ -3,28 +3,28 @@
 use Rattle.std.specs.Prelude.{◌≡◌, refl}
 use Rattle.std.proofs.Common.{sym, ap, ap₂, ◌∙◌}
 use Rattle.loads.specs.declared.Load.{Load}
-use Rattle.loads.specs.laws.Only.{load-only}
-use Rattle.loads.specs.Sources.{toldLoad}
+use Rattle.loads.specs.laws.Only.{load_only}
+use Rattle.loads.specs.Sources.{told_load}
 use Rattle.sheet.specs.Refusals.{Answer}
-use Rattle.sheet.specs.laws.RefusalLaws.{given-refused, refusal-only, refused-number, refused-place, given-same}
+use Rattle.sheet.specs.laws.RefusalLaws.{given_refused, refusal_only, refused_number, refused_place, given_same}
 use Rattle.framing.specs.declared.MemberWork.{MemberWork}
 use Rattle.framing.specs.declared.MemberWorked.{MemberWorked}
 use Rattle.framing.specs.declared.MemberWorked.TheVariants.{Work as isWork, Refused as notWorked}
-use Rattle.framing.specs.Work.{Work, toldWork, toldWorked}
+use Rattle.framing.specs.Work.{Work, told_work, told_worked}
 
 -- a working with this load and, for the rest, what a told one says
-withLoad : Load → Work → MemberWork
-withLoad l w = record { load = l; line = record { 0 = w.line }; web = w.web; bending = w.bending; shear = w.shear; verdict = w.verdict }
+with_load : Load → Work → MemberWork
+with_load l w = record { load = l; line = record { 0 = w.line }; web = w.web; bending = w.bending; shear = w.shear; verdict = w.verdict }
 
 -- two workings that say the same
-work-only : (v w : MemberWork) → toldWork v ≡ toldWork w → v ≡ w
-unfolding withLoad
-work-only v w e =
-    let load : v.load ≡ w.load = load-only (toldLoad w.load) v.load w.load (ap (λ (x : Work). x.load) e) refl in
-    ap₂ withLoad load e
+work_only : (v w : MemberWork) → told_work v ≡ told_work w → v ≡ w
+unfolding with_load
+work_only v w e =
+    let load : v.load ≡ w.load = load_only (told_load w.load) v.load w.load (ap (λ (x : Work). x.load) e) refl in
+    ap₂ with_load load e
 
-pub member-worked-only : (a : Answer Work) (i j : MemberWorked) → toldWorked i ≡ a → toldWorked j ≡ a → i ≡ j
-member-worked-only a (isWork v) (isWork w) p q = ap isWork (work-only v w (given-same (p ∙ sym q)))
-member-worked-only a (isWork v) (notWorked r) p q = given-refused (p ∙ sym q)
-member-worked-only a (notWorked r) (isWork w) p q = given-refused (q ∙ sym p)
-member-worked-only a (notWorked r) (notWorked s) p q = ap notWorked (refusal-only r s (refused-number (p ∙ sym q)) (refused-place (p ∙ sym q)))
+pub member_worked_only : (a : Answer Work) (i j : MemberWorked) → told_worked i ≡ a → told_worked j ≡ a → i ≡ j
+member_worked_only a (isWork v) (isWork w) p q = ap isWork (work_only v w (given_same (p ∙ sym q)))
+member_worked_only a (isWork v) (notWorked r) p q = given_refused (p ∙ sym q)
+member_worked_only a (notWorked r) (isWork w) p q = given_refused (q ∙ sym p)
+member_worked_only a (notWorked r) (notWorked s) p q = ap notWorked (refusal_only r s (refused_number (p ∙ sym q)) (refused_place (p ∙ sym q)))

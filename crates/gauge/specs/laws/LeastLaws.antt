@@ -9,25 +9,25 @@ use Rattle.std.proofs.Math.Decide.{dec_le}
 use Rattle.truth.specs.laws.Tests.{clash, false_of}
 use Rattle.gauge.specs.declared.Least.{Least}
 use Rattle.gauge.specs.declared.Least.TheVariants.{At, Nothing}
-use Rattle.gauge.specs.Least.{firstFrom, leastIn, number_of, Monotone, Agree, IsLeast, Answer}
+use Rattle.gauge.specs.Least.{first_from, least_in, number_of, Monotone, Agree, IsLeast, Answer}
 
 module _ (test : ℕ → Bool) where
   -- a number that fails may stand in front
-  in-front : (x end : ℕ) (r : Least) → test x ≡ false → Answer test (suc x) end r → Answer test x end r
-  in-front x end (At k) q a =
+  in_front : (x end : ℕ) (r : Least) → test x ≡ false → Answer test (suc x) end r → Answer test x end r
+  in_front x end (At k) q a =
       record { from = omega arith; within = a.within; passes = a.passes; least = λ j m n. ⊎_elim (λ e. cc) (λ l. a.least j l n) (eq-or-lt_of_le m) }
-  in-front x end Nothing q a = λ j m n. ⊎_elim (λ e. cc) (λ l. a j l n) (eq-or-lt_of_le m)
+  in_front x end Nothing q a = λ j m n. ⊎_elim (λ e. cc) (λ l. a j l n) (eq-or-lt_of_le m)
 
   -- the search gives the answer
-  answered : (count x end : ℕ) → end ≡ x + count → Answer test x end (firstFrom test count x)
-  unfolding firstFrom
+  answered : (count x end : ℕ) → end ≡ x + count → Answer test x end (first_from test count x)
+  unfolding first_from
   answered zero x end f = λ j m n. absurd (omega arith)
   answered (suc count) x end f = go (test x) refl (answered count (suc x) end (omega arith))
     where
-      go : (b : Bool) → test x ≡ b → Answer test (suc x) end (firstFrom test count (suc x)) →
-          Answer test x end (cond b (At x) (firstFrom test count (suc x)))
+      go : (b : Bool) → test x ≡ b → Answer test (suc x) end (first_from test count (suc x)) →
+          Answer test x end (cond b (At x) (first_from test count (suc x)))
       go true q a = record { from = omega arith; within = omega arith; passes = q; least = λ j m n. absurd (omega arith) }
-      go false q a = in-front x end (firstFrom test count (suc x)) q a
+      go false q a = in_front x end (first_from test count (suc x)) q a
 
   -- no number that passes is below the least
   pub no_less : (lo end k m : ℕ) → IsLeast test lo end k → lo ≤ m → test m ≡ true → k ≤ m
@@ -46,41 +46,41 @@ module _ (test : ℕ → Bool) where
   unique lo end Nothing Nothing a b = refl
 
   module _ (top : ℕ) where
-    -- `leastIn` is an answer, and the only one
-    pub least-answers : Answer test 1 (top + 1) (leastIn test top)
-    unfolding leastIn
-    least-answers = answered top 1 (top + 1) (omega arith)
+    -- `least_in` is an answer, and the only one
+    pub least_answers : Answer test 1 (top + 1) (least_in test top)
+    unfolding least_in
+    least_answers = answered top 1 (top + 1) (omega arith)
 
-    pub least-only : (r : Least) → Answer test 1 (top + 1) r → r ≡ leastIn test top
-    least-only r a = unique 1 (top + 1) r (leastIn test top) a least-answers
+    pub least_only : (r : Least) → Answer test 1 (top + 1) r → r ≡ least_in test top
+    least_only r a = unique 1 (top + 1) r (least_in test top) a least_answers
 
     -- an answer that is a number: it is in the gauge and passes, and nothing smaller does
-    pub least-is : (k : ℕ) → leastIn test top ≡ At k → IsLeast test 1 (top + 1) k
-    least-is k e = subst (Answer test 1 (top + 1)) e least-answers
+    pub least_is_lem : (k : ℕ) → least_in test top ≡ At k → IsLeast test 1 (top + 1) k
+    least_is_lem k e = subst (Answer test 1 (top + 1)) e least_answers
 
-    pub smaller-fails : (k : ℕ) → leastIn test top ≡ At k → (j : ℕ) → 1 ≤ j → j < k → test j ≡ false
-    smaller-fails k e = (least-is k e).least
+    pub smaller_fails : (k : ℕ) → least_in test top ≡ At k → (j : ℕ) → 1 ≤ j → j < k → test j ≡ false
+    smaller_fails k e = (least_is_lem k e).least
 
     -- no answer only where nothing in the gauge passes, and always there
-    pub none_passes : leastIn test top ≡ Nothing → (j : ℕ) → 1 ≤ j → j ≤ top → test j ≡ false
+    pub none_passes : least_in test top ≡ Nothing → (j : ℕ) → 1 ≤ j → j ≤ top → test j ≡ false
     none_passes e j l h =
-        let a : Answer test 1 (top + 1) Nothing = subst (Answer test 1 (top + 1)) e least-answers in
+        let a : Answer test 1 (top + 1) Nothing = subst (Answer test 1 (top + 1)) e least_answers in
         a j l (omega arith)
 
-    pub none-given : ((j : ℕ) → 1 ≤ j → j ≤ top → test j ≡ false) → leastIn test top ≡ Nothing
-    none-given f = sym (least-only Nothing (λ j l h. f j l (omega arith)))
+    pub none_given : ((j : ℕ) → 1 ≤ j → j ≤ top → test j ≡ false) → least_in test top ≡ Nothing
+    none_given f = sym (least_only Nothing (λ j l h. f j l (omega arith)))
 
     -- the number of an answer is 0 exactly where there is none
-    pub number-zero : number_of (leastIn test top) ≡ 0 → leastIn test top ≡ Nothing
-    number-zero = go (leastIn test top) refl
+    pub number_zero : number_of (least_in test top) ≡ 0 → least_in test top ≡ Nothing
+    number_zero = go (least_in test top) refl
       where
-        go : (r : Least) → leastIn test top ≡ r → number_of r ≡ 0 → r ≡ Nothing
-        go (At k) e z = absurd (omega (arith, (least-is k e).from))
+        go : (r : Least) → least_in test top ≡ r → number_of r ≡ 0 → r ≡ Nothing
+        go (At k) e z = absurd (omega (arith, (least_is_lem k e).from))
         go Nothing e z = refl
 
     -- and else the number is the answer
-    pub number-least : (k : ℕ) → number_of (leastIn test top) ≡ suc k → leastIn test top ≡ At (suc k)
-    number-least k = go (leastIn test top)
+    pub number_least : (k : ℕ) → number_of (least_in test top) ≡ suc k → least_in test top ≡ At (suc k)
+    number_least k = go (least_in test top)
       where
         go : (r : Least) → number_of r ≡ suc k → r ≡ At (suc k)
         go (At m) z = ap At z
@@ -92,25 +92,25 @@ module _ (test : ℕ → Bool) where
     none_below x q j l = false_of (test j) (λ e. clash (m j x l e) q)
 
     -- every larger number passes too
-    pub larger-passes : (top k : ℕ) → leastIn test top ≡ At k → (y : ℕ) → k ≤ y → test y ≡ true
-    larger-passes top k e y l = m k y l (least-is top k e).passes
+    pub larger_passes : (top k : ℕ) → least_in test top ≡ At k → (y : ℕ) → k ≤ y → test y ≡ true
+    larger_passes top k e y l = m k y l (least_is_lem top k e).passes
 
     -- a number that fails is below the least that passes
-    pub fails-below : (top k x : ℕ) → leastIn test top ≡ At k → test x ≡ false → x < k
-    fails-below top k x e q = go (dec_le k x)
+    pub fails_below : (top k x : ℕ) → least_in test top ≡ At k → test x ≡ false → x < k
+    fails_below top k x e q = go (dec_le k x)
       where
         go : Dec (k ≤ x) → x < k
-        go (yes h) = clash (larger-passes top k e x h) q
+        go (yes h) = clash (larger_passes top k e x h) q
         go (no h) = omega arith
 
 -- two searches whose tests agree give one answer
-first-same : (f g : ℕ → Bool) (count x end : ℕ) → end ≡ x + count →
-    ((j : ℕ) → x ≤ j → j < end → f j ≡ g j) → firstFrom f count x ≡ firstFrom g count x
-unfolding firstFrom
-first-same f g zero x end e h = refl
-first-same f g (suc count) x end e h =
-    rw (h x (omega arith) (omega arith), first-same f g count (suc x) end (omega arith) (λ j m n. h j (omega arith) n))
+first_same : (f g : ℕ → Bool) (count x end : ℕ) → end ≡ x + count →
+    ((j : ℕ) → x ≤ j → j < end → f j ≡ g j) → first_from f count x ≡ first_from g count x
+unfolding first_from
+first_same f g zero x end e h = refl
+first_same f g (suc count) x end e h =
+    rw (h x (omega arith) (omega arith), first_same f g count (suc x) end (omega arith) (λ j m n. h j (omega arith) n))
 
-pub least-same : (f g : ℕ → Bool) (top : ℕ) → Agree top f g → leastIn f top ≡ leastIn g top
-unfolding leastIn
-least-same f g top h = first-same f g top 1 (top + 1) (omega arith) (λ j m n. h j m (omega arith))
+pub least_same : (f g : ℕ → Bool) (top : ℕ) → Agree top f g → least_in f top ≡ least_in g top
+unfolding least_in
+least_same f g top h = first_same f g top 1 (top + 1) (omega arith) (λ j m n. h j m (omega arith))

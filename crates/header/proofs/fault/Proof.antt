@@ -1,13 +1,13 @@
 -- `header::fault` meets its contract: the lines from the last to the first.
 -- Assumes nothing.
 use borrow.Author.Rules.{rules}
-use Rattle.sheet.specs.Header.{rawFault}
-use Rattle.sheet.specs.laws.HeaderLaws.{flag-within}
+use Rattle.sheet.specs.Header.{raw_fault}
+use Rattle.sheet.specs.laws.HeaderLaws.{flag_within}
 use Rattle.header.proofs.fault.Statement.{statement}
 use Rattle.header.proofs.fault.Tie as tie
 
 returns : tie.Need-returns
-unfolding rawFault
+unfolding raw_fault
 returns c =
     let c₂ = c.before.before.before in
     let c₃ = c₂.before.before in
@@ -30,7 +30,7 @@ returns c =
       own.own-fault.ensures,
       version.version.ensures.number,
       version.version.ensures.most,
-      flag-within version.before.args.h.two_runs,
+      flag_within version.before.args.h.two_runs,
     )
 
 pub fault-spec : {M : Type 1} → statement M

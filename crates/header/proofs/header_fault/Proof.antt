@@ -1,7 +1,7 @@
 -- `header::header_fault` meets its contract.
 -- Assumes nothing.
 use borrow.Author.Rules.{rules}
-use Rattle.header.proofs.Answers.{fault-fine, fault-refused}
+use Rattle.header.proofs.Answers.{fault_fine, fault_refused}
 use Rattle.header.proofs.header_fault.Statement.{statement}
 use Rattle.header.proofs.header_fault.Tie as tie
 
@@ -10,6 +10,6 @@ header-fault-spec =
     tie.close
     (tie.spec
     (λ c κs. search rules)
-    (λ c. fault-fine _ _ c.before.fault.ensures c.if1.true)
+    (λ c. fault_fine _ _ c.before.fault.ensures c.if1.true)
     (λ c κs. search rules)
-    (λ c. fault-refused _ _ c.before.before.fault.ensures _ c.refuse.ensures c.before.if1.false))
+    (λ c. fault_refused _ _ c.before.before.fault.ensures _ c.refuse.ensures c.before.if1.false))

@@ -11,9 +11,9 @@ use Rattle.layout.specs.Layout.{unpack}
 use Rattle.sheet.specs.declared.Header.{Header}
 use Rattle.sheet.specs.declared.Own.{Own}
 use Rattle.sheet.specs.Versions.{numbered}
-use Rattle.sheet.specs.Lines.{ownWidths}
+use Rattle.sheet.specs.Lines.{own_widths}
 use Rattle.sheet.specs.Header.{header_at}
-use Rattle.header.proofs.Fields.{parts, first-fields}
+use Rattle.header.proofs.Fields.{parts, first_fields_lem}
 use Rattle.header.proofs.header_of.Statement.{statement}
 use Rattle.header.proofs.header_of.Tie as tie
 
@@ -36,7 +36,7 @@ returns : tie.Need-returns
 returns c =
     let a = c.before.before.args in
     ap (with-own (parts a.n.hi a.n.lo)) c.own_of_lem.ensures
-    ∙ sym (ap (λ (fs : List ℕ). header_at (fs ++ unpack (ownWidths (numbered (get_or fs 0 0))) a.rest)) (first-fields a.n.hi a.n.lo (omega arith)))
+    ∙ sym (ap (λ (fs : List ℕ). header_at (fs ++ unpack (own_widths (numbered (get_or fs 0 0))) a.rest)) (first_fields_lem a.n.hi a.n.lo (omega arith)))
 
 pub header-of-spec : {M : Type 1} → statement M
 header-of-spec =

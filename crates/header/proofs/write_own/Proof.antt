@@ -7,23 +7,23 @@ use mathlib.Core.List.{List, ◌++◌}
 use native.Mathlib.Omega.{arith}
 use lib.ListN.{drop}
 use Rattle.layout.specs.Layout.{pack, unpack, bytes}
-use Rattle.layout.specs.laws.BytesLaws.{write-all}
+use Rattle.layout.specs.laws.BytesLaws.{write_all_lem}
 use Rattle.sheet.specs.declared.Own.{Own}
 use Rattle.sheet.specs.declared.Own.TheVariants.{One, Two}
-use Rattle.sheet.specs.Versions.{firstBytes, versionOf}
-use Rattle.sheet.specs.Lines.{ownWidths}
-use Rattle.sheet.specs.Header.{ownValues, ownBytes}
+use Rattle.sheet.specs.Versions.{first_bytes, version_of}
+use Rattle.sheet.specs.Lines.{own_widths}
+use Rattle.sheet.specs.Header.{own_values, own_bytes}
 use Rattle.header.proofs.write_own.Statement.{statement}
 use Rattle.header.proofs.write_own.Tie as tie
 
 -- a version's own fields, where it has any, take eight bytes
-own-eight : (o : Own) → firstBytes < (versionOf o).size → ownBytes (versionOf o) ≡ 8
+own-eight : (o : Own) → first_bytes < (version_of o).size → own_bytes (version_of o) ≡ 8
 own-eight One l = absurd (omega arith)
 own-eight (Two s) l = refl
 
 -- what a version's own fields leave in so many bytes
 abbrev left : Own → List ℕ → ℕ → List ℕ
-left o b k = unpack (bytes k) (pack (ownWidths (versionOf o)) (ownValues o 0)) ++ drop k b
+left o b k = unpack (bytes k) (pack (own_widths (version_of o)) (own_values o 0)) ++ drop k b
 
 returns : tie.Need-returns
 returns c =
@@ -33,9 +33,9 @@ returns c =
     let number = version.before in
     let start = number.before.before in
     let a = start.args in
-    let eight : ownBytes (versionOf a.own) ≡ 8 = own-eight a.own (omega (arith, longer.if1.true, version.version.ensures.size)) in
+    let eight : own_bytes (version_of a.own) ≡ 8 = own-eight a.own (omega (arith, longer.if1.true, version.version.ensures.size)) in
     wrote.write_word.ensures
-    ∙ write-all 8 _ a.out.now (omega (arith, eight, start.requires.1))
+    ∙ write_all_lem 8 _ a.out.now (omega (arith, eight, start.requires.1))
     ∙ ap (λ (n : ℕ). unpack (bytes 8) n ++ drop 8 a.out.now) number.own-number.ensures
     ∙ sym (ap (left a.own a.out.now) eight)
 
@@ -43,7 +43,7 @@ returns-2 : tie.Need-returns-2
 returns-2 c =
     let version = c.before.before in
     let a = version.before.before.before.args in
-    let none : ownBytes (versionOf a.own) ≡ 0 = omega (arith, c.if1.false, version.version.ensures.size) in
+    let none : own_bytes (version_of a.own) ≡ 0 = omega (arith, c.if1.false, version.version.ensures.size) in
     sym (ap (left a.own a.out.now) none)
 
 pub write-own-spec : {M : Type 1} → statement M

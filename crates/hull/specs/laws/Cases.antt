@@ -1,24 +1,24 @@
 -- Numbers off the drawing board: the document's twelve cases, in one table; and what the inner bottom's own modulus makes of them in version 2.
 -- Assumes nothing.
 use Rattle.std.specs.Prelude.{ℕ, ◌≡◌, refl, false, List, [], ◌∷◌, map}
-use Rattle.gauge.specs.Least.{leastIn, number_of}
+use Rattle.gauge.specs.Least.{least_in, number_of}
 use Rattle.loads.specs.Loads.{sea, relief}
 use Rattle.sheet.specs.declared.Header.{Header}
 use Rattle.sheet.specs.declared.Own.{Own}
 use Rattle.sheet.specs.declared.Own.TheVariants.{One, Two}
 use Rattle.sheet.specs.declared.Plate.{Plate}
 use Rattle.sheet.specs.declared.Member.{Member}
-use Rattle.sheet.specs.Versions.{versionOf}
+use Rattle.sheet.specs.Versions.{version_of}
 use Rattle.verdict.specs.Verdict.{Rule}
-use Rattle.plating.specs.Rules.{K2, asked3, plateRules}
-use Rattle.framing.specs.Rules.{memberLine, webRule, memberRules}
+use Rattle.plating.specs.Rules.{K2, asked3, plate_rules}
+use Rattle.framing.specs.Rules.{member_line, web_rule, member_rules}
 use Rattle.hull.specs.laws.Computing.{judging}
 
 -- vessel V with another length, moment or modulus, in the version that holds this of its own
-abbrev pub vesselOf : Own → ℕ → ℕ → ℕ → Header
-vesselOf own L M ZB =
+abbrev pub vessel_of : Own → ℕ → ℕ → ℕ → Header
+vessel_of own L M ZB =
     record {
-      version = (versionOf own).number;
+      version = (version_of own).number;
       length = record { 0 = L };
       draught = record { 0 = 250 };
       wave = record { 0 = 60 };
@@ -31,7 +31,7 @@ vesselOf own L M ZB =
 
 -- in version 1
 abbrev pub vessel : ℕ → ℕ → ℕ → Header
-vessel = vesselOf One
+vessel = vessel_of One
 
 -- V
 abbrev pub v : Header
@@ -71,15 +71,15 @@ member S l η σ1 T W A =
 
 -- what a rule requires, 0 where nothing will do
 abbrev pub required : Rule → ℕ
-required r = number_of (leastIn r.asks r.top)
+required r = number_of (least_in r.asks r.top)
 
 -- rule 3 of kind 1 where K2 is 1000 and ZB 1,000,000
-abbrev pub rule3At : ℕ → ℕ
-rule3At M = required (asked3 (vessel 8000 M 1000000) 1 (plate 1 1000 10 0))
+abbrev pub rule3_at : ℕ → ℕ
+rule3_at M = required (asked3 (vessel 8000 M 1000000) 1 (plate 1 1000 10 0))
 
 -- the web of case 12
-abbrev pub webAt : ℕ → ℕ
-webAt L = required (webRule (vessel L 20000 200000) 5 (member 600 300 90 50 1 1 1))
+abbrev pub web_at : ℕ → ℕ
+web_at L = required (web_rule (vessel L 20000 200000) 5 (member 600 300 90 50 1 1 1))
 
 -- cases 1 to 12, a row each
 abbrev pub computed : List (List ℕ)
@@ -87,15 +87,15 @@ computed =
     (sea 250 60 0 ∷ sea 250 60 250 ∷ sea 250 60 251 ∷ [])
     ∷ (sea 250 0 250 ∷ sea 250 0 251 ∷ sea 250 120 251 ∷ [])
     ∷ (relief 250 60 ∷ relief 100 120 ∷ [])
-    ∷ map required (plateRules v 2 (plate 1 0 0 0))
-    ∷ (K2 250 50 ∷ map required (plateRules v 1 (plate 1 250 50 0)))
+    ∷ map required (plate_rules v 2 (plate 1 0 0 0))
+    ∷ (K2 250 50 ∷ map required (plate_rules v 1 (plate 1 250 50 0)))
     ∷ (K2 10 60 ∷ [])
-    ∷ (K2 1000 10 ∷ rule3At 104671 ∷ rule3At 104672 ∷ [])
-    ∷ (rule3At 209999 ∷ rule3At 210000 ∷ [])
-    ∷ map required (plateRules v 4 (plate 1 0 0 30000))
-    ∷ (memberLine v 5 (member 500 300 90 50 1 1 1) ∷ map required (memberRules v 5 (member 500 300 90 50 1 1 1)))
-    ∷ map required (memberRules v 6 (member 500 500 100 0 1 1 1))
-    ∷ (webAt 11999 ∷ webAt 12000 ∷ [])
+    ∷ (K2 1000 10 ∷ rule3_at 104671 ∷ rule3_at 104672 ∷ [])
+    ∷ (rule3_at 209999 ∷ rule3_at 210000 ∷ [])
+    ∷ map required (plate_rules v 4 (plate 1 0 0 30000))
+    ∷ (member_line v 5 (member 500 300 90 50 1 1 1) ∷ map required (member_rules v 5 (member 500 300 90 50 1 1 1)))
+    ∷ map required (member_rules v 6 (member 500 500 100 0 1 1 1))
+    ∷ (web_at 11999 ∷ web_at 12000 ∷ [])
     ∷ []
 
 -- as the document prints them
@@ -115,25 +115,25 @@ printed =
     ∷ (481 ∷ 450 ∷ [])
     ∷ []
 
-pub twelve-cases : computed ≡ printed
+pub twelve_cases : computed ≡ printed
 unfolding judging
-twelve-cases = refl
+twelve_cases = refl
 
 -- V in version 2, with depth 300 and this ZDB
 abbrev pub second : ℕ → Header
-second ZDB = vesselOf (Two (record { inner_modulus = ZDB; depth = record { 0 = 300 } })) 8000 20000 200000
+second ZDB = vessel_of (Two (record { inner_modulus = ZDB; depth = record { 0 = 300 } })) 8000 20000 200000
 
 -- case 9, its plate under transverse framing, and case 4, by ZDB
 abbrev pub inner : ℕ → List (List ℕ)
 inner ZDB =
-    map required (plateRules (second ZDB) 4 (plate 1 0 0 30000))
-    ∷ map required (plateRules (second ZDB) 3 (plate 1 250 50 30000))
-    ∷ map required (plateRules (second ZDB) 2 (plate 1 0 0 0))
+    map required (plate_rules (second ZDB) 4 (plate 1 0 0 30000))
+    ∷ map required (plate_rules (second ZDB) 3 (plate 1 250 50 30000))
+    ∷ map required (plate_rules (second ZDB) 2 (plate 1 0 0 0))
     ∷ []
 
 -- twice ZB, ZB itself and half of it: rule 3 of kinds 3 and 4 goes by ZDB, that of kind 2 stays
-pub inner-cases : (inner 400000 ≡ (458 ∷ 329 ∷ 437 ∷ []) ∷ (458 ∷ 439 ∷ 732 ∷ []) ∷ (530 ∷ 315 ∷ 617 ∷ []) ∷ [])
+pub inner_cases : (inner 400000 ≡ (458 ∷ 329 ∷ 437 ∷ []) ∷ (458 ∷ 439 ∷ 732 ∷ []) ∷ (530 ∷ 315 ∷ 617 ∷ []) ∷ [])
     × (inner 200000 ≡ (458 ∷ 329 ∷ 617 ∷ []) ∷ (458 ∷ 439 ∷ 1034 ∷ []) ∷ (530 ∷ 315 ∷ 617 ∷ []) ∷ [])
     × (inner 100000 ≡ (458 ∷ 329 ∷ 873 ∷ []) ∷ (458 ∷ 439 ∷ 1463 ∷ []) ∷ (530 ∷ 315 ∷ 617 ∷ []) ∷ [])
 unfolding judging
-inner-cases = (refl, refl, refl)
+inner_cases = (refl, refl, refl)

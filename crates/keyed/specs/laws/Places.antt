@@ -11,33 +11,33 @@ use Rattle.std.proofs.Math.Dec.{ltb, eqb}
 use Rattle.std.proofs.Math.ListN.{length, take, drop}
 use borrow.Author.Tests.{ltb-true, lt-ltb, le-ltb, eqb-true, eq-eqb, ne_eqb}
 use Rattle.keyed.specs.Keyed.{rises, position_of, has_of, put_of, out_of}
-use Rattle.keyed.specs.laws.MapLaws.{rises-head}
+use Rattle.keyed.specs.laws.MapLaws.{rises_head}
 
 module _ {A : Type 0} (key : A → ℕ) where
-  pub place-le : (j : ℕ) (rs : List A) → position_of key j rs ≤ length rs
+  pub place_le : (j : ℕ) (rs : List A) → position_of key j rs ≤ length rs
   unfolding position_of
-  place-le j [] = omega arith
-  place-le j (r ∷ rs) = go (place-le j rs) (ltb (key r) j)
+  place_le j [] = omega arith
+  place_le j (r ∷ rs) = go (place_le j rs) (ltb (key r) j)
     where
       go : position_of key j rs ≤ length rs → (b : Bool) → cond b (suc (position_of key j rs)) 0 ≤ suc (length rs)
       go i true = omega arith
       go i false = omega arith
 
-  pub has-lt : (j : ℕ) (rs : List A) → has_of key j rs ≡ true → position_of key j rs < length rs
+  pub has_lt : (j : ℕ) (rs : List A) → has_of key j rs ≡ true → position_of key j rs < length rs
   unfolding position_of has_of
-  has-lt j [] e = let z : ◌≡◌ {A = ℕ} 0 1 = cc in absurd (omega arith)
-  has-lt j (r ∷ rs) e = go (has-lt j rs) (ltb (key r) j) e
+  has_lt j [] e = let z : ◌≡◌ {A = ℕ} 0 1 = cc in absurd (omega arith)
+  has_lt j (r ∷ rs) e = go (has_lt j rs) (ltb (key r) j) e
     where
       go : (has_of key j rs ≡ true → position_of key j rs < length rs) → (b : Bool) → cond b (has_of key j rs) (eqb (key r) j) ≡ true → cond b (suc (position_of key j rs)) 0 < suc (length rs)
       go i true e = omega (arith, i e)
       go i false e = omega arith
 
   -- a put, by the place
-  pub put-at : (new : A) (rs : List A)
+  pub put_at : (new : A) (rs : List A)
       → put_of key new rs ≡ take (position_of key (key new) rs) rs ++ (new ∷ drop (cond (has_of key (key new) rs) (suc (position_of key (key new) rs)) (position_of key (key new) rs)) rs)
   unfolding put_of position_of has_of
-  put-at new [] = refl
-  put-at new (r ∷ rs) = go (put-at new rs) (ltb (key r) (key new)) (eqb (key r) (key new))
+  put_at new [] = refl
+  put_at new (r ∷ rs) = go (put_at new rs) (ltb (key r) (key new)) (eqb (key r) (key new))
     where
       go : put_of key new rs ≡ take (position_of key (key new) rs) rs ++ (new ∷ drop (cond (has_of key (key new) rs) (suc (position_of key (key new) rs)) (position_of key (key new) rs)) rs)
           → (s t : Bool)
@@ -53,10 +53,10 @@ module _ {A : Type 0} (key : A → ℕ) where
       go i false false = refl
 
   -- how many there are once it is in
-  pub put-length : (new : A) (rs : List A) → length (put_of key new rs) ≡ cond (has_of key (key new) rs) (length rs) (length rs + 1)
+  pub put_length : (new : A) (rs : List A) → length (put_of key new rs) ≡ cond (has_of key (key new) rs) (length rs) (length rs + 1)
   unfolding put_of has_of
-  put-length new [] = refl
-  put-length new (r ∷ rs) = go (put-length new rs) (ltb (key r) (key new)) (eqb (key r) (key new))
+  put_length new [] = refl
+  put_length new (r ∷ rs) = go (put_length new rs) (ltb (key r) (key new)) (eqb (key r) (key new))
     where
       go : length (put_of key new rs) ≡ cond (has_of key (key new) rs) (length rs) (length rs + 1) → (s t : Bool)
           → length (cond s (r ∷ put_of key new rs) (cond t (new ∷ rs) (new ∷ r ∷ rs))) ≡ cond (cond s (has_of key (key new) rs) t) (suc (length rs)) (suc (length rs) + 1)
@@ -80,10 +80,10 @@ module _ {A : Type 0} (key : A → ℕ) where
       go i false d h = rw h
 
   -- what is put in new and taken out again leaves the list as it was
-  pub put-out : (new : A) (rs : List A) → has_of key (key new) rs ≡ false → out_of key (key new) (put_of key new rs) ≡ rs
+  pub put_out : (new : A) (rs : List A) → has_of key (key new) rs ≡ false → out_of key (key new) (put_of key new rs) ≡ rs
   unfolding put_of out_of has_of
-  put-out new [] e = rw (eq-eqb (key new) (key new) refl)
-  put-out new (r ∷ rs) e = go (put-out new rs) (ltb (key r) (key new)) refl (eqb (key r) (key new)) refl e
+  put_out new [] e = rw (eq-eqb (key new) (key new) refl)
+  put_out new (r ∷ rs) e = go (put_out new rs) (ltb (key r) (key new)) refl (eqb (key r) (key new)) refl e
     where
       go : (has_of key (key new) rs ≡ false → out_of key (key new) (put_of key new rs) ≡ rs) → (s : Bool) → ltb (key r) (key new) ≡ s → (t : Bool) → eqb (key r) (key new) ≡ t
           → cond s (has_of key (key new) rs) t ≡ false → out_of key (key new) (cond s (r ∷ put_of key new rs) (cond t (new ∷ rs) (new ∷ r ∷ rs))) ≡ r ∷ rs
@@ -102,10 +102,10 @@ module _ {A : Type 0} (key : A → ℕ) where
       go h false d true = rw (le-ltb (key new) (key new) (omega arith), eq-eqb (key new) (key new) refl)
       go h false d false = rw (le-ltb (key new) (key new) (omega arith), eq-eqb (key new) (key new) refl)
 
-  pub put-place : (new : A) (rs : List A) → position_of key (key new) (put_of key new rs) ≡ position_of key (key new) rs
+  pub put_place : (new : A) (rs : List A) → position_of key (key new) (put_of key new rs) ≡ position_of key (key new) rs
   unfolding put_of position_of
-  put-place new [] = rw (le-ltb (key new) (key new) (omega arith))
-  put-place new (r ∷ rs) = go (put-place new rs) (ltb (key r) (key new)) refl (eqb (key r) (key new))
+  put_place new [] = rw (le-ltb (key new) (key new) (omega arith))
+  put_place new (r ∷ rs) = go (put_place new rs) (ltb (key r) (key new)) refl (eqb (key r) (key new))
     where
       go : position_of key (key new) (put_of key new rs) ≡ position_of key (key new) rs → (s : Bool) → ltb (key r) (key new) ≡ s → (t : Bool)
           → position_of key (key new) (cond s (r ∷ put_of key new rs) (cond t (new ∷ rs) (new ∷ r ∷ rs))) ≡ cond s (suc (position_of key (key new) rs)) 0
@@ -134,10 +134,10 @@ module _ {A : Type 0} (key : A → ℕ) where
       go rest false true e (suc i) b = (suc i, b)
       go rest false false e i b = (suc i, b)
 
-  pub out-keeps : (k : ℕ) (rs : List A) (i : ℕ) (q : A) → (key q ≡ k → ⊥) → At rs i q → (j : ℕ) × At (out_of key k rs) j q
+  pub out_keeps : (k : ℕ) (rs : List A) (i : ℕ) (q : A) → (key q ≡ k → ⊥) → At rs i q → (j : ℕ) × At (out_of key k rs) j q
   unfolding out_of
-  out-keeps k [] i q n a = absurd a
-  out-keeps k (r ∷ rs) i q n a = go (out-keeps k rs) (eqb (key r) k) refl i a
+  out_keeps k [] i q n a = absurd a
+  out_keeps k (r ∷ rs) i q n a = go (out_keeps k rs) (eqb (key r) k) refl i a
     where
       go : ((i : ℕ) (q : A) → (key q ≡ k → ⊥) → At rs i q → (j : ℕ) × At (out_of key k rs) j q) → (t : Bool) → eqb (key r) k ≡ t → (i : ℕ) → At (r ∷ rs) i q
           → (j : ℕ) × At (cond t rs (r ∷ out_of key k rs)) j q
@@ -152,10 +152,10 @@ module _ {A : Type 0} (key : A → ℕ) where
   abbrev pub Present : (k : ℕ) → List A → Type 0
   Present k rs = (i : ℕ) × (q : A) × At rs i q × (key q ≡ k)
 
-  pub has-present : (k : ℕ) (rs : List A) → has_of key k rs ≡ true → Present k rs
+  pub has_present : (k : ℕ) (rs : List A) → has_of key k rs ≡ true → Present k rs
   unfolding has_of
-  has-present k [] e = absurd (let z : ◌≡◌ {A = ℕ} 0 1 = cc in omega arith)
-  has-present k (r ∷ rs) e = go (has-present k rs) (ltb (key r) k) e
+  has_present k [] e = absurd (let z : ◌≡◌ {A = ℕ} 0 1 = cc in omega arith)
+  has_present k (r ∷ rs) e = go (has_present k rs) (ltb (key r) k) e
     where
       go : (has_of key k rs ≡ true → Present k rs) → (s : Bool) → cond s (has_of key k rs) (eqb (key r) k) ≡ true → Present k (r ∷ rs)
       go rest true f = let p = rest f in (suc p.0, p.1, p.2, p.3)
@@ -164,16 +164,16 @@ module _ {A : Type 0} (key : A → ℕ) where
   -- all of a rising list are above what stands before
   above : (rs : List A) (before i : ℕ) (q : A) → rises key before rs ≡ true → At rs i q → before < key q
   above [] before i q f a = absurd a
-  above (r ∷ rs) before zero q f a = omega (arith, (rises-head key before r rs f).0, ap key a)
-  above (r ∷ rs) before (suc i) q f a = let m = rises-head key before r rs f in omega (arith, m.0, above rs (key r) i q m.1 a)
+  above (r ∷ rs) before zero q f a = omega (arith, (rises_head key before r rs f).0, ap key a)
+  above (r ∷ rs) before (suc i) q f a = let m = rises_head key before r rs f in omega (arith, m.0, above rs (key r) i q m.1 a)
 
-  pub present-has : (k before : ℕ) (rs : List A) → rises key before rs ≡ true → Present k rs → has_of key k rs ≡ true
+  pub present_has : (k before : ℕ) (rs : List A) → rises key before rs ≡ true → Present k rs → has_of key k rs ≡ true
   unfolding rises has_of
-  present-has k before [] e p = absurd p.2
-  present-has k before (r ∷ rs) e p = go (present-has k (key r) rs) p.0 p.1 p.2 p.3
+  present_has k before [] e p = absurd p.2
+  present_has k before (r ∷ rs) e p = go (present_has k (key r) rs) p.0 p.1 p.2 p.3
     where
       h : (before < key r) × (rises key (key r) rs ≡ true)
-      h = rises-head key before r rs e
+      h = rises_head key before r rs e
 
       go : (rises key (key r) rs ≡ true → Present k rs → has_of key k rs ≡ true) → (i : ℕ) (q : A) → At (r ∷ rs) i q → key q ≡ k → cond (ltb (key r) k) (has_of key k rs) (eqb (key r) k) ≡ true
       go rest zero q a f = rw (le-ltb (key r) k (omega (arith, ap key a, f)), eq-eqb (key r) k (ap key a ∙ f))
@@ -191,7 +191,7 @@ module _ {A B : Type 0} (f : A → ℕ) (g : B → ℕ) (k : ℕ) where
   same_place [] [] none = refl
   same_place (x ∷ xs) (y ∷ ys) (next e s) = rw (e, same_place xs ys s)
 
-  pub same-has : (xs : List A) (ys : List B) → SameKeys xs ys → has_of f k xs ≡ has_of g k ys
+  pub same_has : (xs : List A) (ys : List B) → SameKeys xs ys → has_of f k xs ≡ has_of g k ys
   unfolding has_of
-  same-has [] [] none = refl
-  same-has (x ∷ xs) (y ∷ ys) (next e s) = rw (e, same-has xs ys s)
+  same_has [] [] none = refl
+  same_has (x ∷ xs) (y ∷ ys) (next e s) = rw (e, same_has xs ys s)

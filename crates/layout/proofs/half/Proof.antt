@@ -4,7 +4,7 @@ use borrow.Author.Rules.{rules}
 use native.Mathlib.Omega.{arith}
 use mathlib.Core.Path.{ap}
 use Rattle.layout.specs.Layout.{pack, bytes}
-use Rattle.layout.specs.laws.Laws.{take-firsts}
+use Rattle.layout.specs.laws.Laws.{take_firsts}
 use Rattle.layout.proofs.half.Statement.{statement}
 use Rattle.layout.proofs.half.Tie as tie
 
@@ -56,7 +56,7 @@ cast-result c = search rules
 returns : tie.Need-returns
 returns c =
     let start = c.before.before.before.before.before.before.before.before.before in
-    omega (arith, ap (pack (bytes 4)) (take-firsts 4 start.args.s.now start.requires))
+    omega (arith, ap (pack (bytes 4)) (take_firsts 4 start.args.s.now start.requires))
 
 pub half_spec : {M : Type 1} → statement M
 half_spec =

@@ -6,14 +6,14 @@ use mathlib.Core.Path.{sym, subst, ap}
 use mathlib.Core.List.{List, reverse}
 use Prim.Native.Nat.{ℕ}
 use Rattle.layout.specs.Layout.{pack, bytes, Fit}
-use Rattle.layout.specs.laws.Laws.{take-firsts}
+use Rattle.layout.specs.laws.Laws.{take_firsts}
 use Rattle.layout.proofs.little.Statement.{statement}
 use Rattle.layout.proofs.little.Tie as tie
 
 returns : tie.Need-returns
 returns c =
     let start = c.before.before.before.before.before.before.before.before.before.before.before.before.before.before.before.before.before in
-    let firsts = take-firsts 8 start.args.s.now start.requires in (
+    let firsts = take_firsts 8 start.args.s.now start.requires in (
       omega (arith, ap (λ (l : List ℕ). pack (bytes 8) (reverse l)) firsts),
       subst (λ (l : List ℕ). Fit (bytes 8) (reverse l)) (sym firsts) (omega arith, (omega arith, (omega arith, (omega arith, (omega arith, (omega arith, (omega arith, (omega arith, tt)))))))),
     )

@@ -2,7 +2,7 @@
 -- Assumes nothing.
 use borrow.Author.Rules.{rules}
 use mathlib.Core.Path.{sym, ◌∙◌}
-use Rattle.layout.specs.laws.BytesLaws.{read-few, read_all}
+use Rattle.layout.specs.laws.BytesLaws.{read_few, read_all}
 use Rattle.layout.proofs.read_half.Statement.{statement}
 use Rattle.layout.proofs.read_half.Tie as tie
 
@@ -10,6 +10,6 @@ pub read-half-spec : {M : Type 1} → statement M
 read-half-spec =
     tie.close
     (tie.spec
-    (λ c. sym (read-few 4 c.before.before.args.s.now c.if1.true))
+    (λ c. sym (read_few 4 c.before.before.args.s.now c.if1.true))
     (λ c κs. search rules)
     (λ c. c.half.ensures ∙ sym (read_all 4 _ c.before.if1.false)))

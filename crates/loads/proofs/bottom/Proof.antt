@@ -2,20 +2,20 @@
 -- Assumes nothing.
 use mathlib.Core.Path.{◌≡◌, ap₂, ◌∙◌}
 use borrow.Author.Rules.{rules}
-use Rattle.loads.specs.Sources.{toldLoad, heavier, bottomNamed}
+use Rattle.loads.specs.Sources.{told_load, heavier, bottom_named}
 use Rattle.loads.proofs.bottom.Statement.{statement}
 use Rattle.loads.proofs.bottom.Tie as tie
 
 returns : tie.Need-returns
-unfolding bottomNamed
+unfolding bottom_named
 returns c =
     let tank = c.before in
     let sea = tank.before.before in
-    let decided : toldLoad c.heavier.result ≡ heavier (toldLoad sea.sea.result) (toldLoad tank.relieved.result) = c.heavier.ensures in
+    let decided : told_load c.heavier.result ≡ heavier (told_load sea.sea.result) (told_load tank.relieved.result) = c.heavier.ensures in
     rw tank.before.if1.true (decided ∙ ap₂ heavier sea.sea.ensures tank.relieved.ensures)
 
 returns-2 : tie.Need-returns-2
-unfolding bottomNamed
+unfolding bottom_named
 returns-2 c = rw c.if1.false c.before.sea.ensures
 
 pub bottom-spec : {M : Type 1} → statement M

@@ -4,8 +4,8 @@ use Prim.Native.Nat.{◌≤◌}
 use borrow.Author.Rules.{rules}
 use native.Mathlib.Omega.{arith}
 use lib.Dec.{lit<}
-use Rattle.gauge.specs.laws.CeilLaws.{ceil-most}
-use Rattle.loads.specs.Loads.{water, twoRunWater, deepPressure}
+use Rattle.gauge.specs.laws.CeilLaws.{ceil_most}
+use Rattle.loads.specs.Loads.{water, two_run_water, deep_pressure}
 use Rattle.loads.specs.laws.Bounds.{either}
 use Rattle.loads.proofs.deep.Statement.{statement}
 use Rattle.loads.proofs.deep.Tie as tie
@@ -14,12 +14,12 @@ add-load-of : tie.Need-overflow-add-load-of
 add-load-of c =
     let a = c.before.before.args in
     let d : a.draught.0 ≤ 65535 = omega arith in
-    let two : twoRunWater a.draught.0 ≤ 6428983500 = ceil-most _ 10 _ (lit< tt) (omega arith) in
-    let most = either a.two_runs (twoRunWater a.draught.0) (water a.draught.0) 6428983500 two (omega arith) in
+    let two : two_run_water a.draught.0 ≤ 6428983500 = ceil_most _ 10 _ (lit< tt) (omega arith) in
+    let most = either a.two_runs (two_run_water a.draught.0) (water a.draught.0) 6428983500 two (omega arith) in
     omega (arith, c.still-water.ensures, most)
 
 returns : tie.Need-returns
-unfolding deepPressure
+unfolding deep_pressure
 returns c = rw c.before.still-water.ensures at c.load_of.ensures
 
 pub deep-spec : {M : Type 1} → statement M

@@ -6,10 +6,10 @@ use borrow.Author.Rules.{rules}
 use native.Mathlib.Omega.{arith}
 use native.Mathlib.Nat.{mul-le-mul}
 use lib.Dec.{lit<}
-use Rattle.gauge.specs.Ceil.{ceilOf}
-use Rattle.loads.specs.Loads.{lineLoad}
+use Rattle.gauge.specs.Ceil.{ceil_of}
+use Rattle.loads.specs.Loads.{line_load}
 use Rattle.loads.specs.Sources.{number_of, NamedLine}
-use Rattle.loads.proofs.Parts.{ceil-parts}
+use Rattle.loads.proofs.Parts.{ceil_parts}
 use Rattle.loads.proofs.line_load.Statement.{statement}
 use Rattle.loads.proofs.line_load.Tie as tie
 
@@ -26,8 +26,8 @@ in-range c =
     record { whole = mul-le-mul k w; part = mul-le-mul m w }
 
 returns : tie.Need-returns
-unfolding lineLoad ceilOf
-returns c = ap {B = NamedLine} (λ (q : ℕ). record { load = q; source = number_of c.before.args.load.source }) (ceil-parts _ _ 1000000 (lit< tt))
+unfolding line_load ceil_of
+returns c = ap {B = NamedLine} (λ (q : ℕ). record { load = q; source = number_of c.before.args.load.source }) (ceil_parts _ _ 1000000 (lit< tt))
 
 pub line-load-spec : {M : Type 1} → statement M
 line-load-spec =

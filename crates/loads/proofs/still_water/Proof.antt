@@ -1,12 +1,12 @@
 -- `loads::still_water` meets its contract.
 -- Assumes nothing.
 use borrow.Author.Rules.{rules}
-use Rattle.gauge.specs.Ceil.{ceilOf}
+use Rattle.gauge.specs.Ceil.{ceil_of}
 use Rattle.loads.proofs.still_water.Statement.{statement}
 use Rattle.loads.proofs.still_water.Tie as tie
 
 returns : tie.Need-returns
-unfolding ceilOf
+unfolding ceil_of
 returns c = rw c.if1.true
 
 returns-2 : tie.Need-returns-2

@@ -5,9 +5,9 @@ use native.Mathlib.Omega.{arith}
 use borrow.Author.Rules.{rules}
 use borrow.Author.Tests.{eq-eqb, ne_eqb}
 use Rattle.sheet.specs.declared.Outcome.{Outcome}
-use Rattle.sheet.specs.Refusals.{number_of, place_of, told, toldOutcome}
-use Rattle.numbers.specs.Held.{earlierOf}
-use Rattle.numbers.proofs.Places.{found-earlier, found-later}
+use Rattle.sheet.specs.Refusals.{number_of, place_of, told, told_outcome}
+use Rattle.numbers.specs.Held.{earlier_of}
+use Rattle.numbers.proofs.Places.{found_earlier, found_later}
 use Rattle.numbers.proofs.earlier.Statement.{statement}
 use Rattle.numbers.proofs.earlier.Tie as tie
 
@@ -16,10 +16,10 @@ returns c = rw (eq-eqb c.before.args.field 0 c.if1.true)
 
 -- by what was found
 as-found : (c : tie.After-found) → let a = c.before.before.before.args in
-    earlierOf (told c.found.given.0.0) (number_of a.here) (place_of a.here) ≡ earlierOf (toldOutcome a.found) (number_of a.here) (place_of a.here)
+    earlier_of (told c.found.given.0.0) (number_of a.here) (place_of a.here) ≡ earlier_of (told_outcome a.found) (number_of a.here) (place_of a.here)
 as-found c =
     let a = c.before.before.before.args in
-    sym (ap (λ (o : Outcome). earlierOf (toldOutcome o) (number_of a.here) (place_of a.here)) c.found.given.1)
+    sym (ap (λ (o : Outcome). earlier_of (told_outcome o) (number_of a.here) (place_of a.here)) c.found.given.1)
 
 returns-2 : tie.Need-returns-2
 returns-2 c =
@@ -29,14 +29,14 @@ returns-2 c =
     let left = found.before.before in
     let a = left.before.args in
     rw (ne_eqb a.field 0 left.if1.false)
-    (found-earlier found.found.given.0.0 a.here (omega (arith, c.if2.true, here.place2.ensures, place.place.ensures)) ∙ as-found found)
+    (found_earlier found.found.given.0.0 a.here (omega (arith, c.if2.true, here.place2.ensures, place.place.ensures)) ∙ as-found found)
 
 returns-3 : tie.Need-returns-3
 returns-3 c =
     let left = c.before.before in
     let a = left.before.args in
     rw (ne_eqb a.field 0 left.if1.false)
-    (sym (ap (λ (o : Outcome). earlierOf (toldOutcome o) (number_of a.here) (place_of a.here)) c.enum_told.given.1))
+    (sym (ap (λ (o : Outcome). earlier_of (told_outcome o) (number_of a.here) (place_of a.here)) c.enum_told.given.1))
 
 returns-4 : tie.Need-returns-4
 returns-4 c =
@@ -46,7 +46,7 @@ returns-4 c =
     let left = found.before.before in
     let a = left.before.args in
     rw (ne_eqb a.field 0 left.if1.false)
-    (found-later found.found.given.0.0 a.here (omega (arith, c.if2.false, here.place2.ensures, place.place.ensures)) ∙ as-found found)
+    (found_later found.found.given.0.0 a.here (omega (arith, c.if2.false, here.place2.ensures, place.place.ensures)) ∙ as-found found)
 
 pub earlier-spec : {M : Type 1} → statement M
 earlier-spec =

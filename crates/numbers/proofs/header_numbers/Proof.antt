@@ -9,12 +9,12 @@ use lib.ListN.{get_or}
 use Rattle.sheet.specs.declared.Header.{Header}
 use Rattle.sheet.specs.declared.Own.{Own}
 use Rattle.sheet.specs.declared.Own.TheVariants.{One, Two}
-use Rattle.numbers.specs.Fields.{ownNumbers}
+use Rattle.numbers.specs.Fields.{own_numbers}
 use Rattle.numbers.proofs.header_numbers.Statement.{statement}
 use Rattle.numbers.proofs.header_numbers.Tie as tie
 
 -- a version's own numbers are two
-both : (o : Own) → get_or (ownNumbers o) 0 0 ∷ get_or (ownNumbers o) 1 0 ∷ [] ≡ ownNumbers o
+both : (o : Own) → get_or (own_numbers o) 0 0 ∷ get_or (own_numbers o) 1 0 ∷ [] ≡ own_numbers o
 both One = refl
 both (Two s) = refl
 

@@ -6,22 +6,22 @@ use Rattle.sheet.specs.declared.Header.{Header}
 use Rattle.sheet.specs.declared.Record.{Record}
 use Rattle.sheet.specs.declared.HeaderRead.{HeaderRead}
 use Rattle.sheet.specs.declared.RecordRead.{RecordRead}
-use Rattle.sheet.specs.Refusals.{toldHeader, toldRecord}
-use Rattle.sheet.specs.laws.RefusalLaws.{header-only, record-only}
-use Rattle.numbers.specs.Fields.{headerNumbers, recordNumbers}
-use Rattle.numbers.specs.From.{namedSize, headerFrom, recordFrom}
+use Rattle.sheet.specs.Refusals.{told_header, told_record}
+use Rattle.sheet.specs.laws.RefusalLaws.{header_only, record_only}
+use Rattle.numbers.specs.Fields.{header_numbers, record_numbers}
+use Rattle.numbers.specs.From.{named_size, header_from, record_from}
 
-pub header-from-only : (ns : List ℕ) (r s : HeaderRead) → toldHeader r ≡ headerFrom ns → toldHeader s ≡ headerFrom ns → r ≡ s
-header-from-only ns r s e f = header-only (headerFrom ns) r s e f
+pub header_from_only : (ns : List ℕ) (r s : HeaderRead) → told_header r ≡ header_from ns → told_header s ≡ header_from ns → r ≡ s
+header_from_only ns r s e f = header_only (header_from ns) r s e f
 
-pub record-from-only : (i : ℕ) (ns : List ℕ) (r s : RecordRead) → toldRecord r ≡ recordFrom i ns → toldRecord s ≡ recordFrom i ns → r ≡ s
-record-from-only i ns r s e f = record-only (recordFrom i ns) r s e f
+pub record_from_only : (i : ℕ) (ns : List ℕ) (r s : RecordRead) → told_record r ≡ record_from i ns → told_record s ≡ record_from i ns → r ≡ s
+record_from_only i ns r s e f = record_only (record_from i ns) r s e f
 
-pub header-size-only : (ns : List ℕ) (a b : ℕ) → a ≡ namedSize ns → b ≡ namedSize ns → a ≡ b
-header-size-only ns a b e f = e ∙ sym f
+pub header_size_only : (ns : List ℕ) (a b : ℕ) → a ≡ named_size ns → b ≡ named_size ns → a ≡ b
+header_size_only ns a b e f = e ∙ sym f
 
-pub header-numbers-only : (h : Header) (ns ms : List ℕ) → ns ≡ headerNumbers h → ms ≡ headerNumbers h → ns ≡ ms
-header-numbers-only h ns ms e f = e ∙ sym f
+pub header_numbers_only : (h : Header) (ns ms : List ℕ) → ns ≡ header_numbers h → ms ≡ header_numbers h → ns ≡ ms
+header_numbers_only h ns ms e f = e ∙ sym f
 
-pub record-numbers-only : (r : Record) (ns ms : List ℕ) → ns ≡ recordNumbers r → ms ≡ recordNumbers r → ns ≡ ms
-record-numbers-only r ns ms e f = e ∙ sym f
+pub record_numbers_only : (r : Record) (ns ms : List ℕ) → ns ≡ record_numbers r → ms ≡ record_numbers r → ns ≡ ms
+record_numbers_only r ns ms e f = e ∙ sym f

@@ -2,31 +2,31 @@
 -- Assumes nothing.
 use borrow.Author.Rules.{rules}
 use mathlib.Core.Path.{sym, ap, ◌∙◌}
-use Rattle.sheet.specs.Record.{ofMember}
-use Rattle.sheet.specs.laws.RefusalLaws.{given-same}
-use Rattle.verdict.specs.laws.JudgedLaws.{given-sound, sound-given, refused-same}
-use Rattle.framing.specs.Work.{workOf, toldWorked}
-use Rattle.pencil.specs.Trail.{memberTrail, memberExplained}
+use Rattle.sheet.specs.Record.{of_member}
+use Rattle.sheet.specs.laws.RefusalLaws.{given_same}
+use Rattle.verdict.specs.laws.JudgedLaws.{given_sound, sound_given, refused_same}
+use Rattle.framing.specs.Work.{work_of, told_worked}
+use Rattle.pencil.specs.Trail.{member_trail, member_explained}
 use Rattle.pencil.proofs.member_explained.Statement.{statement}
 use Rattle.pencil.proofs.member_explained.Tie as tie
 
 returns : tie.Need-returns
-unfolding memberExplained
+unfolding member_explained
 returns c =
     let w = c.before.before.before.before in
     let a = w.before.args in
-    let e = sym w.worked.ensures ∙ ap toldWorked c.before.before.worked2.given.1 in
-    rw (refused-same a.h (ofMember a.kind a.id a.m) (workOf a.h a.kind a.m) (memberTrail a.h a.kind a.id a.m (workOf a.h a.kind a.m)) _ _ e) c.refused.ensures
+    let e = sym w.worked.ensures ∙ ap told_worked c.before.before.worked2.given.1 in
+    rw (refused_same a.h (of_member a.kind a.id a.m) (work_of a.h a.kind a.m) (member_trail a.h a.kind a.id a.m (work_of a.h a.kind a.m)) _ _ e) c.refused.ensures
 
 returns-2 : tie.Need-returns-2
-unfolding memberExplained
+unfolding member_explained
 returns-2 c =
     let w = c.before.before.before.before in
     let a = w.before.args in
-    let e = sym w.worked.ensures ∙ ap toldWorked c.before.before.worked3.given.1 in
-    let sound = given-sound a.h (ofMember a.kind a.id a.m) (workOf a.h a.kind a.m) _ e in
-    let same = given-same (sym (sound-given a.h (ofMember a.kind a.id a.m) (workOf a.h a.kind a.m) sound) ∙ e) in
-    rw (sound-given a.h (ofMember a.kind a.id a.m) (memberTrail a.h a.kind a.id a.m (workOf a.h a.kind a.m)) sound, same) c.member-work.ensures
+    let e = sym w.worked.ensures ∙ ap told_worked c.before.before.worked3.given.1 in
+    let sound = given_sound a.h (of_member a.kind a.id a.m) (work_of a.h a.kind a.m) _ e in
+    let same = given_same (sym (sound_given a.h (of_member a.kind a.id a.m) (work_of a.h a.kind a.m) sound) ∙ e) in
+    rw (sound_given a.h (of_member a.kind a.id a.m) (member_trail a.h a.kind a.id a.m (work_of a.h a.kind a.m)) sound, same) c.member-work.ensures
 
 pub member-explained-spec : {M : Type 1} → statement M
 member-explained-spec =

@@ -2,12 +2,12 @@
 -- Assumes nothing.
 use borrow.Author.Rules.{rules}
 use native.Mathlib.Omega.{arith}
-use Rattle.pencil.specs.Trail.{memberTrail}
+use Rattle.pencil.specs.Trail.{member_trail}
 use Rattle.pencil.proofs.member_work.Statement.{statement}
 use Rattle.pencil.proofs.member_work.Tie as tie
 
 returns : tie.Need-returns
-unfolding memberTrail
+unfolding member_trail
 returns c =
     record { given = rw c.before.before.before.before.before.before.before.before.before.before.before.before.before.before.before.number.ensures; head = c.before.before.before.head_of.ensures; one = c.before.before.member-first.ensures; two = c.before.member-second.ensures; three = c.member-third.ensures }
 

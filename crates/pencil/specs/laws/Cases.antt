@@ -1,26 +1,26 @@
 -- The trails of the document's two members, line by line.
 -- Assumes nothing.
 use Rattle.std.specs.Prelude.{◌≡◌, refl, ◌++◌}
-use Rattle.root.specs.Root.{rootOf, rootIn}
-use Rattle.gauge.specs.Ceil.{ceilOf}
-use Rattle.gauge.specs.Least.{firstFrom, leastIn}
-use Rattle.loads.specs.Loads.{sea, bottomPressure, innerPressure, deepPressure, lineLoad}
-use Rattle.decimal.specs.Decimal.{digitsIn, decimalOf}
+use Rattle.root.specs.Root.{root_of, root_in}
+use Rattle.gauge.specs.Ceil.{ceil_of}
+use Rattle.gauge.specs.Least.{first_from, least_in}
+use Rattle.loads.specs.Loads.{sea, bottom_pressure, inner_pressure, deep_pressure, line_load}
+use Rattle.decimal.specs.Decimal.{digits_in, decimal_of}
 use Rattle.wording.specs.Words.{bytes, shown, piece_of, pieces}
 use Rattle.wording.specs.Writes.{text_of}
 use Rattle.plating.specs.Rules.{K2}
-use Rattle.plating.specs.Shapes.{shape1, shape2, firstShape, secondShape, shape3}
-use Rattle.plating.specs.Work.{workOf as plateWork}
-use Rattle.framing.specs.Rules.{rule4, rule5, rule6, memberLine}
+use Rattle.plating.specs.Shapes.{shape1, shape2, first_shape, second_shape, shape3}
+use Rattle.plating.specs.Work.{work_of as plateWork}
+use Rattle.framing.specs.Rules.{rule4, rule5, rule6, member_line}
 use Rattle.framing.specs.Shapes.{shape4, shape5, shape6}
-use Rattle.framing.specs.Work.{workOf as memberWork}
+use Rattle.framing.specs.Work.{work_of as memberWork}
 use Rattle.hull.specs.laws.Cases.{v, plate, member}
 use Rattle.pencil.specs.Templates.{templates, texts}
-use Rattle.pencil.specs.Numbers.{product, ruleNumbers, loadNumbers}
-use Rattle.pencil.specs.Trail.{linePieces, head_of, ruled, plateFirst, plateSecond, formOf, plateThird, plateTrail, memberFirst, memberSecond, memberThird, memberTrail, sectionsText}
+use Rattle.pencil.specs.Numbers.{product, rule_numbers, load_numbers}
+use Rattle.pencil.specs.Trail.{line_pieces, head_of, ruled, plate_first, plate_second, form_of, plate_third, plate_trail, member_first, member_second, member_third, member_trail, sections_text}
 
 -- case 4, as id 7 at T 600
-pub plate-case : sectionsText (plateTrail v 2 7 (plate 600 0 0 0) (plateWork v 2 (plate 600 0 0 0))) ≡
+pub plate_case : sections_text (plate_trail v 2 7 (plate 600 0 0 0) (plateWork v 2 (plate 600 0 0 0))) ≡
     bytes "member 7: kind 2, bottom plate, longitudinal framing\n"
     ++ bytes "loads on it, in mPa:\n"
     ++ bytes "  source 0, sea at or below the draught: Ch 2 Sec 3 [3.7.1] a\n"
@@ -58,11 +58,11 @@ pub plate-case : sectionsText (plateTrail v 2 7 (plate 600 0 0 0) (plateWork v 2
     ++ bytes "  one more: T 617: T² = 380689 ≥ 380250, met\n"
     ++ bytes "  least 617 (6.17 mm), has 600 (6.00 mm): fails, short by 17\n"
     ++ bytes "verdict: fails rule 3, required 617 (6.17 mm)\n"
-unfolding rootOf rootIn ceilOf firstFrom leastIn digitsIn decimalOf shown piece_of pieces text_of templates texts linePieces product ruleNumbers loadNumbers head_of ruled sea bottomPressure innerPressure K2 shape1 shape2 firstShape secondShape shape3 plateFirst plateSecond formOf plateThird plateTrail
-plate-case = refl
+unfolding root_of root_in ceil_of first_from least_in digits_in decimal_of shown piece_of pieces text_of templates texts line_pieces product rule_numbers load_numbers head_of ruled sea bottom_pressure inner_pressure K2 shape1 shape2 first_shape second_shape shape3 plate_first plate_second form_of plate_third plate_trail
+plate_case = refl
 
 -- case 10, as id 12 at T 420, W 560, A 168
-pub member-case : sectionsText (memberTrail v 5 12 (member 500 300 90 50 420 560 168) (memberWork v 5 (member 500 300 90 50 420 560 168))) ≡
+pub member_case : sections_text (member_trail v 5 12 (member 500 300 90 50 420 560 168) (memberWork v 5 (member 500 300 90 50 420 560 168))) ≡
     bytes "member 12: kind 5, bottom longitudinal\n"
     ++ bytes "loads on it, in mPa:\n"
     ++ bytes "  source 0, sea at or below the draught: Ch 2 Sec 3 [3.7.1] a\n"
@@ -93,5 +93,5 @@ pub member-case : sectionsText (memberTrail v 5 12 (member 500 300 90 50 420 560
     ++ bytes "  rounded up: A ≥ 168\n"
     ++ bytes "  least 168 (1.68 cm²), has 168 (1.68 cm²): met, margin 0\n"
     ++ bytes "verdict: fails rule 5, required 567 (56.7 cm³)\n"
-unfolding rootOf rootIn ceilOf firstFrom leastIn digitsIn decimalOf shown piece_of pieces text_of templates texts linePieces product ruleNumbers loadNumbers head_of ruled sea deepPressure lineLoad rule4 rule5 rule6 memberLine shape4 shape5 shape6 memberFirst memberSecond memberThird memberTrail
-member-case = refl
+unfolding root_of root_in ceil_of first_from least_in digits_in decimal_of shown piece_of pieces text_of templates texts line_pieces product rule_numbers load_numbers head_of ruled sea deep_pressure line_load rule4 rule5 rule6 member_line shape4 shape5 shape6 member_first member_second member_third member_trail
+member_case = refl

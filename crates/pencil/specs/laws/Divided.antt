@@ -4,17 +4,17 @@ use Rattle.std.specs.Prelude.{ℕ, ◌+◌, ◌-◌, ◌*◌, ◌/◌, ◌%◌, 
 use Rattle.std.proofs.Common.{sym, ap, ◌∙◌, arith, mod-lt, add_comm, mul-le-mul, lt-ltb, eqb-true}
 use Rattle.std.proofs.Math.Nat.{div-add-mod, mul-add-div, add-div_right, div-eq_of_lt}
 use Rattle.std.proofs.lemmas.Bool.{eqb-false}
-use Rattle.gauge.specs.Ceil.{ceilOf}
-use Rattle.pencil.specs.Glossary.{roundedUp, Divides}
+use Rattle.gauge.specs.Ceil.{ceil_of}
+use Rattle.pencil.specs.Glossary.{rounded_up, Divides}
 use Rattle.pencil.specs.Numbers.{product}
 
 pub divided : (p a : ℕ) → 0 < a → Divides p a (p / a) (p % a)
 divided p a h = (sym (div-add-mod p a), mod-lt p h)
 
 -- a quotient rounded up is the quotient, or one more where something remains
-pub ceil-up : (p a : ℕ) → 0 < a → ceilOf p a ≡ roundedUp (p / a) (p % a)
-unfolding ceilOf
-ceil-up p a h = go (eqb (p % a) 0) refl
+pub ceil_up : (p a : ℕ) → 0 < a → ceil_of p a ≡ rounded_up (p / a) (p % a)
+unfolding ceil_of
+ceil_up p a h = go (eqb (p % a) 0) refl
   where
     parts : p + (a - 1) ≡ a * (p / a) + (p % a + (a - 1))
     parts = omega (arith, div-add-mod p a)
@@ -35,20 +35,20 @@ ceil-up p a h = go (eqb (p % a) 0) refl
         omega (arith, sum, n, m)
 
 -- the same where both are other words for p and a
-pub divided-as : {p b : ℕ} (q a : ℕ) → p ≡ q → b ≡ a → 0 < a → Divides q a (p / b) (p % b)
-divided-as {p} {b} q a e f h = rw (e, f) (divided q a h)
+pub divided_as : {p b : ℕ} (q a : ℕ) → p ≡ q → b ≡ a → 0 < a → Divides q a (p / b) (p % b)
+divided_as {p} {b} q a e f h = rw (e, f) (divided q a h)
 
-pub ceil-as : {p b : ℕ} (q a : ℕ) → p ≡ q → b ≡ a → 0 < a → ceilOf q a ≡ roundedUp (p / b) (p % b)
-ceil-as {p} {b} q a e f h = rw (e, f) (ceil-up q a h)
+pub ceil_as : {p b : ℕ} (q a : ℕ) → p ≡ q → b ≡ a → 0 < a → ceil_of q a ≡ rounded_up (p / b) (p % b)
+ceil_as {p} {b} q a e f h = rw (e, f) (ceil_up q a h)
 
 -- root and what is taken off, over the step
-pub over-divided : (root short step : ℕ) → 0 < step → Divides (root + short) step ((short + root) / step) ((short + root) % step)
-over-divided root short step h = (add_comm root short ∙ sym (div-add-mod (short + root) step), mod-lt (short + root) h)
+pub over_divided : (root short step : ℕ) → 0 < step → Divides (root + short) step ((short + root) / step) ((short + root) % step)
+over_divided root short step h = (add_comm root short ∙ sym (div-add-mod (short + root) step), mod-lt (short + root) h)
 
 -- a product that 64 bits hold
 pub product_is : (a b : ℕ) → a * b < 18446744073709551616 → product a b ≡ a * b
 unfolding product
 product_is a b h = rw (lt-ltb (a * b) 18446744073709551616 h)
 
-pub product-fits : (a b m n : ℕ) → a ≤ m → b ≤ n → m * n < 18446744073709551616 → product a b ≡ a * b
-product-fits a b m n p q h = product_is a b (omega (arith, mul-le-mul p q))
+pub product_fits : (a b m n : ℕ) → a ≤ m → b ≤ n → m * n < 18446744073709551616 → product a b ≡ a * b
+product_fits a b m n p q h = product_is a b (omega (arith, mul-le-mul p q))

@@ -4,49 +4,49 @@ use Rattle.std.specs.Prelude.{ℕ, ◌+◌, ◌-◌, ◌*◌, ◌/◌, ◌%◌, 
 use Rattle.std.proofs.Common.{sym, ap, subst, ◌∙◌, arith, mul-le-mul_left, mul-one, mod-eq_of_lt, lit<, eqb-true}
 use Rattle.std.proofs.Math.Decide.{dec_le}
 use Rattle.std.proofs.lemmas.Bool.{eqb-false}
-use Rattle.root.specs.Root.{rootOf, IsRoot}
+use Rattle.root.specs.Root.{root_of, IsRoot}
 use Rattle.root.specs.laws.RootLaws.{root_is}
 use Rattle.gauge.specs.declared.Shape.{Shape}
 use Rattle.gauge.specs.declared.Shape.TheVariants.{Never, Floor, Square}
-use Rattle.gauge.specs.Ceil.{ceilOf}
+use Rattle.gauge.specs.Ceil.{ceil_of}
 use Rattle.gauge.specs.Least.{number_of}
-use Rattle.gauge.specs.Shape.{leastOf, Says}
+use Rattle.gauge.specs.Shape.{least_of, Says}
 use Rattle.pencil.specs.Registers.{Registers, at}
 use Rattle.pencil.specs.Registers as reg
-use Rattle.pencil.specs.Glossary.{Facts, Divides, roundedUp, unit_of}
+use Rattle.pencil.specs.Glossary.{Facts, Divides, rounded_up, unit_of}
 use Rattle.pencil.specs.Templates.{templates, says, Holds}
-use Rattle.pencil.specs.Numbers.{ruleNumbers}
-use Rattle.pencil.specs.Trail.{stepLine, resultLine, verdictLine, ruled}
-use Rattle.pencil.specs.laws.Divided.{over-divided, ceil-up}
-use Rattle.pencil.specs.laws.Steps.{regs, result-holds, floor-holds, square-holds}
+use Rattle.pencil.specs.Numbers.{rule_numbers}
+use Rattle.pencil.specs.Trail.{step_line, result_line, verdict_line, ruled}
+use Rattle.pencil.specs.laws.Divided.{over_divided, ceil_up}
+use Rattle.pencil.specs.laws.Steps.{regs, result_holds, floor_holds, square_holds}
 
 -- ---- roots
 
 -- a root is no greater than its square
-root-small : (n : ℕ) → rootOf n ≤ n
-root-small n = go (dec_le 1 (rootOf n))
+root_small : (n : ℕ) → root_of n ≤ n
+root_small n = go (dec_le 1 (root_of n))
   where
-    go : Dec (1 ≤ rootOf n) → rootOf n ≤ n
-    go (yes l) = omega (arith, (root_is n).low, mul-le-mul_left (rootOf n) l, mul-one (rootOf n))
+    go : Dec (1 ≤ root_of n) → root_of n ≤ n
+    go (yes l) = omega (arith, (root_is n).low, mul-le-mul_left (root_of n) l, mul-one (root_of n))
     go (no l) = omega arith
 
-pub root-fits : (n : ℕ) → n < 4294967296 → rootOf n % 4294967296 ≡ rootOf n
-root-fits n l = mod-eq_of_lt (omega (arith, root-small n))
+pub root_fits : (n : ℕ) → n < 4294967296 → root_of n % 4294967296 ≡ root_of n
+root_fits n l = mod-eq_of_lt (omega (arith, root_small n))
 
 -- T from the root: the sum over the step, and rounded up
 pub over_root : (n short step : ℕ) → n < 4294967296 → 0 < step
-    → Divides (rootOf n + short) step ((short + rootOf n % 4294967296) / step) ((short + rootOf n % 4294967296) % step)
-over_root n short step l h = rw (root-fits n l) (over-divided (rootOf n) short step h)
+    → Divides (root_of n + short) step ((short + root_of n % 4294967296) / step) ((short + root_of n % 4294967296) % step)
+over_root n short step l h = rw (root_fits n l) (over_divided (root_of n) short step h)
 
 pub up_root : (n short step : ℕ) → n < 4294967296 → 0 < step
-    → ceilOf (short + rootOf n) step ≡ roundedUp ((short + rootOf n % 4294967296) / step) ((short + rootOf n % 4294967296) % step)
-up_root n short step l h = rw (root-fits n l) (ceil-up (short + rootOf n) step h)
+    → ceil_of (short + root_of n) step ≡ rounded_up ((short + root_of n % 4294967296) / step) ((short + root_of n % 4294967296) % step)
+up_root n short step l h = rw (root_fits n l) (ceil_up (short + root_of n) step h)
 
 -- ---- the verdict
 
-pub verdict-holds : (f : Facts) (r : Registers) → f.verdict.rule ≡ at r reg.rule → f.verdict.required ≡ at r reg.required → says (verdictLine (at r reg.rule) (at r reg.required)) f r
+pub verdict_holds : (f : Facts) (r : Registers) → f.verdict.rule ≡ at r reg.rule → f.verdict.required ≡ at r reg.required → says (verdict_line (at r reg.rule) (at r reg.required)) f r
 unfolding says templates
-verdict-holds f r p q = go (eqb (at r reg.rule) 0) (eqb (at r reg.required) 0) (eqb (at r reg.rule) 5) (eqb (at r reg.rule) 6) refl refl refl refl
+verdict_holds f r p q = go (eqb (at r reg.rule) 0) (eqb (at r reg.required) 0) (eqb (at r reg.rule) 5) (eqb (at r reg.rule) 6) refl refl refl refl
   where
     go : (a b c d : Bool) → eqb (at r reg.rule) 0 ≡ a → eqb (at r reg.required) 0 ≡ b → eqb (at r reg.rule) 5 ≡ c → eqb (at r reg.rule) 6 ≡ d
         → says (cond a 86 (cond b 87 (cond c 89 (cond d 90 88)))) f r

@@ -6,27 +6,27 @@ use borrow.Author.Rules.{rules}
 use native.Mathlib.Omega.{arith}
 use native.Mathlib.Nat.{mul-le-mul}
 use Rattle.plating.specs.Bounds.{Panel}
-use Rattle.plating.specs.Shapes.{firstShape}
+use Rattle.plating.specs.Shapes.{first_shape}
 use Rattle.plating.proofs.Products.{sides}
 use Rattle.plating.proofs.first_form.Statement.{statement}
 use Rattle.plating.proofs.first_form.Tie as tie
 
 -- S²
 area : {kind S b1 : ℕ} → Panel kind S b1 → (10000 ≤ S * S) × (S * S ≤ 4000000)
-area p = (mul-le-mul p.spacing-low p.spacing-low, mul-le-mul p.spacing-high p.spacing-high)
+area p = (mul-le-mul p.spacing_low p.spacing_low, mul-le-mul p.spacing_high p.spacing_high)
 
 -- the side by which transverse framing divides
 side : (c : tie.Else1) → 0 < c.before.before.before.args.b1.0
-side c = c.before.before.before.requires.b1-low (sym c.before.is-long.ensures ∙ c.if1.false)
+side c = c.before.before.before.requires.b1_low (sym c.before.is-long.ensures ∙ c.if1.false)
 
 returns : tie.Need-returns
-unfolding firstShape
+unfolding first_shape
 returns c =
     let b = c.before in
     rw (sym b.before.is-long.ensures ∙ b.if1.true) c.square-over.ensures
 
 returns-2 : tie.Need-returns-2
-unfolding firstShape
+unfolding first_shape
 returns-2 c =
     let b = c.before.before in
     rw (sym b.before.is-long.ensures ∙ b.if1.false, ← c.before.k2.ensures) c.square-over2.ensures

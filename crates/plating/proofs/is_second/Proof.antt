@@ -5,13 +5,13 @@ use borrow.Author.Rules.{rules}
 use borrow.Author.Tests.{ne_eqb}
 use native.Mathlib.Omega.{arith}
 use native.Mathlib.Nat.{mul-le-mul}
-use Rattle.quantity.specs.Range.{steelFactor}
-use Rattle.plating.specs.Bounds.{greatestR}
+use Rattle.quantity.specs.Range.{steel_factor}
+use Rattle.plating.specs.Bounds.{greatest_r}
 use Rattle.plating.proofs.is_second.Statement.{statement}
 use Rattle.plating.proofs.is_second.Tie as tie
 
 -- the greater of the two products, at the greatest K and R
-in-range : {K R : ℕ} (a : ℕ) → a ≤ 6084 → (K ≤ steelFactor.high) × (R ≤ greatestR) → a * K * R ≤ 6084000 * greatestR
+in-range : {K R : ℕ} (a : ℕ) → a ≤ 6084 → (K ≤ steel_factor.high) × (R ≤ greatest_r) → a * K * R ≤ 6084000 * greatest_r
 in-range a l h = mul-le-mul (mul-le-mul l h.0) h.1
 
 mul-result-2 : tie.Need-overflow-mul-result-2

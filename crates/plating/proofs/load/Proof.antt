@@ -2,16 +2,16 @@
 -- Assumes nothing.
 use mathlib.Core.Path.{sym, ◌∙◌}
 use borrow.Author.Rules.{rules}
-use Rattle.loads.specs.Sources.{bottomNamed, innerNamed}
+use Rattle.loads.specs.Sources.{bottom_named, inner_named}
 use Rattle.plating.proofs.load.Statement.{statement}
 use Rattle.plating.proofs.load.Tie as tie
 
 returns : tie.Need-returns
-unfolding bottomNamed
+unfolding bottom_named
 returns c = rw (sym c.before.before.is-bottom.ensures ∙ c.before.if1.true) c.bottom.ensures
 
 returns-2 : tie.Need-returns-2
-unfolding innerNamed
+unfolding inner_named
 returns-2 c = rw (sym c.before.before.is-bottom.ensures ∙ c.before.if1.false) c.inner.ensures
 
 pub load_spec : {M : Type 1} → statement M

@@ -6,14 +6,14 @@ use borrow.Author.Rules.{rules}
 use native.Mathlib.Omega.{arith}
 use native.Mathlib.Nat.{mul-le-mul}
 use Rattle.plating.specs.Shapes.{shape2}
-use Rattle.plating.proofs.Products.{in-range}
+use Rattle.plating.proofs.Products.{in_range}
 use Rattle.plating.proofs.rule2.Statement.{statement}
 use Rattle.plating.proofs.rule2.Tie as tie
 
 -- S²KP
 load-in-range : (c : tie.Start) → let a = c.args in
     a.spacing.0 * a.spacing.0 * a.factor.0 * a.load.pressure.0 ≤ 800000000000000000
-load-in-range c = mul-le-mul (in-range c.requires.1 c.requires.0).1 c.requires.2
+load-in-range c = mul-le-mul (in_range c.requires.1 c.requires.0).1 c.requires.2
 
 returns : tie.Need-returns
 unfolding shape2
@@ -33,8 +33,8 @@ rule2-spec =
     (tie.spec
     (λ c. search rules)
     (λ c. search rules)
-    (λ c. omega (arith, in-range c.before.before.requires.1 c.before.before.requires.0))
-    (λ c. omega (arith, in-range c.before.before.requires.1 c.before.before.requires.0))
+    (λ c. omega (arith, in_range c.before.before.requires.1 c.before.before.requires.0))
+    (λ c. omega (arith, in_range c.before.before.requires.1 c.before.before.requires.0))
     (λ c. omega (arith, load-in-range c.before.before.before))
     (λ c κs. search rules)
     (λ c. omega (arith, load-in-range c.before.before.before.before.before))

@@ -7,19 +7,19 @@ use borrow.Author.Tests.{lt-ltb, le-ltb}
 use native.Mathlib.Omega.{arith}
 use native.Mathlib.Nat.{mul-le-mul}
 use Rattle.plating.specs.Rules.{limit}
-use Rattle.plating.specs.Shapes.{secondShape}
-use Rattle.plating.proofs.Products.{in-range, sides}
+use Rattle.plating.specs.Shapes.{second_shape}
+use Rattle.plating.proofs.Products.{in_range, sides}
 use Rattle.plating.proofs.second_form.Statement.{statement}
 use Rattle.plating.proofs.second_form.Tie as tie
 
 -- S² and S²K
 weight : (c : tie.Start) → let a = c.args in
     (a.spacing.0 * a.spacing.0 ≤ 4000000) × (a.spacing.0 * a.spacing.0 * a.factor.0 ≤ 4000000000)
-weight c = in-range c.requires.0.spacing-high c.requires.1
+weight c = in_range c.requires.0.spacing_high c.requires.1
 
 -- the side by which transverse framing divides
 side : (c : tie.Else2) → 0 < c.before.before.before.before.before.args.b1.0
-side c = c.before.before.before.before.before.requires.0.b1-low (sym c.before.is-long.ensures ∙ c.if2.false)
+side c = c.before.before.before.before.before.requires.0.b1_low (sym c.before.is-long.ensures ∙ c.if2.false)
 
 -- K2²(210,000 − R)
 divisor : (c : tie.After-k2) → let k = c.k2.result in let R = c.before.before.before.before.before.before.args.r in
@@ -33,18 +33,18 @@ divisor c =
     (s.1, mul-le-mul one low, mul-le-mul s.1 high)
 
 returns : tie.Need-returns
-unfolding secondShape
+unfolding second_shape
 returns c = rw (le-ltb _ limit c.if1.true)
 
 returns-2 : tie.Need-returns-2
-unfolding secondShape
+unfolding second_shape
 returns-2 c =
     let b = c.before in
     let i = b.before.before.before.before in
     rw (lt-ltb _ limit i.if1.false, sym b.before.is-long.ensures ∙ b.if2.true) c.square.ensures
 
 returns-3 : tie.Need-returns-3
-unfolding secondShape
+unfolding second_shape
 returns-3 c =
     let b = c.before.before in
     let i = b.before.before.before.before in

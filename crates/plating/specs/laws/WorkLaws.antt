@@ -3,24 +3,24 @@
 use Rattle.std.specs.Prelude.{ℕ, ◌≡◌, refl}
 use Rattle.std.proofs.Common.{sym, ap, ap₂, ◌∙◌}
 use Rattle.loads.specs.declared.Load.{Load}
-use Rattle.loads.specs.laws.Only.{load-only}
-use Rattle.loads.specs.Sources.{toldLoad}
+use Rattle.loads.specs.laws.Only.{load_only}
+use Rattle.loads.specs.Sources.{told_load}
 use Rattle.sheet.specs.Refusals.{Answer}
-use Rattle.sheet.specs.laws.RefusalLaws.{given-refused, refusal-only, refused-number, refused-place, given-same}
+use Rattle.sheet.specs.laws.RefusalLaws.{given_refused, refusal_only, refused_number, refused_place, given_same}
 use Rattle.plating.specs.declared.PlateWork.{PlateWork}
 use Rattle.plating.specs.declared.PlateWorked.{PlateWorked}
 use Rattle.plating.specs.declared.PlateWorked.TheVariants.{Work as isWork, Refused as notWorked}
-use Rattle.plating.specs.Work.{Work, toldWork, toldWorked}
+use Rattle.plating.specs.Work.{Work, told_work, told_worked}
 
 -- a working with this load and, for the rest, what a told one says
-withLoad : Load → Work → PlateWork
-withLoad l w =
+with_load : Load → Work → PlateWork
+with_load l w =
     record {
       load = l;
       modulus = w.modulus;
       stress = w.stress;
       k2 = w.k2;
-      is_second = w.isSecond;
+      is_second = w.is_second;
       first = w.first;
       second = w.second;
       third = w.third;
@@ -28,14 +28,14 @@ withLoad l w =
     }
 
 -- two workings that say the same
-work-only : (v w : PlateWork) → toldWork v ≡ toldWork w → v ≡ w
-unfolding withLoad
-work-only v w e =
-    let load : v.load ≡ w.load = load-only (toldLoad w.load) v.load w.load (ap (λ (x : Work). x.load) e) refl in
-    ap₂ withLoad load e
+work_only : (v w : PlateWork) → told_work v ≡ told_work w → v ≡ w
+unfolding with_load
+work_only v w e =
+    let load : v.load ≡ w.load = load_only (told_load w.load) v.load w.load (ap (λ (x : Work). x.load) e) refl in
+    ap₂ with_load load e
 
-pub plate-worked-only : (a : Answer Work) (i j : PlateWorked) → toldWorked i ≡ a → toldWorked j ≡ a → i ≡ j
-plate-worked-only a (isWork v) (isWork w) p q = ap isWork (work-only v w (given-same (p ∙ sym q)))
-plate-worked-only a (isWork v) (notWorked r) p q = given-refused (p ∙ sym q)
-plate-worked-only a (notWorked r) (isWork w) p q = given-refused (q ∙ sym p)
-plate-worked-only a (notWorked r) (notWorked s) p q = ap notWorked (refusal-only r s (refused-number (p ∙ sym q)) (refused-place (p ∙ sym q)))
+pub plate_worked_only : (a : Answer Work) (i j : PlateWorked) → told_worked i ≡ a → told_worked j ≡ a → i ≡ j
+plate_worked_only a (isWork v) (isWork w) p q = ap isWork (work_only v w (given_same (p ∙ sym q)))
+plate_worked_only a (isWork v) (notWorked r) p q = given_refused (p ∙ sym q)
+plate_worked_only a (notWorked r) (isWork w) p q = given_refused (q ∙ sym p)
+plate_worked_only a (notWorked r) (notWorked s) p q = ap notWorked (refusal_only r s (refused_number (p ∙ sym q)) (refused_place (p ∙ sym q)))

@@ -4,8 +4,8 @@ use Rattle.std.specs.Prelude.{ℕ, ◌<◌, ◌≤◌, ◌≡◌, refl, eqb}
 use Rattle.std.proofs.Common.{sym, ap, ◌∙◌, arith, le-leb, eq-eqb, ne_eqb}
 use Rattle.std.proofs.Math.Decide.{dec_le}
 use Rattle.std.proofs.lemmas.Bool.{lt-leb}
-use Rattle.quantity.specs.Range.{Range, from, within, span, spacing, thickness, modulus, shearArea, pressure, lineLoad, steelFactor}
-use Rattle.quantity.specs.Made.{Held, held, refused, Makes, toldSpan, toldSpacing, toldThickness, toldModulus, toldShearArea, toldPressure, toldLineLoad, toldSteelFactor}
+use Rattle.quantity.specs.Range.{Range, from, within, span, spacing, thickness, modulus, shear_area, pressure, line_load, steel_factor}
+use Rattle.quantity.specs.Made.{Held, held, refused, Makes, told_span, told_spacing, told_thickness, told_modulus, told_shear_area, told_pressure, told_line_load, told_steel_factor}
 use Rattle.quantity.specs.declared.MadeSpan.{MadeSpan}
 use Rattle.quantity.specs.declared.MadeSpan.TheVariants.{Span as isSpan, Refused as noSpan}
 use Rattle.quantity.specs.declared.MadeSpacing.{MadeSpacing}
@@ -38,93 +38,93 @@ module _ {A : Type 0} (told : A → Held) (back : Held → A) (again : (a : A) �
   only : (r : Range) (low high x : ℕ) (a b : A) → Makes r low high x (told a) → Makes r low high x (told b) → a ≡ b
   only r low high x a b p q = sym (again a) ∙ ap back (p.answered ∙ sym q.answered) ∙ again b
 
-abbrev spanBack : Held → MadeSpan
-spanBack (held x) = isSpan (record { 0 = x })
-spanBack refused = noSpan
+abbrev span_back : Held → MadeSpan
+span_back (held x) = isSpan (record { 0 = x })
+span_back refused = noSpan
 
-spanAgain : (a : MadeSpan) → spanBack (toldSpan a) ≡ a
-spanAgain (isSpan x) = refl
-spanAgain noSpan = refl
+span_again : (a : MadeSpan) → span_back (told_span a) ≡ a
+span_again (isSpan x) = refl
+span_again noSpan = refl
 
-pub span-only : (low high x : ℕ) (a b : MadeSpan) → Makes span low high x (toldSpan a) → Makes span low high x (toldSpan b) → a ≡ b
-span-only = only toldSpan spanBack spanAgain span
+pub span_only : (low high x : ℕ) (a b : MadeSpan) → Makes span low high x (told_span a) → Makes span low high x (told_span b) → a ≡ b
+span_only = only told_span span_back span_again span
 
-abbrev spacingBack : Held → MadeSpacing
-spacingBack (held x) = isSpacing (record { 0 = x })
-spacingBack refused = noSpacing
+abbrev spacing_back : Held → MadeSpacing
+spacing_back (held x) = isSpacing (record { 0 = x })
+spacing_back refused = noSpacing
 
-spacingAgain : (a : MadeSpacing) → spacingBack (toldSpacing a) ≡ a
-spacingAgain (isSpacing x) = refl
-spacingAgain noSpacing = refl
+spacing_again : (a : MadeSpacing) → spacing_back (told_spacing a) ≡ a
+spacing_again (isSpacing x) = refl
+spacing_again noSpacing = refl
 
-pub spacing-only : (low high x : ℕ) (a b : MadeSpacing) → Makes spacing low high x (toldSpacing a) → Makes spacing low high x (toldSpacing b) → a ≡ b
-spacing-only = only toldSpacing spacingBack spacingAgain spacing
+pub spacing_only : (low high x : ℕ) (a b : MadeSpacing) → Makes spacing low high x (told_spacing a) → Makes spacing low high x (told_spacing b) → a ≡ b
+spacing_only = only told_spacing spacing_back spacing_again spacing
 
-abbrev thicknessBack : Held → MadeThickness
-thicknessBack (held x) = isThickness (record { 0 = x })
-thicknessBack refused = noThickness
+abbrev thickness_back : Held → MadeThickness
+thickness_back (held x) = isThickness (record { 0 = x })
+thickness_back refused = noThickness
 
-thicknessAgain : (a : MadeThickness) → thicknessBack (toldThickness a) ≡ a
-thicknessAgain (isThickness x) = refl
-thicknessAgain noThickness = refl
+thickness_again : (a : MadeThickness) → thickness_back (told_thickness a) ≡ a
+thickness_again (isThickness x) = refl
+thickness_again noThickness = refl
 
-pub thickness-only : (low high x : ℕ) (a b : MadeThickness) → Makes thickness low high x (toldThickness a) → Makes thickness low high x (toldThickness b) → a ≡ b
-thickness-only = only toldThickness thicknessBack thicknessAgain thickness
+pub thickness_only : (low high x : ℕ) (a b : MadeThickness) → Makes thickness low high x (told_thickness a) → Makes thickness low high x (told_thickness b) → a ≡ b
+thickness_only = only told_thickness thickness_back thickness_again thickness
 
-abbrev modulusBack : Held → MadeModulus
-modulusBack (held x) = isModulus (record { 0 = x })
-modulusBack refused = noModulus
+abbrev modulus_back : Held → MadeModulus
+modulus_back (held x) = isModulus (record { 0 = x })
+modulus_back refused = noModulus
 
-modulusAgain : (a : MadeModulus) → modulusBack (toldModulus a) ≡ a
-modulusAgain (isModulus x) = refl
-modulusAgain noModulus = refl
+modulus_again : (a : MadeModulus) → modulus_back (told_modulus a) ≡ a
+modulus_again (isModulus x) = refl
+modulus_again noModulus = refl
 
-pub modulus-only : (low high x : ℕ) (a b : MadeModulus) → Makes modulus low high x (toldModulus a) → Makes modulus low high x (toldModulus b) → a ≡ b
-modulus-only = only toldModulus modulusBack modulusAgain modulus
+pub modulus_only : (low high x : ℕ) (a b : MadeModulus) → Makes modulus low high x (told_modulus a) → Makes modulus low high x (told_modulus b) → a ≡ b
+modulus_only = only told_modulus modulus_back modulus_again modulus
 
-abbrev shearAreaBack : Held → MadeShearArea
-shearAreaBack (held x) = isShearArea (record { 0 = x })
-shearAreaBack refused = noShearArea
+abbrev shear_area_back : Held → MadeShearArea
+shear_area_back (held x) = isShearArea (record { 0 = x })
+shear_area_back refused = noShearArea
 
-shearAreaAgain : (a : MadeShearArea) → shearAreaBack (toldShearArea a) ≡ a
-shearAreaAgain (isShearArea x) = refl
-shearAreaAgain noShearArea = refl
+shear_area_again : (a : MadeShearArea) → shear_area_back (told_shear_area a) ≡ a
+shear_area_again (isShearArea x) = refl
+shear_area_again noShearArea = refl
 
-pub shearArea-only : (low high x : ℕ) (a b : MadeShearArea) → Makes shearArea low high x (toldShearArea a) → Makes shearArea low high x (toldShearArea b) → a ≡ b
-shearArea-only = only toldShearArea shearAreaBack shearAreaAgain shearArea
+pub shear_area_only : (low high x : ℕ) (a b : MadeShearArea) → Makes shear_area low high x (told_shear_area a) → Makes shear_area low high x (told_shear_area b) → a ≡ b
+shear_area_only = only told_shear_area shear_area_back shear_area_again shear_area
 
-abbrev pressureBack : Held → MadePressure
-pressureBack (held x) = isPressure (record { 0 = x })
-pressureBack refused = noPressure
+abbrev pressure_back : Held → MadePressure
+pressure_back (held x) = isPressure (record { 0 = x })
+pressure_back refused = noPressure
 
-pressureAgain : (a : MadePressure) → pressureBack (toldPressure a) ≡ a
-pressureAgain (isPressure x) = refl
-pressureAgain noPressure = refl
+pressure_again : (a : MadePressure) → pressure_back (told_pressure a) ≡ a
+pressure_again (isPressure x) = refl
+pressure_again noPressure = refl
 
-pub pressure-only : (low high x : ℕ) (a b : MadePressure) → Makes pressure low high x (toldPressure a) → Makes pressure low high x (toldPressure b) → a ≡ b
-pressure-only = only toldPressure pressureBack pressureAgain pressure
+pub pressure_only : (low high x : ℕ) (a b : MadePressure) → Makes pressure low high x (told_pressure a) → Makes pressure low high x (told_pressure b) → a ≡ b
+pressure_only = only told_pressure pressure_back pressure_again pressure
 
-abbrev lineLoadBack : Held → MadeLineLoad
-lineLoadBack (held x) = isLineLoad (record { 0 = x })
-lineLoadBack refused = noLineLoad
+abbrev line_load_back : Held → MadeLineLoad
+line_load_back (held x) = isLineLoad (record { 0 = x })
+line_load_back refused = noLineLoad
 
-lineLoadAgain : (a : MadeLineLoad) → lineLoadBack (toldLineLoad a) ≡ a
-lineLoadAgain (isLineLoad x) = refl
-lineLoadAgain noLineLoad = refl
+line_load_again : (a : MadeLineLoad) → line_load_back (told_line_load a) ≡ a
+line_load_again (isLineLoad x) = refl
+line_load_again noLineLoad = refl
 
-pub lineLoad-only : (low high x : ℕ) (a b : MadeLineLoad) → Makes lineLoad low high x (toldLineLoad a) → Makes lineLoad low high x (toldLineLoad b) → a ≡ b
-lineLoad-only = only toldLineLoad lineLoadBack lineLoadAgain lineLoad
+pub line_load_only : (low high x : ℕ) (a b : MadeLineLoad) → Makes line_load low high x (told_line_load a) → Makes line_load low high x (told_line_load b) → a ≡ b
+line_load_only = only told_line_load line_load_back line_load_again line_load
 
-abbrev steelFactorBack : Held → MadeSteelFactor
-steelFactorBack (held x) = isSteelFactor (record { 0 = x })
-steelFactorBack refused = noSteelFactor
+abbrev steel_factor_back : Held → MadeSteelFactor
+steel_factor_back (held x) = isSteelFactor (record { 0 = x })
+steel_factor_back refused = noSteelFactor
 
-steelFactorAgain : (a : MadeSteelFactor) → steelFactorBack (toldSteelFactor a) ≡ a
-steelFactorAgain (isSteelFactor x) = refl
-steelFactorAgain noSteelFactor = refl
+steel_factor_again : (a : MadeSteelFactor) → steel_factor_back (told_steel_factor a) ≡ a
+steel_factor_again (isSteelFactor x) = refl
+steel_factor_again noSteelFactor = refl
 
-pub steelFactor-only : (low high x : ℕ) (a b : MadeSteelFactor) → Makes steelFactor low high x (toldSteelFactor a) → Makes steelFactor low high x (toldSteelFactor b) → a ≡ b
-steelFactor-only = only toldSteelFactor steelFactorBack steelFactorAgain steelFactor
+pub steel_factor_only : (low high x : ℕ) (a b : MadeSteelFactor) → Makes steel_factor low high x (told_steel_factor a) → Makes steel_factor low high x (told_steel_factor b) → a ≡ b
+steel_factor_only = only told_steel_factor steel_factor_back steel_factor_again steel_factor
 
 -- a range of one value
 pub one_value : (a x : ℕ) → within (from a a) x ≡ eqb x a

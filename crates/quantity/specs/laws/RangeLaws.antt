@@ -6,8 +6,8 @@ use Rattle.truth.specs.laws.Tests.{both}
 use Rattle.quantity.specs.Range.{Range, within}
 
 -- a number within a range lies from its lowest to its highest
-pub low-high : (r : Range) (v : ℕ) → within r v ≡ true → (r.low ≤ v) × (v ≤ r.high)
-low-high r v e = let h = both _ _ e in (leb-true _ _ h.0, leb-true _ _ h.1)
+pub low_high : (r : Range) (v : ℕ) → within r v ≡ true → (r.low ≤ v) × (v ≤ r.high)
+low_high r v e = let h = both _ _ e in (leb-true _ _ h.0, leb-true _ _ h.1)
 
 -- and the other way round
 pub lies_within : (r : Range) (v : ℕ) → r.low ≤ v → v ≤ r.high → within r v ≡ true

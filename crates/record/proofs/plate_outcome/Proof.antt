@@ -3,12 +3,12 @@
 use Prim.Native.Nat.{ℕ}
 use mathlib.Core.Path.{ap, ◌∙◌}
 use borrow.Author.Rules.{rules}
-use Rattle.sheet.specs.Refusals.{given, recordRefused}
+use Rattle.sheet.specs.Refusals.{given, record_refused}
 use Rattle.record.proofs.plate_outcome.Statement.{statement}
 use Rattle.record.proofs.plate_outcome.Tie as tie
 
 returns : tie.Need-returns
-returns c = c.outcome.ensures ∙ ap (λ (f : ℕ). recordRefused 0 f (given tt)) c.before.fault.ensures
+returns c = c.outcome.ensures ∙ ap (λ (f : ℕ). record_refused 0 f (given tt)) c.before.fault.ensures
 
 pub plate-outcome-spec : {M : Type 1} → statement M
 plate-outcome-spec = tie.close (tie.spec (λ c κs. search rules) (λ c κs. search rules) returns)

@@ -1,7 +1,7 @@
 -- `record::read_record_as` meets its contract.
 -- Assumes nothing.
 use borrow.Author.Rules.{rules}
-use Rattle.record.proofs.Answers.{read_short, read-good, read-bad}
+use Rattle.record.proofs.Answers.{read_short, read_good, read_bad}
 use Rattle.record.proofs.read_record_as.Statement.{statement}
 use Rattle.record.proofs.read_record_as.Tie as tie
 
@@ -9,14 +9,14 @@ returns-2 : tie.Need-returns-2
 returns-2 c =
     let at-fault = c.before in
     let at_read = at-fault.before.before.before in
-    read-good _ at_read.before.before.before.args.s.now _ _ _ _ at_read.before.if1.false at_read.read-long.ensures at-fault.before.before.record_of.ensures
+    read_good _ at_read.before.before.before.args.s.now _ _ _ _ at_read.before.if1.false at_read.read-long.ensures at-fault.before.before.record_of.ensures
     at-fault.before.Spare-of.ensures at-fault.fault.ensures c.if2.true
 
 returns-3 : tie.Need-returns-3
 returns-3 c =
     let at-fault = c.before.before in
     let at_read = at-fault.before.before.before in
-    read-bad _ at_read.before.before.before.args.s.now _ _ _ _ at_read.before.if1.false at_read.read-long.ensures at-fault.before.before.record_of.ensures
+    read_bad _ at_read.before.before.before.args.s.now _ _ _ _ at_read.before.if1.false at_read.read-long.ensures at-fault.before.before.record_of.ensures
     at-fault.before.Spare-of.ensures at-fault.fault.ensures _ c.refuse.ensures c.before.if2.false
 
 pub read-record-as-spec : {M : Type 1} → statement M

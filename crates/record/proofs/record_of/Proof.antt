@@ -6,21 +6,21 @@ use mathlib.Core.Path.{sym, ap, ◌∙◌}
 use borrow.Author.Tests.{lt-ltb, le-ltb}
 use Rattle.sheet.specs.declared.Plate.{Plate}
 use Rattle.sheet.specs.declared.Member.{Member}
-use Rattle.record.proofs.Fields.{record-law, plateWith, memberWith}
+use Rattle.record.proofs.Fields.{record_law, plate_with, member_with}
 use Rattle.record.proofs.record_of.Statement.{statement}
 use Rattle.record.proofs.record_of.Tie as tie
 
 returns : tie.Need-returns
 returns c =
     let n = c.before.before.args.n in
-    ap (λ (p : Plate). plateWith n.hi p) c.of_number.ensures
-    ∙ sym (record-law n.hi n.lo (omega arith) ∙ simp (lt-ltb _ _ c.before.if1.true))
+    ap (λ (p : Plate). plate_with n.hi p) c.of_number.ensures
+    ∙ sym (record_law n.hi n.lo (omega arith) ∙ simp (lt-ltb _ _ c.before.if1.true))
 
 returns-2 : tie.Need-returns-2
 returns-2 c =
     let n = c.before.before.args.n in
-    ap (λ (m : Member). memberWith n.hi m) c.of-number2.ensures
-    ∙ sym (record-law n.hi n.lo (omega arith) ∙ simp (le-ltb _ _ c.before.if1.false))
+    ap (λ (m : Member). member_with n.hi m) c.of-number2.ensures
+    ∙ sym (record_law n.hi n.lo (omega arith) ∙ simp (le-ltb _ _ c.before.if1.false))
 
 pub record-of-spec : {M : Type 1} → statement M
 record-of-spec =

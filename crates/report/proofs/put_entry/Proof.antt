@@ -5,10 +5,10 @@ use mathlib.Core.Path.{◌≡◌, sym, ap, ◌∙◌}
 use mathlib.Core.List.{List, [], ◌∷◌, ◌++◌, append_assoc}
 use Prim.Native.Nat.{ℕ}
 use Rattle.checker.specs.declared.Entry.{Entry}
-use Rattle.checker.specs.Entry.{entryValues}
-use Rattle.decimal.specs.Decimal.{decimalOf}
+use Rattle.checker.specs.Entry.{entry_values}
+use Rattle.decimal.specs.Decimal.{decimal_of}
 use Rattle.decimal.specs.Line.{line_of}
-use Rattle.decimal.specs.laws.LineLaws.{line-one, line-more}
+use Rattle.decimal.specs.laws.LineLaws.{line_one, line_more}
 use Rattle.decimal.specs.laws.LaidLaws.{first_fits, second_fits, laid_both}
 use Rattle.report.specs.Text.{line}
 use Rattle.report.proofs.put_entry.Statement.{statement}
@@ -21,13 +21,13 @@ first e = line_of 32 (32 ∷ []) (e.id ∷ e.rule ∷ [])
 abbrev second : Entry → List ℕ
 second e = line (e.required ∷ e.source ∷ [])
 
-split : (e : Entry) → line (entryValues e) ≡ first e ++ second e
+split : (e : Entry) → line (entry_values e) ≡ first e ++ second e
 split e =
-    let id = decimalOf e.id ++ (32 ∷ []) in
-    let rule = decimalOf e.rule ++ (32 ∷ []) in
-    let pair : first e ≡ id ++ rule = line-more 32 (32 ∷ []) e.id e.rule [] ∙ ap (λ (t : List ℕ). id ++ t) (line-one 32 (32 ∷ []) e.rule) in
-    line-more 32 (10 ∷ []) e.id e.rule (e.required ∷ e.source ∷ [])
-    ∙ ap (λ (t : List ℕ). id ++ t) (line-more 32 (10 ∷ []) e.rule e.required (e.source ∷ []))
+    let id = decimal_of e.id ++ (32 ∷ []) in
+    let rule = decimal_of e.rule ++ (32 ∷ []) in
+    let pair : first e ≡ id ++ rule = line_more 32 (32 ∷ []) e.id e.rule [] ∙ ap (λ (t : List ℕ). id ++ t) (line_one 32 (32 ∷ []) e.rule) in
+    line_more 32 (10 ∷ []) e.id e.rule (e.required ∷ e.source ∷ [])
+    ∙ ap (λ (t : List ℕ). id ++ t) (line_more 32 (10 ∷ []) e.rule e.required (e.source ∷ []))
     ∙ sym (append_assoc id rule (second e))
     ∙ ap (λ (t : List ℕ). t ++ second e) (sym pair)
 

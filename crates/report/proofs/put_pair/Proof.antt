@@ -4,22 +4,22 @@ use borrow.Author.Rules.{rules}
 use mathlib.Core.Path.{◌≡◌, ap, ◌∙◌}
 use mathlib.Core.List.{List, [], ◌∷◌, ◌++◌}
 use Prim.Native.Nat.{ℕ}
-use Rattle.decimal.specs.Decimal.{decimalOf}
+use Rattle.decimal.specs.Decimal.{decimal_of}
 use Rattle.decimal.specs.Line.{line_of}
-use Rattle.decimal.specs.laws.LineLaws.{line-one, line-more}
+use Rattle.decimal.specs.laws.LineLaws.{line_one, line_more}
 use Rattle.decimal.specs.laws.LaidLaws.{first_fits, second_fits, laid_both}
 use Rattle.report.proofs.put_pair.Statement.{statement}
 use Rattle.report.proofs.put_pair.Tie as tie
 
 -- the two pieces
 abbrev first : ℕ → List ℕ
-first n = decimalOf n ++ (32 ∷ [])
+first n = decimal_of n ++ (32 ∷ [])
 
 abbrev second : ℕ → List ℕ → List ℕ
-second n after = decimalOf n ++ after
+second n after = decimal_of n ++ after
 
 split : (m n : ℕ) (after : List ℕ) → line_of 32 after (m ∷ n ∷ []) ≡ first m ++ second n after
-split m n after = line-more 32 after m n [] ∙ ap (λ (t : List ℕ). first m ++ t) (line-one 32 after n)
+split m n after = line_more 32 after m n [] ∙ ap (λ (t : List ℕ). first m ++ t) (line_one 32 after n)
 
 returns : tie.Need-returns
 returns c =

@@ -7,9 +7,9 @@ use mathlib.Core.List.{List}
 use native.Mathlib.Omega.{arith}
 use lib.ListN.{length, replicate}
 use lib.Seq.{length-take-le}
-use Rattle.decimal.specs.laws.LaidLaws.{laid-inside, laid-taken}
+use Rattle.decimal.specs.laws.LaidLaws.{laid_inside, laid_taken}
 use Rattle.report.specs.Page.{Tells}
-use Rattle.report.specs.Pieces.{refusalText}
+use Rattle.report.specs.Pieces.{refusal_text}
 use Rattle.report.proofs.write_refusal.Statement.{statement}
 use Rattle.report.proofs.write_refusal.Tie as tie
 
@@ -22,10 +22,10 @@ module _ (c : tie.After-put-refusal) where
   start = c.before.before.before
 
   abbrev line : List ℕ
-  line = refusalText start.args.r
+  line = refusal_text start.args.r
 
   most : length line ≤ 22
-  most = laid-inside (replicate 22 0) line c.put-refusal.ensures c.put-refusal.auto.0
+  most = laid_inside (replicate 22 0) line c.put-refusal.ensures c.put-refusal.auto.0
 
   within : c.put-refusal.result ≤ length c.put-refusal.new.0
   within = omega (arith, most, c.put-refusal.ensures.place, c.put-refusal.auto.0)
@@ -37,7 +37,7 @@ returns c =
     let o = (start p).args.text.now in
     record {
       most = most p;
-      tells = subst (λ (x : List ℕ). Tells x o t.tell.result t.tell.new.1.0) (laid-taken (replicate 22 0) (line p) p.put-refusal.ensures) t.tell.ensures;
+      tells = subst (λ (x : List ℕ). Tells x o t.tell.result t.tell.new.1.0) (laid_taken (replicate 22 0) (line p) p.put-refusal.ensures) t.tell.ensures;
     }
 
 pub write-refusal-spec : {M : Type 1} → statement M

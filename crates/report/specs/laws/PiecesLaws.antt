@@ -8,47 +8,47 @@ use Rattle.sheet.specs.declared.Record.{Record}
 use Rattle.sheet.specs.declared.Refusal.{Refusal}
 use Rattle.sheet.specs.declared.Refusal.TheVariants.{SheetShort, Version, HeaderField, TooSlender, SheetLength, OutputShort, Kind, Field, Order, NoSuchId, NoRoom, Text, FieldCount}
 use Rattle.sheet.specs.Refusals.{Answer, given, refused, number_of, place_of}
-use Rattle.sheet.specs.laws.RefusalLaws.{given-refused, refused-number, refused-place}
+use Rattle.sheet.specs.laws.RefusalLaws.{given_refused, refused_number, refused_place}
 use Rattle.checker.specs.declared.Entry.{Entry}
 use Rattle.checker.specs.declared.Checked.{Checked}
 use Rattle.checker.specs.declared.Checked.TheVariants.{Done, Refused as notDone}
-use Rattle.checker.specs.Entry.{entryValues, read_entry}
-use Rattle.checker.specs.laws.EntryLaws.{read-sound}
-use Rattle.checker.specs.Check.{fourAt, ◌then◌, part, recordsPart, recordOf, Sheet, sheetIn, entry_of, verdicts, failures, Totals, answer_of, outputOf, Checks}
+use Rattle.checker.specs.Entry.{entry_values, read_entry}
+use Rattle.checker.specs.laws.EntryLaws.{read_sound}
+use Rattle.checker.specs.Check.{four_at, ◌then◌, part, records_part, record_of, Sheet, sheet_in, entry_of, verdicts, failures, Totals, answer_of, output_of, Checks}
 use Rattle.checker.specs.Unjudged.{room}
 use Rattle.checker.specs.Whole.{Taken, next}
-use Rattle.checker.specs.laws.CheckLaws.{sheet-whole, verdict-read, answer-sheet}
-use Rattle.checker.specs.laws.Bounds.{sheet-counts}
-use Rattle.report.specs.Text.{lines_of, printed, line, linesText, refusedWord, textBy, text_of}
-use Rattle.report.specs.Page.{longestLine}
-use Rattle.report.specs.laws.TextLaws.{entry-most, lines-last}
-use Rattle.report.specs.Pieces.{readText, verdictText, verdictsText, refusalText, checkedText, Counted}
+use Rattle.checker.specs.laws.CheckLaws.{sheet_whole, verdict_read, answer_sheet}
+use Rattle.checker.specs.laws.Bounds.{sheet_counts}
+use Rattle.report.specs.Text.{lines_of, printed, line, lines_text, refused_word, text_by, text_of}
+use Rattle.report.specs.Page.{longest_line}
+use Rattle.report.specs.laws.TextLaws.{entry_most, lines_last}
+use Rattle.report.specs.Pieces.{read_text, verdict_text, verdicts_text, refusal_text, checked_text, Counted}
 
 -- ---- how long they are
 
 -- the line of a verdict that was read, and of none
-pub verdict-line : (b : List ℕ) (e : Entry) → given e ≡ read_entry b → line (entryValues e) ≡ verdictText b
-unfolding verdictText
-verdict-line b e f = ap readText f
+pub verdict_line_lem : (b : List ℕ) (e : Entry) → given e ≡ read_entry b → line (entry_values e) ≡ verdict_text b
+unfolding verdict_text
+verdict_line_lem b e f = ap read_text f
 
-pub verdict-none : (b : List ℕ) (k p : ℕ) → refused k p ≡ read_entry b → [] ≡ verdictText b
-unfolding verdictText
-verdict-none b k p f = ap readText f
+pub verdict_none : (b : List ℕ) (k p : ℕ) → refused k p ≡ read_entry b → [] ≡ verdict_text b
+unfolding verdict_text
+verdict_none b k p f = ap read_text f
 
-pub verdict-most : (b : List ℕ) → length (verdictText b) ≤ longestLine
-unfolding verdictText
-verdict-most b = go (read_entry b) refl
+pub verdict_most : (b : List ℕ) → length (verdict_text b) ≤ longest_line
+unfolding verdict_text
+verdict_most b = go (read_entry b) refl
   where
-    go : (x : Answer Entry) → read_entry b ≡ x → length (readText x) ≤ longestLine
-    go (given e) f = entry-most e (read-sound b e f)
+    go : (x : Answer Entry) → read_entry b ≡ x → length (read_text x) ≤ longest_line
+    go (given e) f = entry_most e (read_sound b e f)
     go (refused k p) f = omega arith
 
-pub verdicts-most : (out : List ℕ) (i count : ℕ) → length (verdictsText out i count) ≤ longestLine * count
-unfolding verdictsText
-verdicts-most out i zero = omega arith
-verdicts-most out i (suc count) =
+pub verdicts_most : (out : List ℕ) (i count : ℕ) → length (verdicts_text out i count) ≤ longest_line * count
+unfolding verdicts_text
+verdicts_most out i zero = omega arith
+verdicts_most out i (suc count) =
     let b = part out (4 * i) (4 * i + 4) in
-    omega (arith, length-append (verdictText b) (verdictsText out (i + 1) count), verdict-most b, verdicts-most out (i + 1) count)
+    omega (arith, length-append (verdict_text b) (verdicts_text out (i + 1) count), verdict_most b, verdicts_most out (i + 1) count)
 
 -- a refusal's number has two digits at most
 pub number_small : (r : Refusal) → number_of r < 100
@@ -67,68 +67,68 @@ number_small (Text p) = omega arith
 number_small (FieldCount p) = omega arith
 
 -- so that the counts of a check are within their bounds
-pub checked-counted : (s out after : List ℕ) (r : Checked) → length after ≡ length out → Checks s out r after → Counted r after
-checked-counted s out after (Done n failed) l c =
-    let a = answer-sheet s (length out) _ (sym c.answer) in
-    let k = sheet-counts s (length out) a.0 a.1 in
-    let same-n = ap (λ (w : Totals). w.n) a.2 in
-    let same-failed = ap (λ (w : Totals). w.failed) a.2 in
+pub checked_counted : (s out after : List ℕ) (r : Checked) → length after ≡ length out → Checks s out r after → Counted r after
+checked_counted s out after (Done n failed) l c =
+    let a = answer_sheet s (length out) _ (sym c.answer) in
+    let k = sheet_counts s (length out) a.0 a.1 in
+    let same_n = ap (λ (w : Totals). w.n) a.2 in
+    let same_failed = ap (λ (w : Totals). w.failed) a.2 in
     (omega (arith, k.inside), omega (arith, k.records), omega (arith, k.failed))
-checked-counted s out after (notDone r) l c = tt
+checked_counted s out after (notDone r) l c = tt
 
 -- ---- the verdicts of a sheet
 
 -- the bytes of verdict i in the output
-four : (out : List ℕ) (i : ℕ) → part out (4 * i) (4 * i + 4) ≡ fourAt i out
+four : (out : List ℕ) (i : ℕ) → part out (4 * i) (4 * i + 4) ≡ four_at i out
 four out i = let e : 4 * i + 4 - 4 * i ≡ 4 = omega arith in ap (λ (k : ℕ). take k (drop (4 * i) out)) e
 
 -- each verdict's line, for the records from i on of n
-lines-taken : (h : Header) (s out : List ℕ) (n i before : ℕ) (rs : List Record) → ((j : ℕ) → j < n → (r : Record) → recordOf s j ≡ given r → read_entry (take 4 (drop (4 * j) out)) ≡ given (entry_of h r))
-    → i + length rs ≤ n → Taken s i before rs → verdictsText out i (length rs) ≡ linesText (map entryValues (map (entry_of h) rs))
-unfolding verdictsText verdictText linesText
-lines-taken h s out n i before [] read l t = refl
-lines-taken h s out n i before (r ∷ rs) read l (next e o t) =
+lines_taken : (h : Header) (s out : List ℕ) (n i before : ℕ) (rs : List Record) → ((j : ℕ) → j < n → (r : Record) → record_of s j ≡ given r → read_entry (take 4 (drop (4 * j) out)) ≡ given (entry_of h r))
+    → i + length rs ≤ n → Taken s i before rs → verdicts_text out i (length rs) ≡ lines_text (map entry_values (map (entry_of h) rs))
+unfolding verdicts_text verdict_text lines_text
+lines_taken h s out n i before [] read l t = refl
+lines_taken h s out n i before (r ∷ rs) read l (next e o t) =
     ap₂ {C = List ℕ} (λ a b. a ++ b)
-    (ap (λ (b : List ℕ). readText (read_entry b)) (four out i) ∙ ap readText (read i (omega arith) r e))
-    (lines-taken h s out n (i + 1) r.id rs read (omega arith) t)
+    (ap (λ (b : List ℕ). read_text (read_entry b)) (four out i) ∙ ap read_text (read i (omega arith) r e))
+    (lines_taken h s out n (i + 1) r.id rs read (omega arith) t)
 
-module _ (s out : List ℕ) (t : Sheet) (given-t : sheetIn s (length out) ≡ given t) where
-  lines-verdicts : verdictsText (outputOf s out) 0 t.header.count ≡ linesText (map entryValues (verdicts t))
+module _ (s out : List ℕ) (t : Sheet) (given_t : sheet_in s (length out) ≡ given t) where
+  lines_verdicts : verdicts_text (output_of s out) 0 t.header.count ≡ lines_text (map entry_values (verdicts t))
   unfolding verdicts
-  lines-verdicts =
-      let w = sheet-whole s (length out) t given-t in
-      ap (verdictsText (outputOf s out) 0) (sym w.number)
-      ∙ lines-taken t.header (recordsPart t.header s) (outputOf s out) t.header.count 0 0 t.records (verdict-read s out t given-t) (omega (arith, w.number)) w.records
+  lines_verdicts =
+      let w = sheet_whole s (length out) t given_t in
+      ap (verdicts_text (output_of s out) 0) (sym w.number)
+      ∙ lines_taken t.header (records_part t.header s) (output_of s out) t.header.count 0 0 t.records (verdict_read s out t given_t) (omega (arith, w.number)) w.records
 
 -- ---- the whole
 
 -- what a sheet prints, by the answer of a check
-printed-given : (s : List ℕ) (t : Sheet) → sheetIn s room ≡ given t → text_of s ≡ linesText (lines_of t)
-unfolding text_of printed textBy ◌then◌
-printed-given s t e = rw e
+printed_given : (s : List ℕ) (t : Sheet) → sheet_in s room ≡ given t → text_of s ≡ lines_text (lines_of t)
+unfolding text_of printed text_by ◌then◌
+printed_given s t e = rw e
 
-printed-refused : (s : List ℕ) (k p : ℕ) → sheetIn s room ≡ refused k p → text_of s ≡ refusedWord ++ line (k ∷ p ∷ [])
-unfolding text_of printed textBy ◌then◌
-printed-refused s k p e = rw e
+printed_refused : (s : List ℕ) (k p : ℕ) → sheet_in s room ≡ refused k p → text_of s ≡ refused_word ++ line (k ∷ p ∷ [])
+unfolding text_of printed text_by ◌then◌
+printed_refused s k p e = rw e
 
 -- a check that is refused has turned the sheet away
-pub answer-refused : (s : List ℕ) (room k p : ℕ) → answer_of s room ≡ refused k p → sheetIn s room ≡ refused k p
+pub answer_refused : (s : List ℕ) (room k p : ℕ) → answer_of s room ≡ refused k p → sheet_in s room ≡ refused k p
 unfolding answer_of ◌then◌
-answer-refused s room k p e = go (sheetIn s room) e
+answer_refused s room k p e = go (sheet_in s room) e
   where
     go : (x : Answer Sheet) → ◌then◌ {B = Totals} x (λ t. given (record { n = t.header.count; failed = failures (verdicts t) })) ≡ refused k p → x ≡ refused k p
-    go (given t) f = given-refused f
-    go (refused l q) f = ap₂ refused (refused-number f) (refused-place f)
+    go (given t) f = given_refused f
+    go (refused l q) f = ap₂ refused (refused_number f) (refused_place f)
 
 -- the pieces are the text
-pub text-checked : (s out after : List ℕ) (r : Checked) → Checks s out r after → length out ≡ room → checkedText r after ≡ text_of s
-unfolding checkedText refusalText
-text-checked s out after (Done n failed) c l =
-    let a = answer-sheet s (length out) _ (sym c.answer) in
+pub text_checked : (s out after : List ℕ) (r : Checked) → Checks s out r after → length out ≡ room → checked_text r after ≡ text_of s
+unfolding checked_text refusal_text
+text_checked s out after (Done n failed) c l =
+    let a = answer_sheet s (length out) _ (sym c.answer) in
     let t = a.0 in
     let totals : ◌≡◌ {A = List ℕ} (n ∷ failed ∷ []) (t.header.count ∷ failures (verdicts t) ∷ []) = ap (λ (w : Totals). w.n ∷ w.failed ∷ []) a.2 in
-    ap₂ {C = List ℕ} (λ o k. verdictsText o 0 k ++ line (n ∷ failed ∷ [])) c.bytes (ap (λ (w : Totals). w.n) a.2)
-    ∙ ap₂ {C = List ℕ} (λ x w. x ++ line w) (lines-verdicts s out t a.1) totals
-    ∙ sym (lines-last (map entryValues (verdicts t)) (t.header.count ∷ failures (verdicts t) ∷ []))
-    ∙ sym (printed-given s t (ap (sheetIn s) (sym l) ∙ a.1))
-text-checked s out after (notDone r) c l = sym (printed-refused s (number_of r) (place_of r) (ap (sheetIn s) (sym l) ∙ answer-refused s (length out) (number_of r) (place_of r) (sym c.answer)))
+    ap₂ {C = List ℕ} (λ o k. verdicts_text o 0 k ++ line (n ∷ failed ∷ [])) c.bytes (ap (λ (w : Totals). w.n) a.2)
+    ∙ ap₂ {C = List ℕ} (λ x w. x ++ line w) (lines_verdicts s out t a.1) totals
+    ∙ sym (lines_last (map entry_values (verdicts t)) (t.header.count ∷ failures (verdicts t) ∷ []))
+    ∙ sym (printed_given s t (ap (sheet_in s) (sym l) ∙ a.1))
+text_checked s out after (notDone r) c l = sym (printed_refused s (number_of r) (place_of r) (ap (sheet_in s) (sym l) ∙ answer_refused s (length out) (number_of r) (place_of r) (sym c.answer)))

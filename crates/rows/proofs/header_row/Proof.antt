@@ -4,13 +4,13 @@ use borrow.Author.Rules.{rules}
 use mathlib.Core.Path.{◌≡◌, sym, ap, subst, ◌∙◌}
 use Prim.Native.Nat.{ℕ, ◌+◌, ◌≤◌}
 use native.Mathlib.Omega.{arith}
-use Rattle.sheet.specs.Versions.{firstBytes, numbered}
-use Rattle.sheet.specs.Lines.{firstWidths, ownWidths}
-use Rattle.sheet.specs.Header.{ownBytes}
+use Rattle.sheet.specs.Versions.{first_bytes, numbered}
+use Rattle.sheet.specs.Lines.{first_widths, own_widths}
+use Rattle.sheet.specs.Header.{own_bytes}
 use Rattle.rows.specs.declared.form.Form.{Form}
 use Rattle.rows.specs.declared.RowEnd.{RowEnd}
-use Rattle.rows.specs.Rows.{first_of, headerLine, toldEnd, shown}
-use Rattle.rows.specs.laws.RowLaws.{FormIs, first-form, own-form, own-small, row-fault, header-miscounted, header-wide, header-fine}
+use Rattle.rows.specs.Rows.{first_of, header_line, told_end, shown}
+use Rattle.rows.specs.laws.RowLaws.{FormIs, first_form_lem, own_form_lem, own_small, row_fault, header_miscounted, header_wide, header_fine}
 use Rattle.rows.proofs.header_row.Statement.{statement}
 use Rattle.rows.proofs.header_row.Tie as tie
 
@@ -19,23 +19,23 @@ module _ (c : tie.After-own) where
   abbrev version : ℕ
   version = first_of c.before.before.before.before.before.args.t1
 
-  first-is : FormIs c.before.first.result firstWidths firstBytes
-  first-is = subst (λ (f : Form). FormIs f firstWidths firstBytes) (sym c.before.first.ensures) first-form
+  first-is : FormIs c.before.first.result first_widths first_bytes
+  first-is = subst (λ (f : Form). FormIs f first_widths first_bytes) (sym c.before.first.ensures) first_form_lem
 
-  own_is : FormIs c.own.result (ownWidths (numbered version)) (ownBytes (numbered version))
-  own_is = subst (λ (f : Form). FormIs f (ownWidths (numbered version)) (ownBytes (numbered version))) (sym c.own.ensures) (own-form version).0
+  own_is : FormIs c.own.result (own_widths (numbered version)) (own_bytes (numbered version))
+  own_is = subst (λ (f : Form). FormIs f (own_widths (numbered version)) (own_bytes (numbered version))) (sym c.own.ensures) (own_form_lem version).0
 
   few : (c.before.first.result.numbers ≡ 8) × (c.own.result.numbers ≤ 2)
-  few = (ap (λ (f : Form). f.numbers) c.before.first.ensures, subst (λ (f : Form). f.numbers ≤ 2) (sym c.own.ensures) (own-small version).0)
+  few = (ap (λ (f : Form). f.numbers) c.before.first.ensures, subst (λ (f : Form). f.numbers ≤ 2) (sym c.own.ensures) (own_small version).0)
 
-  room : firstBytes + ownBytes (numbered version) ≤ 20
-  room = (own-small version).1
+  room : first_bytes + own_bytes (numbered version) ≤ 20
+  room = (own_small version).1
 
 returns : tie.Need-returns
 returns c =
     let f = c.before.before in
     let a = f.before.args in
-    c.refused.ensures ∙ ap shown (row-fault a.line a.end (headerLine a.line a.count a.t1) (sym c.before.if1.true ∙ f.is-fault.ensures))
+    c.refused.ensures ∙ ap shown (row_fault a.line a.end (header_line a.line a.count a.t1) (sym c.before.if1.true ∙ f.is-fault.ensures))
 
 returns-2 : tie.Need-returns-2
 returns-2 c =
@@ -46,7 +46,7 @@ returns-2 c =
     let a = f.before.args in
     c.refused2.ensures
     ∙ ap shown
-    (header-miscounted a.t1 a.count a.line a.end (sym w.before.if1.false ∙ f.is-fault.ensures) w.is_Within.result w.is_Within.ensures
+    (header_miscounted a.t1 a.count a.line a.end (sym w.before.if1.false ∙ f.is-fault.ensures) w.is_Within.result w.is_Within.ensures
     g.before.first.result g.own.result g.before.first.ensures g.own.ensures (sym c.before.if2.true ∙ m.miscounted.ensures))
 
 returns-3 : tie.Need-returns-3
@@ -62,8 +62,8 @@ returns-3 c =
     let w = g.before.before in
     let f = w.before.before in
     let a = f.before.args in
-    ap (λ (e : RowEnd). record { answer = toldEnd e; size = g.before.first.result.size + g.own.result.size; bytes = y.placed2.result }) c.row-end.ensures
-    ∙ header-fine a.t1 a.count a.line a.end (sym w.before.if1.false ∙ f.is-fault.ensures) w.is_Within.result w.is_Within.ensures
+    ap (λ (e : RowEnd). record { answer = told_end e; size = g.before.first.result.size + g.own.result.size; bytes = y.placed2.result }) c.row-end.ensures
+    ∙ header_fine a.t1 a.count a.line a.end (sym w.before.if1.false ∙ f.is-fault.ensures) w.is_Within.result w.is_Within.ensures
     g.before.first.result g.own.result g.before.first.ensures g.own.ensures (sym t.before.if2.false ∙ m.miscounted.ensures)
     t.taken.result t.taken.ensures h.first_part.result o.own-part.result h.first_part.ensures o.own-part.ensures (sym x.before.if3.true ∙ b.both-fit.ensures)
     x.placed.result y.placed2.result x.placed.ensures y.placed2.ensures
@@ -81,7 +81,7 @@ returns-4 c =
     let a = f.before.args in
     c.refused3.ensures
     ∙ ap shown
-    (header-wide a.t1 a.count a.line a.end (sym w.before.if1.false ∙ f.is-fault.ensures) w.is_Within.result w.is_Within.ensures
+    (header_wide a.t1 a.count a.line a.end (sym w.before.if1.false ∙ f.is-fault.ensures) w.is_Within.result w.is_Within.ensures
     g.before.first.result g.own.result g.before.first.ensures g.own.ensures (sym t.before.if2.false ∙ m.miscounted.ensures)
     t.taken.result t.taken.ensures h.first_part.result o.own-part.result h.first_part.ensures o.own-part.ensures (sym c.before.if3.false ∙ b.both-fit.ensures))
 

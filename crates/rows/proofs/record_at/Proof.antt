@@ -9,17 +9,17 @@ use Rattle.sheet.specs.Refusals.{Answer}
 use Rattle.text.specs.declared.LineEnd.{LineEnd}
 use Rattle.text.specs.declared.Line.{Line}
 use Rattle.text.specs.Line.{Numbers, Reads}
-use Rattle.rows.specs.Rows.{zeros, recordLine, row_by, recordRow, shown}
-use Rattle.rows.specs.laws.RowLaws.{record-held}
+use Rattle.rows.specs.Rows.{zeros, record_line, row_by, record_row, shown}
+use Rattle.rows.specs.laws.RowLaws.{record_held_lem}
 use Rattle.rows.proofs.record_at.Statement.{statement}
 use Rattle.rows.proofs.record_at.Tie as tie
 
 -- the numbers that were read say what the line says
-same : (line : ℕ) (l : Numbers) (r : Line) (ns : List ℕ) → Reads l (zeros 13) r ns → row_by line r.end (recordLine line r.count ns) ≡ recordRow line l
-unfolding recordRow
+same : (line : ℕ) (l : Numbers) (r : Line) (ns : List ℕ) → Reads l (zeros 13) r ns → row_by line r.end (record_line line r.count ns) ≡ record_row line l
+unfolding record_row
 same line l r ns e =
     ap₂ (λ (x : LineEnd) (a : Answer (List ℕ)). row_by line x a) e.end
-    (ap₂ (recordLine line) e.count e.numbers ∙ record-held line (length l.values) l.values)
+    (ap₂ (record_line line) e.count e.numbers ∙ record_held_lem line (length l.values) l.values)
 
 pub record-at-spec : {M : Type 1} → statement M
 record-at-spec =

@@ -5,8 +5,8 @@ use Rattle.std.proofs.Common.{sym, ap, ap₂, ◌∙◌, arith, mul_assoc, mul_c
 use Rattle.std.proofs.Math.Nat.{mul-add-div_right}
 use Rattle.std.proofs.Math.Pow.{split}
 use Rattle.layout.specs.Layout.{total, pack, unpack, bytes}
-use Rattle.layout.specs.laws.Laws.{pack-unpack, unpack-over, length-bytes, length-unpack}
-use Rattle.rows.specs.Pack.{appended, joined, packedOn, powers}
+use Rattle.layout.specs.laws.Laws.{pack_unpack, unpack_over, length_bytes, length_unpack}
+use Rattle.rows.specs.Pack.{appended, joined, packed_on, powers}
 
 -- the number that goes past k bytes
 abbrev pub beyond : ℕ → ℕ
@@ -19,34 +19,34 @@ module _ (k b n l v : ℕ) where
   abbrev pub made : ℕ
   made = n * l + v
 
-  abbrev pub madeOn : ℕ
-  madeOn = (b * beyond k + n) * l + v
+  abbrev pub made_on : ℕ
+  made_on = (b * beyond k + n) * l + v
 
-  apart : madeOn ≡ b * l * beyond k + made
+  apart : made_on ≡ b * l * beyond k + made
   apart =
       ap (λ (x : ℕ). x + v) (add-mul (b * beyond k) n l ∙ ap (λ (x : ℕ). x + n * l) (mul_right_comm b (beyond k) l))
       ∙ add_assoc (b * l * beyond k) (n * l) v
 
-  pub turn_is : madeOn / beyond k ≡ b * l + made / beyond k
+  pub turn_is : made_on / beyond k ≡ b * l + made / beyond k
   turn_is = ap (λ (x : ℕ). x / beyond k) apart ∙ mul-add-div_right (pow_pos (total (bytes k))) (b * l) made
 
-  pub turn-bytes : unpack (bytes (suc k)) madeOn ≡ (b * l + made / beyond k) % 256 ∷ unpack (bytes k) made
-  turn-bytes =
-      ap₂ {C = List ℕ} (λ x xs. x ∷ xs) (ap (λ (x : ℕ). x % 256) turn_is) (ap (unpack (bytes k)) apart ∙ unpack-over (bytes k) (b * l) made)
+  pub turn_bytes : unpack (bytes (suc k)) made_on ≡ (b * l + made / beyond k) % 256 ∷ unpack (bytes k) made
+  turn_bytes =
+      ap₂ {C = List ℕ} (λ x xs. x ∷ xs) (ap (λ (x : ℕ). x % 256) turn_is) (ap (unpack (bytes k)) apart ∙ unpack_over (bytes k) (b * l) made)
 
-  pub turn-carry : madeOn / beyond (suc k) ≡ (b * l + made / beyond k) / 256
-  turn-carry =
-      ap (λ (e : ℕ). madeOn / 2 ^ e) (let s : 8 + total (bytes k) ≡ total (bytes k) + 8 = omega arith in s)
-      ∙ sym (shr-shr madeOn (total (bytes k)) 8)
+  pub turn_carry : made_on / beyond (suc k) ≡ (b * l + made / beyond k) / 256
+  turn_carry =
+      ap (λ (e : ℕ). made_on / 2 ^ e) (let s : 8 + total (bytes k) ≡ total (bytes k) + 8 = omega arith in s)
+      ∙ sym (shr-shr made_on (total (bytes k)) 8)
       ∙ ap (λ (x : ℕ). x / 256) turn_is
 
 -- ---- one field after another
 
 -- what the bytes of a number hold once a field is appended
-pub appended-number : (k n l v : ℕ) → appended l v (unpack (bytes k) n) ≡ unpack (bytes k) (n * l + v)
+pub appended_number : (k n l v : ℕ) → appended l v (unpack (bytes k) n) ≡ unpack (bytes k) (n * l + v)
 unfolding appended
-appended-number k n l v =
-    let size : length (unpack (bytes k) n) ≡ k = length-unpack (bytes k) n ∙ length-bytes k in
+appended_number k n l v =
+    let size : length (unpack (bytes k) n) ≡ k = length_unpack (bytes k) n ∙ length_bytes k in
     let m = n % beyond k in
     let q = n / beyond k in
     let parts : n * l + v ≡ q * l * beyond k + (m * l + v) =
@@ -54,30 +54,30 @@ appended-number k n l v =
     ∙ ap (λ (x : ℕ). x + v) (add-mul (q * beyond k) m l ∙ ap (λ (x : ℕ). x + m * l) (mul_right_comm q (beyond k) l))
     ∙ add_assoc (q * l * beyond k) (m * l) v in
     ap (λ (j : ℕ). unpack (bytes j) (pack (bytes j) (unpack (bytes k) n) * l + v)) size
-    ∙ ap (λ (x : ℕ). unpack (bytes k) (x * l + v)) (pack-unpack (bytes k) n)
-    ∙ sym (unpack-over (bytes k) (q * l) (m * l + v))
+    ∙ ap (λ (x : ℕ). unpack (bytes k) (x * l + v)) (pack_unpack (bytes k) n)
+    ∙ sym (unpack_over (bytes k) (q * l) (m * l + v))
     ∙ ap (unpack (bytes k)) (sym parts)
 
 -- fields that are appended to a number stand behind it as their layout packs them
-pub joined-pack : (ws vs : List ℕ) (n : ℕ) → length vs ≡ length ws → joined (powers ws) vs n ≡ n * 2 ^ total ws + pack ws vs
+pub joined_pack : (ws vs : List ℕ) (n : ℕ) → length vs ≡ length ws → joined (powers ws) vs n ≡ n * 2 ^ total ws + pack ws vs
 unfolding joined
-joined-pack [] [] n e = omega arith
-joined-pack [] (v ∷ vs) n e = absurd (omega arith)
-joined-pack (w ∷ ws) [] n e = absurd (omega arith)
-joined-pack (w ∷ ws) (v ∷ vs) n e =
+joined_pack [] [] n e = omega arith
+joined_pack [] (v ∷ vs) n e = absurd (omega arith)
+joined_pack (w ∷ ws) [] n e = absurd (omega arith)
+joined_pack (w ∷ ws) (v ∷ vs) n e =
     let t = 2 ^ total ws in
-    joined-pack ws vs (n * 2 ^ w + v) (omega arith)
+    joined_pack ws vs (n * 2 ^ w + v) (omega arith)
     ∙ ap (λ (x : ℕ). x + pack ws vs) (add-mul (n * 2 ^ w) v t ∙ ap (λ (x : ℕ). x + v * t) (mul_assoc n (2 ^ w) t ∙ ap (λ (x : ℕ). n * x) (sym (pow-add 2 w (total ws)))))
     ∙ add_assoc (n * 2 ^ (w + total ws)) (v * t) (pack ws vs)
 
 -- a layout of whole bytes leaves nothing of what they held
-pub packed-whole : (ws vs o : List ℕ) → length vs ≡ length ws → total ws ≡ total (bytes (length o)) → packedOn (powers ws) vs o ≡ unpack (bytes (length o)) (pack ws vs)
-unfolding packedOn
-packed-whole ws vs o e same =
+pub packed_whole : (ws vs o : List ℕ) → length vs ≡ length ws → total ws ≡ total (bytes (length o)) → packed_on (powers ws) vs o ≡ unpack (bytes (length o)) (pack ws vs)
+unfolding packed_on
+packed_whole ws vs o e same =
     let n = pack (bytes (length o)) o in
-    ap (unpack (bytes (length o))) (joined-pack ws vs n e ∙ ap (λ (t : ℕ). n * 2 ^ t + pack ws vs) same)
-    ∙ unpack-over (bytes (length o)) n (pack ws vs)
+    ap (unpack (bytes (length o))) (joined_pack ws vs n e ∙ ap (λ (t : ℕ). n * 2 ^ t + pack ws vs) same)
+    ∙ unpack_over (bytes (length o)) n (pack ws vs)
 
-pub packed-length : (ls vs o : List ℕ) → length (packedOn ls vs o) ≡ length o
-unfolding packedOn
-packed-length ls vs o = length-unpack (bytes (length o)) _ ∙ length-bytes (length o)
+pub packed_length : (ls vs o : List ℕ) → length (packed_on ls vs o) ≡ length o
+unfolding packed_on
+packed_length ls vs o = length_unpack (bytes (length o)) _ ∙ length_bytes (length o)

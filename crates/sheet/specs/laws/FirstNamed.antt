@@ -4,27 +4,27 @@ use Rattle.std.specs.Prelude.{ℕ, suc, ◌+◌, ◌≤◌, ◌<◌, ◌≡◌, 
 use Rattle.std.proofs.Common.{ap, ◌∙◌, arith}
 use Rattle.std.proofs.lemmas.Bool.{lt-leb}
 use Rattle.quantity.specs.Range.{within, from}
-use Rattle.layout.specs.Line.{Line, Allowed, allowsAt, faultFrom, FirstFault}
+use Rattle.layout.specs.Line.{Line, Allowed, allows_at, fault_from, FirstFault}
 use Rattle.sheet.specs.declared.Header.{Header}
 use Rattle.sheet.specs.declared.Own.TheVariants.{One}
 use Rattle.sheet.specs.declared.Plate.{Plate}
 use Rattle.sheet.specs.declared.Member.{Member}
-use Rattle.sheet.specs.Lines.{either, none, plateLines}
-use Rattle.sheet.specs.Header.{rawFault, headerFault}
-use Rattle.sheet.specs.Record.{plateValues, plateFault, memberFault}
+use Rattle.sheet.specs.Lines.{either, none, plate_lines}
+use Rattle.sheet.specs.Header.{raw_fault, header_fault}
+use Rattle.sheet.specs.Record.{plate_values, plate_fault, member_fault}
 
 -- no faulty field comes before the one named
-pub first-named : (i : ℕ) (ls : List Line) (vs : List ℕ) → FirstFault i ls vs → (j : ℕ) → allowsAt j ls vs ≡ false → i ≤ j
-first-named i ls vs f j e = omega (arith, not-before)
+pub first_named : (i : ℕ) (ls : List Line) (vs : List ℕ) → FirstFault i ls vs → (j : ℕ) → allows_at j ls vs ≡ false → i ≤ j
+first_named i ls vs f j e = omega (arith, not_before)
   where
-    not-before : j < i → ⊥
-    not-before l = let t = f.earlier j l in let z : ◌≡◌ {A = ℕ} 0 1 = cc in omega arith
+    not_before : j < i → ⊥
+    not_before l = let t = f.earlier j l in let z : ◌≡◌ {A = ℕ} 0 1 = cc in omega arith
 
 -- past fields within their values the search goes on with the next
-pub past-allowed : (k : ℕ) (us ls : List Line) (xs vs : List ℕ) → Allowed us xs → faultFrom k (us ++ ls) (xs ++ vs) ≡ faultFrom (k + length us) ls vs
-past-allowed k [] ls [] vs a = ap (λ (n : ℕ). faultFrom n ls vs) (omega arith)
-past-allowed k (u ∷ us) ls (x ∷ xs) vs a =
-    rw a.0 (past-allowed (suc k) us ls xs vs a.1 ∙ ap (λ (n : ℕ). faultFrom n ls vs) (omega arith))
+pub past_allowed : (k : ℕ) (us ls : List Line) (xs vs : List ℕ) → Allowed us xs → fault_from k (us ++ ls) (xs ++ vs) ≡ fault_from (k + length us) ls vs
+past_allowed k [] ls [] vs a = ap (λ (n : ℕ). fault_from n ls vs) (omega arith)
+past_allowed k (u ∷ us) ls (x ∷ xs) vs a =
+    rw a.0 (past_allowed (suc k) us ls xs vs a.1 ∙ ap (λ (n : ℕ). fault_from n ls vs) (omega arith))
 
 -- ---- zL against z
 
@@ -33,21 +33,21 @@ below true z v e l = rw (lt-leb z v l)
 below false z v e l = absurd (let x : ◌≡◌ {A = ℕ} 0 1 = cc in omega arith)
 
 -- a plate with ballast whose zL is below z, the fields before zL being within their values: the fault is zL, the tenth field, and not z
-pub tank-named : (kind id : ℕ) (p : Plate) (spare : ℕ)
-    → Allowed (take 9 (plateLines kind p.ballast p.z.0)) (take 9 (plateValues kind id p spare))
-    → p.ballast ≡ true → p.tank_top.0 < p.z.0 → plateFault kind id p spare ≡ 10
-unfolding plateFault
-tank-named kind id p spare a b l =
-    let ls = plateLines kind p.ballast p.z.0 in
-    let vs = plateValues kind id p spare in
-    past-allowed 1 (take 9 ls) (drop 9 ls) (take 9 vs) (drop 9 vs) a
-    ∙ ap (λ (t : Bool). cond t (faultFrom 11 (drop 10 ls) (drop 10 vs)) 10) (below p.ballast p.z.0 p.tank_top.0 b l)
+pub tank_named_lem : (kind id : ℕ) (p : Plate) (spare : ℕ)
+    → Allowed (take 9 (plate_lines kind p.ballast p.z.0)) (take 9 (plate_values kind id p spare))
+    → p.ballast ≡ true → p.tank_top.0 < p.z.0 → plate_fault kind id p spare ≡ 10
+unfolding plate_fault
+tank_named_lem kind id p spare a b l =
+    let ls = plate_lines kind p.ballast p.z.0 in
+    let vs = plate_values kind id p spare in
+    past_allowed 1 (take 9 ls) (drop 9 ls) (take 9 vs) (drop 9 vs) a
+    ∙ ap (λ (t : Bool). cond t (fault_from 11 (drop 10 ls) (drop 10 vs)) 10) (below p.ballast p.z.0 p.tank_top.0 b l)
 
 -- ---- cases
 
 -- a header with a draught and a count outside their values
-abbrev twoFaults : Header
-twoFaults =
+abbrev two_faults : Header
+two_faults =
     record {
       version = 1;
       length = record { 0 = 8000 };
@@ -60,9 +60,9 @@ twoFaults =
       own = One;
     }
 
-pub draught-named : headerFault twoFaults ≡ 3
-unfolding rawFault
-draught-named = refl
+pub draught_named : header_fault two_faults ≡ 3
+unfolding raw_fault
+draught_named = refl
 
 -- a plate by the fields that rest on another or on which another rests
 abbrev plate : (z b1 b2 : ℕ) (ballast : Bool) (zL cargo : ℕ) → Plate
@@ -97,15 +97,15 @@ member z eta stress =
 
 -- kind 1 and kind 5 with nothing at fault; then each field whose range rests on an earlier one, outside it: b1, b2, zL with ballast and without,
 -- and the cargo; z, η and σ1 of a floor
-pub later-named : (plateFault 1 7 (plate 300 250 50 true 400 0) 0 ≡ 0)
-    × (plateFault 2 7 (plate 300 250 0 true 400 0) 0 ≡ 7)
-    × (plateFault 2 7 (plate 300 0 50 true 400 0) 0 ≡ 8)
-    × (plateFault 1 7 (plate 300 250 50 true 299 0) 0 ≡ 10)
-    × (plateFault 1 7 (plate 300 250 50 false 400 0) 0 ≡ 10)
-    × (plateFault 1 7 (plate 300 250 50 true 400 30000) 0 ≡ 11)
-    × (memberFault 5 12 (member 300 90 50) ≡ 0)
-    × (memberFault 6 12 (member 300 100 0) ≡ 3)
-    × (memberFault 6 12 (member 0 90 0) ≡ 9)
-    × (memberFault 6 12 (member 0 100 50) ≡ 10)
-unfolding plateFault memberFault
-later-named = (refl, refl, refl, refl, refl, refl, refl, refl, refl, refl)
+pub later_named : (plate_fault 1 7 (plate 300 250 50 true 400 0) 0 ≡ 0)
+    × (plate_fault 2 7 (plate 300 250 0 true 400 0) 0 ≡ 7)
+    × (plate_fault 2 7 (plate 300 0 50 true 400 0) 0 ≡ 8)
+    × (plate_fault 1 7 (plate 300 250 50 true 299 0) 0 ≡ 10)
+    × (plate_fault 1 7 (plate 300 250 50 false 400 0) 0 ≡ 10)
+    × (plate_fault 1 7 (plate 300 250 50 true 400 30000) 0 ≡ 11)
+    × (member_fault 5 12 (member 300 90 50) ≡ 0)
+    × (member_fault 6 12 (member 300 100 0) ≡ 3)
+    × (member_fault 6 12 (member 0 90 0) ≡ 9)
+    × (member_fault 6 12 (member 0 100 50) ≡ 10)
+unfolding plate_fault member_fault
+later_named = (refl, refl, refl, refl, refl, refl, refl, refl, refl, refl)

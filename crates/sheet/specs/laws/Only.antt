@@ -10,65 +10,65 @@ use Rattle.sheet.specs.declared.Outcome.{Outcome}
 use Rattle.sheet.specs.declared.Refusal.{Refusal}
 use Rattle.sheet.specs.declared.HeaderRead.{HeaderRead}
 use Rattle.sheet.specs.declared.RecordRead.{RecordRead}
-use Rattle.sheet.specs.Refusals.{given, number_of, place_of, toldOutcome, toldHeader, toldRecord, headerRefused, recordRefused, Wrote}
-use Rattle.sheet.specs.laws.RefusalLaws.{outcome-only, header-only, record-only}
+use Rattle.sheet.specs.Refusals.{given, number_of, place_of, told_outcome, told_header, told_record, header_refused, record_refused, Wrote}
+use Rattle.sheet.specs.laws.RefusalLaws.{outcome_only, header_only, record_only}
 use Rattle.sheet.specs.Versions.{Version, IsVersion}
-use Rattle.sheet.specs.Header.{headerSize, innerModulus, headerFault, readHeader, writeHeader}
-use Rattle.sheet.specs.Slender.{tooSlender}
+use Rattle.sheet.specs.Header.{header_size, inner_modulus, header_fault, read_header, write_header}
+use Rattle.sheet.specs.Slender.{too_slender}
 use Rattle.layout.specs.Bytes.{read_of}
-use Rattle.sheet.specs.Record.{recordFault, readRecord, writeRecord, rawAt}
+use Rattle.sheet.specs.Record.{record_fault, read_record, write_record, raw_at}
 use Rattle.sheet.specs.Writes.{Writes}
 
 -- a writer's answer, and the bytes that stand there afterwards
-pub writes-only : (w : Wrote) (a b : Outcome) (x y : List ℕ) → Writes w (toldOutcome a) x → Writes w (toldOutcome b) y → (a ≡ b) × (x ≡ y)
-writes-only w a b x y p q = (outcome-only w.answer a b p.answer q.answer, p.bytes ∙ sym q.bytes)
+pub writes_only : (w : Wrote) (a b : Outcome) (x y : List ℕ) → Writes w (told_outcome a) x → Writes w (told_outcome b) y → (a ≡ b) × (x ≡ y)
+writes_only w a b x y p q = (outcome_only w.answer a b p.answer q.answer, p.bytes ∙ sym q.bytes)
 
-pub read-header-only : (s : List ℕ) (a b : HeaderRead) → toldHeader a ≡ readHeader s → toldHeader b ≡ readHeader s → a ≡ b
-read-header-only s = header-only (readHeader s)
+pub read_header_only : (s : List ℕ) (a b : HeaderRead) → told_header a ≡ read_header s → told_header b ≡ read_header s → a ≡ b
+read_header_only s = header_only (read_header s)
 
-pub write-header-only : (h : Header) (o : List ℕ) (a b : Outcome) (x y : List ℕ)
-    → Writes (writeHeader h o) (toldOutcome a) x → Writes (writeHeader h o) (toldOutcome b) y → (a ≡ b) × (x ≡ y)
-write-header-only h o = writes-only (writeHeader h o)
+pub write_header_only : (h : Header) (o : List ℕ) (a b : Outcome) (x y : List ℕ)
+    → Writes (write_header h o) (told_outcome a) x → Writes (write_header h o) (told_outcome b) y → (a ≡ b) × (x ≡ y)
+write_header_only h o = writes_only (write_header h o)
 
-pub header-fault-only : (h : Header) (a b : Outcome)
-    → toldOutcome a ≡ headerRefused (headerFault h) (given tt) → toldOutcome b ≡ headerRefused (headerFault h) (given tt) → a ≡ b
-header-fault-only h = outcome-only (headerRefused (headerFault h) (given tt))
+pub header_fault_only : (h : Header) (a b : Outcome)
+    → told_outcome a ≡ header_refused (header_fault h) (given tt) → told_outcome b ≡ header_refused (header_fault h) (given tt) → a ≡ b
+header_fault_only h = outcome_only (header_refused (header_fault h) (given tt))
 
-pub version-only : (v : Version) (a b : Told) → IsVersion a v → IsVersion b v → a ≡ b
-version-only v a b p q =
+pub version_only : (v : Version) (a b : Told) → IsVersion a v → IsVersion b v → a ≡ b
+version_only v a b p q =
     ap₂ {C = Told} (λ k s. record { number = k; size = s; most = a.most }) (p.number ∙ sym q.number) (p.size ∙ sym q.size)
     ∙ ap (λ (m : ℕ). record { number = b.number; size = b.size; most = m }) (p.most ∙ sym q.most)
 
-pub size-only : (h : Header) (a b : ℕ) → a ≡ headerSize h → b ≡ headerSize h → a ≡ b
-size-only h a b p q = p ∙ sym q
+pub size_only : (h : Header) (a b : ℕ) → a ≡ header_size h → b ≡ header_size h → a ≡ b
+size_only h a b p q = p ∙ sym q
 
-pub inner-modulus-only : (h : Header) (a b : ℕ) → a ≡ innerModulus h → b ≡ innerModulus h → a ≡ b
-inner-modulus-only h a b p q = p ∙ sym q
+pub inner_modulus_only : (h : Header) (a b : ℕ) → a ≡ inner_modulus h → b ≡ inner_modulus h → a ≡ b
+inner_modulus_only h a b p q = p ∙ sym q
 
-pub too-slender-only : (h : Header) (a b : Bool) → a ≡ tooSlender h → b ≡ tooSlender h → a ≡ b
-too-slender-only h a b p q = p ∙ sym q
+pub too_slender_only : (h : Header) (a b : Bool) → a ≡ too_slender h → b ≡ too_slender h → a ≡ b
+too_slender_only h a b p q = p ∙ sym q
 
 -- `read_record_as`; `read_record` at i = 0
-pub read-record-only : (i : ℕ) (s : List ℕ) (a b : RecordRead) → toldRecord a ≡ readRecord i s → toldRecord b ≡ readRecord i s → a ≡ b
-read-record-only i s = record-only (readRecord i s)
+pub read_record_only : (i : ℕ) (s : List ℕ) (a b : RecordRead) → told_record a ≡ read_record i s → told_record b ≡ read_record i s → a ≡ b
+read_record_only i s = record_only (read_record i s)
 
-pub write-record-only : (r : Record) (o : List ℕ) (a b : Outcome) (x y : List ℕ)
-    → Writes (writeRecord r o) (toldOutcome a) x → Writes (writeRecord r o) (toldOutcome b) y → (a ≡ b) × (x ≡ y)
-write-record-only r o = writes-only (writeRecord r o)
+pub write_record_only : (r : Record) (o : List ℕ) (a b : Outcome) (x y : List ℕ)
+    → Writes (write_record r o) (told_outcome a) x → Writes (write_record r o) (told_outcome b) y → (a ≡ b) × (x ≡ y)
+write_record_only r o = writes_only (write_record r o)
 
-pub record-fault-only : (i : ℕ) (r : Record) (a b : Outcome)
-    → toldOutcome a ≡ recordRefused i (recordFault r 0) (given tt) → toldOutcome b ≡ recordRefused i (recordFault r 0) (given tt) → a ≡ b
-record-fault-only i r = outcome-only (recordRefused i (recordFault r 0) (given tt))
+pub record_fault_only : (i : ℕ) (r : Record) (a b : Outcome)
+    → told_outcome a ≡ record_refused i (record_fault r 0) (given tt) → told_outcome b ≡ record_refused i (record_fault r 0) (given tt) → a ≡ b
+record_fault_only i r = outcome_only (record_refused i (record_fault r 0) (given tt))
 
-pub number-only : (r : Refusal) (a b : ℕ) → a ≡ number_of r → b ≡ number_of r → a ≡ b
-number-only r a b p q = p ∙ sym q
+pub number_only : (r : Refusal) (a b : ℕ) → a ≡ number_of r → b ≡ number_of r → a ≡ b
+number_only r a b p q = p ∙ sym q
 
-pub place-only : (r : Refusal) (a b : ℕ) → a ≡ place_of r → b ≡ place_of r → a ≡ b
-place-only r a b p q = p ∙ sym q
+pub place_only : (r : Refusal) (a b : ℕ) → a ≡ place_of r → b ≡ place_of r → a ≡ b
+place_only r a b p q = p ∙ sym q
 
-pub record-in-only : (s : List ℕ) (a b : Raw) → a ≡ rawAt (read_of 16 s) → b ≡ rawAt (read_of 16 s) → a ≡ b
-record-in-only s a b p q = p ∙ sym q
+pub record_in_only : (s : List ℕ) (a b : Raw) → a ≡ raw_at (read_of 16 s) → b ≡ raw_at (read_of 16 s) → a ≡ b
+record_in_only s a b p q = p ∙ sym q
 
 -- the tests of a kind
-pub kind-only : (test : ℕ → Bool) (kind : ℕ) (a b : Bool) → a ≡ test kind → b ≡ test kind → a ≡ b
-kind-only test kind a b p q = p ∙ sym q
+pub kind_only : (test : ℕ → Bool) (kind : ℕ) (a b : Bool) → a ≡ test kind → b ≡ test kind → a ≡ b
+kind_only test kind a b p q = p ∙ sym q

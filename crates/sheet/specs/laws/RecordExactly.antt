@@ -6,105 +6,105 @@ use Rattle.std.proofs.Math.Path.{refl, ap}
 use Rattle.std.proofs.Common.{sym, ◌∙◌, arith, le-leb, ltb-true, ltb-false}
 use Rattle.quantity.specs.Range.{within, from}
 use Rattle.layout.specs.Layout.{pack, unpack, bytes}
-use Rattle.layout.specs.laws.Laws.{length-unpack}
-use Rattle.layout.specs.Line.{Line, line, Allowed, faultFrom, FirstFault}
+use Rattle.layout.specs.laws.Laws.{length_unpack}
+use Rattle.layout.specs.Line.{Line, line, Allowed, fault_from, FirstFault}
 use Rattle.truth.specs.laws.Tests.{clash, false_of}
-use Rattle.quantity.specs.laws.RangeLaws.{low-high, lies_within}
-use Rattle.layout.specs.laws.LineLaws.{none-all}
+use Rattle.quantity.specs.laws.RangeLaws.{low_high, lies_within}
+use Rattle.layout.specs.laws.LineLaws.{none_all}
 use Rattle.sheet.specs.declared.Body.{Body}
 use Rattle.sheet.specs.declared.Body.TheVariants.{Plate as isPlate, Member as isMember}
 use Rattle.sheet.specs.declared.Record.{Record}
-use Rattle.sheet.specs.Lines.{ids, plateLines, memberLines, plateWidths, memberWidths}
-use Rattle.sheet.specs.Refusals.{given, refused, recordRefused}
-use Rattle.sheet.specs.Record.{number_in, recordOf, fields_at, linesAt, linesIn, lines_of, values_of, kind_at, belongs, plateRecord, memberRecord, plateLinesOf, memberLinesOf, plateFault, memberFault, bodyFault, recordFault, plateIn, recordIn, readRecord, valuesIn, recordNumber, recordBytes, writeRecord, recordAt}
-use Rattle.sheet.specs.laws.ExactlyLaws.{exactly-then, exactly-of, in-front, in-middle, at-end, same-places, alone, alone-two, first_alone, fields-first, fields-later, fields-given, fields-others, answer-short, answer-first, answer-later, answer-given, answer-others}
-use Rattle.sheet.specs.Exactly.{Exactly, LaterFault, recordCases, byFields, bySlice}
-use Rattle.sheet.specs.laws.Written.{written, written-answer, written-refused, written_all, written-past, written-length}
+use Rattle.sheet.specs.Lines.{ids, plate_lines, member_lines, plate_widths, member_widths}
+use Rattle.sheet.specs.Refusals.{given, refused, record_refused}
+use Rattle.sheet.specs.Record.{number_in, record_of, fields_at, lines_at, lines_in, lines_of, values_of, kind_at, belongs, plate_record, member_record, plate_lines_of, member_lines_of, plate_fault, member_fault, body_fault, record_fault, plate_in, record_in, read_record, values_in, record_number, record_bytes, write_record, record_at}
+use Rattle.sheet.specs.laws.ExactlyLaws.{exactly_then, exactly_of, in_front, in_middle, at_end, same_places, alone, alone_two, first_alone, fields_first, fields_later, fields_given, fields_others, answer_short, answer_first, answer_later, answer_given, answer_others}
+use Rattle.sheet.specs.Exactly.{Exactly, LaterFault, record_cases, by_fields, by_slice}
+use Rattle.sheet.specs.laws.Written.{written, written_answer, written_refused, written_all, written_past, written_length}
 
 -- ---- by the shape
 
-pub record-by-fields : (i n : ℕ) → recordIn i n ≡ byFields (recordCases i) (linesAt n) (fields_at n) (recordAt n)
-unfolding recordIn
-record-by-fields i n = go (plateIn n)
+pub record_by_fields : (i n : ℕ) → record_in i n ≡ by_fields (record_cases i) (lines_at n) (fields_at n) (record_at n)
+unfolding record_in
+record_by_fields i n = go (plate_in n)
   where
     vs : List ℕ
-    vs = unpack plateWidths n
+    vs = unpack plate_widths n
 
     ws : List ℕ
-    ws = unpack memberWidths n
+    ws = unpack member_widths n
 
-    go : (t : Bool) → cond t (recordRefused i (faultFrom 1 (plateLinesOf vs) vs) (given (plateRecord vs))) (recordRefused i (faultFrom 1 (memberLinesOf ws) ws) (given (memberRecord ws)))
-        ≡ byFields (recordCases i) (cond t (plateLinesOf vs) (memberLinesOf ws)) (cond t vs ws) (cond t (plateRecord vs) (memberRecord ws))
+    go : (t : Bool) → cond t (record_refused i (fault_from 1 (plate_lines_of vs) vs) (given (plate_record vs))) (record_refused i (fault_from 1 (member_lines_of ws) ws) (given (member_record ws)))
+        ≡ by_fields (record_cases i) (cond t (plate_lines_of vs) (member_lines_of ws)) (cond t vs ws) (cond t (plate_record vs) (member_record ws))
     go true = refl
     go false = refl
 
-fields-same : (n : ℕ) → length (fields_at n) ≡ length (linesAt n)
-fields-same n = go (plateIn n)
+fields_same : (n : ℕ) → length (fields_at n) ≡ length (lines_at n)
+fields_same n = go (plate_in n)
   where
     vs : List ℕ
-    vs = unpack plateWidths n
+    vs = unpack plate_widths n
 
     ws : List ℕ
-    ws = unpack memberWidths n
+    ws = unpack member_widths n
 
-    go : (t : Bool) → length (cond t vs ws) ≡ length (cond t (plateLinesOf vs) (memberLinesOf ws))
+    go : (t : Bool) → length (cond t vs ws) ≡ length (cond t (plate_lines_of vs) (member_lines_of ws))
     go true = refl
     go false = refl
 
-values_same : (kind id : ℕ) (b : Body) → length (valuesIn kind id b) ≡ length (linesIn kind b)
+values_same : (kind id : ℕ) (b : Body) → length (values_in kind id b) ≡ length (lines_in kind b)
 values_same kind id (isPlate p) = refl
 values_same kind id (isMember m) = refl
 
-pub body-fault : (kind id : ℕ) (b : Body) → bodyFault kind id b 0 ≡ faultFrom 1 (linesIn kind b) (valuesIn kind id b)
-unfolding plateFault memberFault
-body-fault kind id (isPlate p) = refl
-body-fault kind id (isMember m) = refl
+pub body_fault_lem : (kind id : ℕ) (b : Body) → body_fault kind id b 0 ≡ fault_from 1 (lines_in kind b) (values_in kind id b)
+unfolding plate_fault member_fault
+body_fault_lem kind id (isPlate p) = refl
+body_fault_lem kind id (isMember m) = refl
 
 -- the id of a record with no fault
-id-within : (kind id : ℕ) (b : Body) → Allowed (linesIn kind b) (valuesIn kind id b) → within ids id ≡ true
-id-within kind id (isPlate p) a = a.1.0
-id-within kind id (isMember m) a = a.1.0
+id_within : (kind id : ℕ) (b : Body) → Allowed (lines_in kind b) (values_in kind id b) → within ids id ≡ true
+id_within kind id (isPlate p) a = a.1.0
+id_within kind id (isMember m) a = a.1.0
 
-pub record-id : (r : Record) → recordFault r 0 ≡ 0 → (1 ≤ r.id) × (r.id ≤ 1000)
-record-id r e =
-    let a = none-all 0 (lines_of r) (values_of r) (sym (body-fault r.kind r.id r.body) ∙ e) in
-    low-high ids r.id (id-within r.kind r.id r.body a)
+pub record_id : (r : Record) → record_fault r 0 ≡ 0 → (1 ≤ r.id) × (r.id ≤ 1000)
+record_id r e =
+    let a = none_all 0 (lines_of r) (values_of r) (sym (body_fault_lem r.kind r.id r.body) ∙ e) in
+    low_high ids r.id (id_within r.kind r.id r.body a)
 
 -- ---- the kind
 
-low-kinds : (k : ℕ) → k < 5 → within (from 1 4) k ≡ within (from 1 8) k
-low-kinds k l = rw (le-leb k 4 (omega arith), le-leb k 8 (omega arith))
+low_kinds : (k : ℕ) → k < 5 → within (from 1 4) k ≡ within (from 1 8) k
+low_kinds k l = rw (le-leb k 4 (omega arith), le-leb k 8 (omega arith))
 
-high-kinds : (k : ℕ) → 5 ≤ k → within (from 5 8) k ≡ within (from 1 8) k
-high-kinds k l = rw (le-leb 5 k l, le-leb 1 k (omega arith))
+high_kinds : (k : ℕ) → 5 ≤ k → within (from 5 8) k ≡ within (from 1 8) k
+high_kinds k l = rw (le-leb 5 k l, le-leb 1 k (omega arith))
 
-as-it-is : {A : Type 0} → Exactly A A
-as-it-is = (λ a. a, λ a. a)
+as_it_is : {A : Type 0} → Exactly A A
+as_it_is = (λ a. a, λ a. a)
 
 -- the kind is at fault exactly when it is not from 1 to 8
-kind-read : (n : ℕ) → Exactly (FirstFault 0 (linesAt n) (fields_at n)) (within (from 1 8) (kind_at n) ≡ false)
-kind-read n = go (plateIn n) refl
+kind_read : (n : ℕ) → Exactly (FirstFault 0 (lines_at n) (fields_at n)) (within (from 1 8) (kind_at n) ≡ false)
+kind_read n = go (plate_in n) refl
   where
     vs : List ℕ
-    vs = unpack plateWidths n
+    vs = unpack plate_widths n
 
     ws : List ℕ
-    ws = unpack memberWidths n
+    ws = unpack member_widths n
 
-    go : (t : Bool) → plateIn n ≡ t → Exactly (FirstFault 0 (cond t (plateLinesOf vs) (memberLinesOf ws)) (cond t vs ws)) (within (from 1 8) (kind_at n) ≡ false)
+    go : (t : Bool) → plate_in n ≡ t → Exactly (FirstFault 0 (cond t (plate_lines_of vs) (member_lines_of ws)) (cond t vs ws)) (within (from 1 8) (kind_at n) ≡ false)
     go true e =
-        exactly-then (first_alone (line 4 (from 1 4)) (drop 1 (plateLinesOf vs)) (kind_at n) (drop 1 vs))
-        (exactly-of (low-kinds (kind_at n) (ltb-true (kind_at n) 5 e)) as-it-is)
+        exactly_then (first_alone (line 4 (from 1 4)) (drop 1 (plate_lines_of vs)) (kind_at n) (drop 1 vs))
+        (exactly_of (low_kinds (kind_at n) (ltb-true (kind_at n) 5 e)) as_it_is)
     go false e =
-        exactly-then (first_alone (line 4 (from 5 8)) (drop 1 (memberLinesOf ws)) (kind_at n) (drop 1 ws))
-        (exactly-of (high-kinds (kind_at n) (ltb-false (kind_at n) 5 e)) as-it-is)
+        exactly_then (first_alone (line 4 (from 5 8)) (drop 1 (member_lines_of ws)) (kind_at n) (drop 1 ws))
+        (exactly_of (high_kinds (kind_at n) (ltb-false (kind_at n) 5 e)) as_it_is)
 
 -- or, of a record to be written, when what is carried does not belong to it
-kind-written : (kind id : ℕ) (b : Body) → Exactly (FirstFault 0 (linesIn kind b) (valuesIn kind id b)) (belongs kind b ≡ false)
-kind-written kind id (isPlate p) =
-    first_alone (line 4 (from 1 4)) (drop 1 (linesIn kind (isPlate p))) kind (drop 1 (valuesIn kind id (isPlate p)))
-kind-written kind id (isMember m) =
-    first_alone (line 4 (from 5 8)) (drop 1 (linesIn kind (isMember m))) kind (drop 1 (valuesIn kind id (isMember m)))
+kind_written : (kind id : ℕ) (b : Body) → Exactly (FirstFault 0 (lines_in kind b) (values_in kind id b)) (belongs kind b ≡ false)
+kind_written kind id (isPlate p) =
+    first_alone (line 4 (from 1 4)) (drop 1 (lines_in kind (isPlate p))) kind (drop 1 (values_in kind id (isPlate p)))
+kind_written kind id (isMember m) =
+    first_alone (line 4 (from 5 8)) (drop 1 (lines_in kind (isMember m))) kind (drop 1 (values_in kind id (isMember m)))
 
 -- nothing belongs to a kind that is not from 1 to 8
 pub no_kind : (kind : ℕ) (b : Body) → within (from 1 8) kind ≡ false → belongs kind b ≡ false
@@ -115,41 +115,41 @@ no_kind kind b e =
     clash (lies_within (from 1 8) kind h.0 h.1) e)
   where
     within_all : (b : Body) → belongs kind b ≡ true → (1 ≤ kind) × (kind ≤ 8)
-    within_all (isPlate p) q = let h = low-high (from 1 4) kind q in (omega arith, omega arith)
-    within_all (isMember m) q = let h = low-high (from 5 8) kind q in (omega arith, omega arith)
+    within_all (isPlate p) q = let h = low_high (from 1 4) kind q in (omega arith, omega arith)
+    within_all (isMember m) q = let h = low_high (from 5 8) kind q in (omega arith, omega arith)
 
 -- ---- reading
 
 module _ (i : ℕ) (s : List ℕ) where
   abbrev ls : List Line
-  ls = linesAt (number_in s)
+  ls = lines_at (number_in s)
 
   abbrev vs : List ℕ
   vs = fields_at (number_in s)
 
-  by-reading : readRecord i s ≡ bySlice 1 (recordCases i) s (byFields (recordCases i) ls vs (recordOf s))
-  unfolding readRecord
-  by-reading = ap (bySlice 1 (recordCases i) s) (record-by-fields i (number_in s))
+  by_reading : read_record i s ≡ by_slice 1 (record_cases i) s (by_fields (record_cases i) ls vs (record_of s))
+  unfolding read_record
+  by_reading = ap (by_slice 1 (record_cases i) s) (record_by_fields i (number_in s))
 
-  pub record-read-1 : (p : ℕ) → Exactly (readRecord i s ≡ refused 1 p) ((length s < 16) × (p ≡ 0))
-  record-read-1 p = exactly-of by-reading (answer-short 1 (recordCases i) refl refl s ls vs (fields-same (number_in s)) (recordOf s) p)
+  pub record_read_1 : (p : ℕ) → Exactly (read_record i s ≡ refused 1 p) ((length s < 16) × (p ≡ 0))
+  record_read_1 p = exactly_of by_reading (answer_short 1 (record_cases i) refl refl s ls vs (fields_same (number_in s)) (record_of s) p)
 
-  pub record-read-6 : (p : ℕ) → Exactly (readRecord i s ≡ refused 6 p) ((16 ≤ length s) × (within (from 1 8) (kind_at (number_in s)) ≡ false) × (p ≡ i))
-  record-read-6 p =
-      exactly-then (exactly-of by-reading (answer-first 1 (recordCases i) refl refl s ls vs (fields-same (number_in s)) (recordOf s) p))
-      (in-middle (kind-read (number_in s)))
+  pub record_read_6 : (p : ℕ) → Exactly (read_record i s ≡ refused 6 p) ((16 ≤ length s) × (within (from 1 8) (kind_at (number_in s)) ≡ false) × (p ≡ i))
+  record_read_6 p =
+      exactly_then (exactly_of by_reading (answer_first 1 (record_cases i) refl refl s ls vs (fields_same (number_in s)) (record_of s) p))
+      (in_middle (kind_read (number_in s)))
 
-  pub record-read-7 : (p : ℕ) → Exactly (readRecord i s ≡ refused 7 p)
-      ((16 ≤ length s) × LaterFault (λ k. 32 * i + k) (linesAt (number_in s)) (fields_at (number_in s)) p)
-  record-read-7 p = exactly-of by-reading (answer-later 1 (recordCases i) refl refl s ls vs (fields-same (number_in s)) (recordOf s) p)
+  pub record_read_7 : (p : ℕ) → Exactly (read_record i s ≡ refused 7 p)
+      ((16 ≤ length s) × LaterFault (λ k. 32 * i + k) (lines_at (number_in s)) (fields_at (number_in s)) p)
+  record_read_7 p = exactly_of by_reading (answer_later 1 (record_cases i) refl refl s ls vs (fields_same (number_in s)) (record_of s) p)
 
-  pub record-read-given : (r : Record) → Exactly (readRecord i s ≡ given r)
-      ((16 ≤ length s) × Allowed (linesAt (number_in s)) (fields_at (number_in s)) × (recordOf s ≡ r))
-  record-read-given r = exactly-of by-reading (answer-given 1 (recordCases i) refl refl s ls vs (fields-same (number_in s)) (recordOf s) r)
+  pub record_read_given : (r : Record) → Exactly (read_record i s ≡ given r)
+      ((16 ≤ length s) × Allowed (lines_at (number_in s)) (fields_at (number_in s)) × (record_of s ≡ r))
+  record_read_given r = exactly_of by_reading (answer_given 1 (record_cases i) refl refl s ls vs (fields_same (number_in s)) (record_of s) r)
 
-  pub record-read-others : (k p : ℕ) → (k ≡ 1 → ⊥) → (k ≡ 6 → ⊥) → (k ≡ 7 → ⊥) → readRecord i s ≡ refused k p → ⊥
-  record-read-others k p a b c e =
-      answer-others 1 (recordCases i) refl refl s ls vs (fields-same (number_in s)) (recordOf s) k p a b c (sym by-reading ∙ e)
+  pub record_read_others : (k p : ℕ) → (k ≡ 1 → ⊥) → (k ≡ 6 → ⊥) → (k ≡ 7 → ⊥) → read_record i s ≡ refused k p → ⊥
+  record_read_others k p a b c e =
+      answer_others 1 (record_cases i) refl refl s ls vs (fields_same (number_in s)) (record_of s) k p a b c (sym by_reading ∙ e)
 
 -- ---- the fault alone
 
@@ -157,71 +157,71 @@ module _ (r : Record) where
   abbrev same : length (values_of r) ≡ length (lines_of r)
   same = values_same r.kind r.id r.body
 
-  kind-of : Exactly (FirstFault 0 (lines_of r) (values_of r)) (belongs r.kind r.body ≡ false)
-  kind-of = kind-written r.kind r.id r.body
+  kind_of_lem : Exactly (FirstFault 0 (lines_of r) (values_of r)) (belongs r.kind r.body ≡ false)
+  kind_of_lem = kind_written r.kind r.id r.body
 
-  fault-of : recordFault r 0 ≡ faultFrom 1 (lines_of r) (values_of r)
-  fault-of = body-fault r.kind r.id r.body
+  fault_of_lem : record_fault r 0 ≡ fault_from 1 (lines_of r) (values_of r)
+  fault_of_lem = body_fault_lem r.kind r.id r.body
 
   module _ (i : ℕ) where
-    by-fault : recordRefused i (recordFault r 0) (given (tt {0})) ≡ byFields (recordCases i) (lines_of r) (values_of r) tt
-    by-fault = ap (λ (f : ℕ). recordRefused i f (given (tt {0}))) fault-of
+    by_fault_lem : record_refused i (record_fault r 0) (given (tt {0})) ≡ by_fields (record_cases i) (lines_of r) (values_of r) tt
+    by_fault_lem = ap (λ (f : ℕ). record_refused i f (given (tt {0}))) fault_of_lem
 
-    pub record-fault-6 : (p : ℕ) → Exactly (recordRefused i (recordFault r 0) (given (tt {0})) ≡ refused 6 p) ((belongs r.kind r.body ≡ false) × (p ≡ i))
-    record-fault-6 p = exactly-then (exactly-of by-fault (fields-first (recordCases i) (lines_of r) (values_of r) same tt p)) (in-front kind-of)
+    pub record_fault_6 : (p : ℕ) → Exactly (record_refused i (record_fault r 0) (given (tt {0})) ≡ refused 6 p) ((belongs r.kind r.body ≡ false) × (p ≡ i))
+    record_fault_6 p = exactly_then (exactly_of by_fault_lem (fields_first (record_cases i) (lines_of r) (values_of r) same tt p)) (in_front kind_of_lem)
 
-    pub record-fault-7 : (p : ℕ) → Exactly (recordRefused i (recordFault r 0) (given (tt {0})) ≡ refused 7 p) (LaterFault (λ k. 32 * i + k) (lines_of r) (values_of r) p)
-    record-fault-7 p = exactly-of by-fault (fields-later (recordCases i) (lines_of r) (values_of r) same tt p)
+    pub record_fault_7 : (p : ℕ) → Exactly (record_refused i (record_fault r 0) (given (tt {0})) ≡ refused 7 p) (LaterFault (λ k. 32 * i + k) (lines_of r) (values_of r) p)
+    record_fault_7 p = exactly_of by_fault_lem (fields_later (record_cases i) (lines_of r) (values_of r) same tt p)
 
-    pub record-fault-given : Exactly (recordRefused i (recordFault r 0) (given (tt {0})) ≡ given tt) (Allowed (lines_of r) (values_of r))
-    record-fault-given = exactly-then (exactly-of by-fault (fields-given (recordCases i) (lines_of r) (values_of r) same tt tt)) alone
+    pub record_fault_given : Exactly (record_refused i (record_fault r 0) (given (tt {0})) ≡ given tt) (Allowed (lines_of r) (values_of r))
+    record_fault_given = exactly_then (exactly_of by_fault_lem (fields_given (record_cases i) (lines_of r) (values_of r) same tt tt)) alone
 
-    pub record-fault-others : (k p : ℕ) → (k ≡ 6 → ⊥) → (k ≡ 7 → ⊥) → recordRefused i (recordFault r 0) (given (tt {0})) ≡ refused k p → ⊥
-    record-fault-others k p a b e = fields-others (recordCases i) (lines_of r) (values_of r) same tt k p a b (sym by-fault ∙ e)
+    pub record_fault_others : (k p : ℕ) → (k ≡ 6 → ⊥) → (k ≡ 7 → ⊥) → record_refused i (record_fault r 0) (given (tt {0})) ≡ refused k p → ⊥
+    record_fault_others k p a b e = fields_others (record_cases i) (lines_of r) (values_of r) same tt k p a b (sym by_fault_lem ∙ e)
 
   -- ---- writing
 
   module _ (o : List ℕ) where
-    pub record-written : writeRecord r o ≡ written (recordCases 0) (recordFault r 0) (recordBytes r) o
-    unfolding writeRecord
-    record-written = refl
+    pub record_written : write_record r o ≡ written (record_cases 0) (record_fault r 0) (record_bytes r) o
+    unfolding write_record
+    record_written = refl
 
-    by-writing : (writeRecord r o).answer ≡ bySlice 5 (recordCases 0) o (byFields (recordCases 0) (lines_of r) (values_of r) (tt {0}))
-    by-writing =
-        ap (λ w. w.answer) record-written
-        ∙ written-answer (recordCases 0) (recordFault r 0) (recordBytes r) o
-        ∙ ap (λ x. bySlice 5 (recordCases 0) o x) (by-fault 0)
+    by_writing : (write_record r o).answer ≡ by_slice 5 (record_cases 0) o (by_fields (record_cases 0) (lines_of r) (values_of r) (tt {0}))
+    by_writing =
+        ap (λ w. w.answer) record_written
+        ∙ written_answer (record_cases 0) (record_fault r 0) (record_bytes r) o
+        ∙ ap (λ x. by_slice 5 (record_cases 0) o x) (by_fault_lem 0)
 
-    pub record-write-5 : (p : ℕ) → Exactly ((writeRecord r o).answer ≡ refused 5 p) ((length o < 16) × (p ≡ 0))
-    record-write-5 p = exactly-of by-writing (answer-short 5 (recordCases 0) refl refl o (lines_of r) (values_of r) same tt p)
+    pub record_write_5 : (p : ℕ) → Exactly ((write_record r o).answer ≡ refused 5 p) ((length o < 16) × (p ≡ 0))
+    record_write_5 p = exactly_of by_writing (answer_short 5 (record_cases 0) refl refl o (lines_of r) (values_of r) same tt p)
 
-    pub record-write-6 : (p : ℕ) → Exactly ((writeRecord r o).answer ≡ refused 6 p) ((16 ≤ length o) × (belongs r.kind r.body ≡ false) × (p ≡ 0))
-    record-write-6 p = exactly-then (exactly-of by-writing (answer-first 5 (recordCases 0) refl refl o (lines_of r) (values_of r) same tt p)) (in-middle kind-of)
+    pub record_write_6 : (p : ℕ) → Exactly ((write_record r o).answer ≡ refused 6 p) ((16 ≤ length o) × (belongs r.kind r.body ≡ false) × (p ≡ 0))
+    record_write_6 p = exactly_then (exactly_of by_writing (answer_first 5 (record_cases 0) refl refl o (lines_of r) (values_of r) same tt p)) (in_middle kind_of_lem)
 
-    pub record-write-7 : (p : ℕ) → Exactly ((writeRecord r o).answer ≡ refused 7 p) ((16 ≤ length o) × LaterFault (λ k. k) (lines_of r) (values_of r) p)
-    record-write-7 p =
-        exactly-then (exactly-of by-writing (answer-later 5 (recordCases 0) refl refl o (lines_of r) (values_of r) same tt p))
-        (at-end (same-places (λ k. 32 * 0 + k) (λ k. k) (lines_of r) (values_of r) p (λ k. omega arith)))
+    pub record_write_7 : (p : ℕ) → Exactly ((write_record r o).answer ≡ refused 7 p) ((16 ≤ length o) × LaterFault (λ k. k) (lines_of r) (values_of r) p)
+    record_write_7 p =
+        exactly_then (exactly_of by_writing (answer_later 5 (record_cases 0) refl refl o (lines_of r) (values_of r) same tt p))
+        (at_end (same_places (λ k. 32 * 0 + k) (λ k. k) (lines_of r) (values_of r) p (λ k. omega arith)))
 
-    pub record-write-given : Exactly ((writeRecord r o).answer ≡ given tt) ((16 ≤ length o) × Allowed (lines_of r) (values_of r))
-    record-write-given = exactly-then (exactly-of by-writing (answer-given 5 (recordCases 0) refl refl o (lines_of r) (values_of r) same tt tt)) alone-two
+    pub record_write_given : Exactly ((write_record r o).answer ≡ given tt) ((16 ≤ length o) × Allowed (lines_of r) (values_of r))
+    record_write_given = exactly_then (exactly_of by_writing (answer_given 5 (record_cases 0) refl refl o (lines_of r) (values_of r) same tt tt)) alone_two
 
-    pub record-write-others : (k p : ℕ) → (k ≡ 5 → ⊥) → (k ≡ 6 → ⊥) → (k ≡ 7 → ⊥) → (writeRecord r o).answer ≡ refused k p → ⊥
-    record-write-others k p a b c e = answer-others 5 (recordCases 0) refl refl o (lines_of r) (values_of r) same tt k p a b c (sym by-writing ∙ e)
+    pub record_write_others : (k p : ℕ) → (k ≡ 5 → ⊥) → (k ≡ 6 → ⊥) → (k ≡ 7 → ⊥) → (write_record r o).answer ≡ refused k p → ⊥
+    record_write_others k p a b c e = answer_others 5 (record_cases 0) refl refl o (lines_of r) (values_of r) same tt k p a b c (sym by_writing ∙ e)
 
     -- a refusal leaves every byte; else the first sixteen are the record's, and no others change
-    pub record-write-left : (k p : ℕ) → (writeRecord r o).answer ≡ refused k p → (writeRecord r o).bytes ≡ o
-    unfolding writeRecord
-    record-write-left k p e = written-refused (recordCases 0) (recordFault r 0) (recordBytes r) o k p e
+    pub record_write_left : (k p : ℕ) → (write_record r o).answer ≡ refused k p → (write_record r o).bytes ≡ o
+    unfolding write_record
+    record_write_left k p e = written_refused (record_cases 0) (record_fault r 0) (record_bytes r) o k p e
 
-    pub record-write-bytes : (writeRecord r o).answer ≡ given tt → (writeRecord r o).bytes ≡ recordBytes r ++ drop 16 o
-    unfolding writeRecord
-    record-write-bytes e = written_all (recordCases 0) (recordFault r 0) (recordBytes r) o e
+    pub record_write_bytes : (write_record r o).answer ≡ given tt → (write_record r o).bytes ≡ record_bytes r ++ drop 16 o
+    unfolding write_record
+    record_write_bytes e = written_all (record_cases 0) (record_fault r 0) (record_bytes r) o e
 
-    pub record-write-past : (writeRecord r o).answer ≡ given tt → drop 16 (writeRecord r o).bytes ≡ drop 16 o
-    unfolding writeRecord
-    record-write-past e = written-past (recordCases 0) (recordFault r 0) (recordBytes r) o (length-unpack (bytes 16) (recordNumber r)) e
+    pub record_write_past : (write_record r o).answer ≡ given tt → drop 16 (write_record r o).bytes ≡ drop 16 o
+    unfolding write_record
+    record_write_past e = written_past (record_cases 0) (record_fault r 0) (record_bytes r) o (length_unpack (bytes 16) (record_number r)) e
 
-    pub record-write-length : length (writeRecord r o).bytes ≡ length o
-    unfolding writeRecord
-    record-write-length = written-length (recordCases 0) (recordFault r 0) (recordBytes r) o (length-unpack (bytes 16) (recordNumber r))
+    pub record_write_length : length (write_record r o).bytes ≡ length o
+    unfolding write_record
+    record_write_length = written_length (record_cases 0) (record_fault r 0) (record_bytes r) o (length_unpack (bytes 16) (record_number r))

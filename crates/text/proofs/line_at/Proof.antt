@@ -7,8 +7,8 @@ use native.Mathlib.Omega.{arith}
 use lib.ListN.{length}
 use Rattle.fields.specs.Number.{value_of}
 use Rattle.text.specs.Line.{line_at}
-use Rattle.text.specs.laws.LineLaws.{Goes, goes, at-line, at-end, at-fault}
-use Rattle.text.proofs.Reading.{Reading, begin, kept, kept-stored, go_on, ends, stops}
+use Rattle.text.specs.laws.LineLaws.{Goes, goes, at_line, at_end, at_fault}
+use Rattle.text.proofs.Reading.{Reading, begin, kept, kept_stored, go_on, ends, stops}
 use Rattle.text.proofs.line_at.Statement.{statement}
 use Rattle.text.proofs.line_at.Tie as tie
 
@@ -38,19 +38,19 @@ returns c =
     let t = c.before.before in
     let n = t.before.before.before in
     let l = n.before.before.before in
-    ends _ _ _ _ _ l.loop.invariant.2 (value_of n.num2.given.0.0) _ (at-line _ _ _ _ (sym n.before.before.field-from.ensures ∙ n.num2.given.1)) _ t.store2.ensures
+    ends _ _ _ _ _ l.loop.invariant.2 (value_of n.num2.given.0.0) _ (at_line _ _ _ _ (sym n.before.before.field-from.ensures ∙ n.num2.given.1)) _ t.store2.ensures
 
 returns-2 : tie.Need-returns-2 invariant-loop decreases-loop
 returns-2 c =
     let t = c.before.before in
     let n = t.before.before.before in
     let l = n.before.before.before in
-    ends _ _ _ _ _ l.loop.invariant.2 (value_of n.num3.given.0.0) _ (at-end _ _ _ (sym n.before.before.field-from.ensures ∙ n.num3.given.1)) _ t.store3.ensures
+    ends _ _ _ _ _ l.loop.invariant.2 (value_of n.num3.given.0.0) _ (at_end _ _ _ (sym n.before.before.field-from.ensures ∙ n.num3.given.1)) _ t.store3.ensures
 
 returns-3 : tie.Need-returns-3 invariant-loop decreases-loop
 returns-3 c =
     let l = c.before.before.before in
-    stops _ _ _ _ _ l.loop.invariant.2 _ (at-fault _ _ (sym c.before.before.field-from.ensures ∙ c.enum_told.given.1))
+    stops _ _ _ _ _ l.loop.invariant.2 _ (at_fault _ _ (sym c.before.before.field-from.ensures ∙ c.enum_told.given.1))
 
 pub line-at-spec : {M : Type 1} → statement M
 line-at-spec =
@@ -66,12 +66,12 @@ line-at-spec =
     (λ c. search rules)
     (λ c κs. search rules)
     (λ c. omega arith)
-    (λ c. let t = c.before.before in kept-stored _ _ _ _ _ t.before.before.before.before.before.before.loop.invariant.2 _ _ t.store2.ensures)
+    (λ c. let t = c.before.before in kept_stored _ _ _ _ _ t.before.before.before.before.before.before.loop.invariant.2 _ _ t.store2.ensures)
     returns
     (λ c. search rules)
     (λ c κs. search rules)
     (λ c. omega arith)
-    (λ c. let t = c.before.before in kept-stored _ _ _ _ _ t.before.before.before.before.before.before.loop.invariant.2 _ _ t.store3.ensures)
+    (λ c. let t = c.before.before in kept_stored _ _ _ _ _ t.before.before.before.before.before.before.loop.invariant.2 _ _ t.store3.ensures)
     returns-2
     (λ c. search rules)
     (λ c. kept _ _ _ _ _ c.before.before.before.loop.invariant.2)

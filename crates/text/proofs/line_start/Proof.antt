@@ -3,13 +3,13 @@
 use borrow.Author.Rules.{rules}
 use mathlib.Core.Path.{◌≡◌, refl, sym, ap, ◌∙◌}
 use Prim.Native.Nat.{ℕ, ◌+◌, ◌-◌}
-use Rattle.text.specs.Line.{startFrom, lineStart}
-use Rattle.text.specs.laws.LineLaws.{start-stays, start-next, start_none}
+use Rattle.text.specs.Line.{start_from, line_start}
+use Rattle.text.specs.laws.LineLaws.{start_stays, start_next, start_none}
 use Rattle.text.proofs.line_start.Statement.{statement}
 use Rattle.text.proofs.line_start.Tie as tie
 
 abbrev invariant-loop : tie.invariant-loop
-invariant-loop text line here₀ i₀ here i = startFrom (line - i) text here ≡ lineStart text line
+invariant-loop text line here₀ i₀ here i = start_from (line - i) text here ≡ line_start text line
 
 abbrev decreases-loop : tie.decreases-loop
 decreases-loop text line here₀ i₀ here i = line - i
@@ -19,10 +19,10 @@ module _ (n : tie.After-next-start invariant-loop decreases-loop) where
   l = n.before.before
 
   -- one line on
-  on : startFrom (l.before.before.args.line - (l.loop.i + 1)) l.before.before.args.text.now n.next_start.result ≡ lineStart l.before.before.args.text.now l.before.before.args.line
+  on : start_from (l.before.before.args.line - (l.loop.i + 1)) l.before.before.args.text.now n.next_start.result ≡ line_start l.before.before.args.text.now l.before.before.args.line
   on =
-      ap (startFrom (l.before.before.args.line - (l.loop.i + 1)) l.before.before.args.text.now) n.next_start.ensures
-      ∙ sym (start-next l.before.before.args.text.now l.before.before.args.line l.loop.i l.loop.here n.before.loop-test.taken)
+      ap (start_from (l.before.before.args.line - (l.loop.i + 1)) l.before.before.args.text.now) n.next_start.ensures
+      ∙ sym (start_next l.before.before.args.text.now l.before.before.args.line l.loop.i l.loop.here n.before.loop-test.taken)
       ∙ l.loop.inv
 
 pub line-start-spec : {M : Type 1} → statement M
@@ -31,7 +31,7 @@ line-start-spec =
     (tie.spec invariant-loop decreases-loop
     (λ c. refl)
     (λ c κs. search rules)
-    (λ c. let n = c.before in let l = n.before.before in sym (start-stays _ l.before.before.args.text.now l.loop.here (sym n.next_start.ensures ∙ c.if1.true)) ∙ l.loop.invariant)
+    (λ c. let n = c.before in let l = n.before.before in sym (start_stays _ l.before.before.args.text.now l.loop.here (sym n.next_start.ensures ∙ c.if1.true)) ∙ l.loop.invariant)
     (λ c. search rules)
     (λ c. search rules)
     (λ c. on c.before)

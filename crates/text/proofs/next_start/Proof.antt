@@ -6,14 +6,14 @@ use Prim.Native.Nat.{ℕ}
 use mathlib.Core.List.{List}
 use Rattle.text.specs.declared.LineEnd.{LineEnd}
 use Rattle.text.specs.declared.Line.{Line}
-use Rattle.text.specs.Line.{Reads, line_at, nextBy, next_of}
+use Rattle.text.specs.Line.{Reads, line_at, next_by, next_of}
 use Rattle.text.proofs.next_start.Statement.{statement}
 use Rattle.text.proofs.next_start.Tie as tie
 
 -- the place by how the line ends
-by_end : (s : List ℕ) (at : ℕ) (e f : LineEnd) → f ≡ e → f ≡ (line_at s at).end → nextBy e at ≡ next_of s at
+by_end : (s : List ℕ) (at : ℕ) (e f : LineEnd) → f ≡ e → f ≡ (line_at s at).end → next_by e at ≡ next_of s at
 unfolding next_of
-by_end s at e f p q = ap (λ (x : LineEnd). nextBy x at) (sym p ∙ q)
+by_end s at e f p q = ap (λ (x : LineEnd). next_by x at) (sym p ∙ q)
 
 pub next-start-spec : {M : Type 1} → statement M
 next-start-spec =

@@ -18,11 +18,11 @@ false_of true n = absurd (n refl)
 false_of false n = refl
 
 -- what holds of both holds of the one that a test takes
-pub either-of : {A : Type 0} (P : A → Type 0) (b : Bool) (x y : A) → P x → P y → P (cond b x y)
-either-of P true x y p q = p
-either-of P false x y p q = q
+pub either_of : {A : Type 0} (P : A → Type 0) (b : Bool) (x y : A) → P x → P y → P (cond b x y)
+either_of P true x y p q = p
+either_of P false x y p q = q
 
 -- and what holds between two pairs, between the two that it takes
-pub either-both : {A B : Type 0} (R : A → B → Type 0) (b : Bool) (x y : A) (m n : B) → R x m → R y n → R (cond b x y) (cond b m n)
-either-both R true x y m n p q = p
-either-both R false x y m n p q = q
+pub either_both : {A B : Type 0} (R : A → B → Type 0) (b : Bool) (x y : A) (m n : B) → R x m → R y n → R (cond b x y) (cond b m n)
+either_both R true x y m n p q = p
+either_both R false x y m n p q = q

@@ -9,91 +9,91 @@ use Rattle.sheet.specs.declared.Record.{Record}
 use Rattle.sheet.specs.declared.Refusal.{Refusal}
 use Rattle.sheet.specs.declared.Outcome.{Outcome}
 use Rattle.sheet.specs.declared.Outcome.TheVariants.{Fine, Refused as notFine}
-use Rattle.sheet.specs.Header.{headerFault}
-use Rattle.sheet.specs.Record.{recordFault}
-use Rattle.sheet.specs.Refusals.{Answer, given, refused, told, toldOutcome, headerRefused, recordRefused}
-use Rattle.sheet.specs.laws.RefusalLaws.{given-refused, refusal-only, refused-number, refused-place, given-same, by-none}
-use Rattle.loads.specs.laws.Only.{source-only}
+use Rattle.sheet.specs.Header.{header_fault}
+use Rattle.sheet.specs.Record.{record_fault}
+use Rattle.sheet.specs.Refusals.{Answer, given, refused, told, told_outcome, header_refused, record_refused}
+use Rattle.sheet.specs.laws.RefusalLaws.{given_refused, refusal_only, refused_number, refused_place, given_same, by_none}
+use Rattle.loads.specs.laws.Only.{source_only}
 use Rattle.verdict.specs.declared.Verdict.{Verdict}
 use Rattle.verdict.specs.declared.Judged.{Judged}
 use Rattle.verdict.specs.declared.Judged.TheVariants.{Verdict as isVerdict, Refused as notJudged}
-use Rattle.verdict.specs.Judged.{Finding, toldJudged, judgedBy, Sound}
+use Rattle.verdict.specs.Judged.{Finding, told_judged, judged_by, Sound}
 
 -- the tests that the answer goes by
 abbrev tested : {A : Type 0} → (t u v w : Bool) → (f g : ℕ) → A → Answer A
 tested t u v w f g a = cond t (cond v (given a) (cond w (refused 6 0) (refused 7 g))) (cond u (refused 2 0) (refused 3 f))
 
-tested-given : {A : Type 0} (t u v w : Bool) (f g : ℕ) (a b : A) → tested t u v w f g a ≡ given b → (t ≡ true) × (v ≡ true)
-tested-given true u true w f g a b e = (refl, refl)
-tested-given true u false true f g a b e = given-refused (sym e)
-tested-given true u false false f g a b e = given-refused (sym e)
-tested-given false true v w f g a b e = given-refused (sym e)
-tested-given false false v w f g a b e = given-refused (sym e)
+tested_given : {A : Type 0} (t u v w : Bool) (f g : ℕ) (a b : A) → tested t u v w f g a ≡ given b → (t ≡ true) × (v ≡ true)
+tested_given true u true w f g a b e = (refl, refl)
+tested_given true u false true f g a b e = given_refused (sym e)
+tested_given true u false false f g a b e = given_refused (sym e)
+tested_given false true v w f g a b e = given_refused (sym e)
+tested_given false false v w f g a b e = given_refused (sym e)
 
 -- a refusal of one asking is the same refusal of another
 again : {A B : Type 0} (l q k p : ℕ) → ◌≡◌ {A = Answer A} (refused l q) (refused k p) → ◌≡◌ {A = Answer B} (refused l q) (refused k p)
-again l q k p e = ap₂ refused (refused-number e) (refused-place e)
+again l q k p e = ap₂ refused (refused_number e) (refused_place e)
 
-tested-refused : {A B : Type 0} (t u v w : Bool) (f g : ℕ) (a : A) (b : B) (k p : ℕ) → tested t u v w f g a ≡ refused k p → tested t u v w f g b ≡ refused k p
-tested-refused true u true w f g a b k p e = given-refused e
-tested-refused true u false true f g a b k p e = again 6 0 k p e
-tested-refused true u false false f g a b k p e = again 7 g k p e
-tested-refused false true v w f g a b k p e = again 2 0 k p e
-tested-refused false false v w f g a b k p e = again 3 f k p e
+tested_refused : {A B : Type 0} (t u v w : Bool) (f g : ℕ) (a : A) (b : B) (k p : ℕ) → tested t u v w f g a ≡ refused k p → tested t u v w f g b ≡ refused k p
+tested_refused true u true w f g a b k p e = given_refused e
+tested_refused true u false true f g a b k p e = again 6 0 k p e
+tested_refused true u false false f g a b k p e = again 7 g k p e
+tested_refused false true v w f g a b k p e = again 2 0 k p e
+tested_refused false false v w f g a b k p e = again 3 f k p e
 
 module _ (h : Header) (r : Record) where
   -- something is given exactly where both are sound, and then it is what stands there
-  pub given-sound : {A : Type 0} (a b : A) → judgedBy h r a ≡ given b → Sound h r
-  unfolding judgedBy
-  given-sound a b e =
-      let s = tested-given (eqb (headerFault h) 0) (eqb (headerFault h) 1) (eqb (recordFault r 0) 0) (eqb (recordFault r 0) 1) (headerFault h) (32 * 0 + recordFault r 0) a b e in
+  pub given_sound : {A : Type 0} (a b : A) → judged_by h r a ≡ given b → Sound h r
+  unfolding judged_by
+  given_sound a b e =
+      let s = tested_given (eqb (header_fault h) 0) (eqb (header_fault h) 1) (eqb (record_fault r 0) 0) (eqb (record_fault r 0) 1) (header_fault h) (32 * 0 + record_fault r 0) a b e in
       record { header = eqb-true _ _ s.0; body = eqb-true _ _ s.1 }
 
-  pub sound-given : {A : Type 0} (a : A) → Sound h r → judgedBy h r a ≡ given a
-  unfolding judgedBy
-  sound-given a s = rw (eq-eqb (headerFault h) 0 s.header, eq-eqb (recordFault r 0) 0 s.body)
+  pub sound_given : {A : Type 0} (a : A) → Sound h r → judged_by h r a ≡ given a
+  unfolding judged_by
+  sound_given a s = rw (eq-eqb (header_fault h) 0 s.header, eq-eqb (record_fault r 0) 0 s.body)
 
   -- so with what was found, part by part
-  pub found-given : {v w : Verdict} {m n : ℕ} → Sound h r → v ≡ w → m ≡ n
-      → ◌≡◌ {A = Answer Finding} (given (record { verdict = v; source = m })) (judgedBy h r (record { verdict = w; source = n }))
-  found-given s p q = ap₂ {C = Answer Finding} (λ x k. given (record { verdict = x; source = k })) p q ∙ sym (sound-given _ s)
+  pub found_given : {v w : Verdict} {m n : ℕ} → Sound h r → v ≡ w → m ≡ n
+      → ◌≡◌ {A = Answer Finding} (given (record { verdict = v; source = m })) (judged_by h r (record { verdict = w; source = n }))
+  found_given s p q = ap₂ {C = Answer Finding} (λ x k. given (record { verdict = x; source = k })) p q ∙ sym (sound_given _ s)
 
   -- a refusal does not hang on what would have been given
-  pub refused-same : {A B : Type 0} (a : A) (b : B) (k p : ℕ) → judgedBy h r a ≡ refused k p → judgedBy h r b ≡ refused k p
-  unfolding judgedBy
-  refused-same a b k p e =
-      tested-refused (eqb (headerFault h) 0) (eqb (headerFault h) 1) (eqb (recordFault r 0) 0) (eqb (recordFault r 0) 1) (headerFault h) (32 * 0 + recordFault r 0) a b k p e
+  pub refused_same : {A B : Type 0} (a : A) (b : B) (k p : ℕ) → judged_by h r a ≡ refused k p → judged_by h r b ≡ refused k p
+  unfolding judged_by
+  refused_same a b k p e =
+      tested_refused (eqb (header_fault h) 0) (eqb (header_fault h) 1) (eqb (record_fault r 0) 0) (eqb (record_fault r 0) 1) (header_fault h) (32 * 0 + record_fault r 0) a b k p e
 
 -- an answer to whether the two are within their values: nothing is at fault, or the refusal is what judging answers
-module _ (h : Header) (r : Record) (o : Outcome) (asked : toldOutcome o ≡ judgedBy h r (tt {0})) where
-  pub admitted-sound : o ≡ Fine → Sound h r
-  admitted-sound e = given-sound h r (tt {0}) (tt {0}) (sym asked ∙ ap toldOutcome e)
+module _ (h : Header) (r : Record) (o : Outcome) (asked : told_outcome o ≡ judged_by h r (tt {0})) where
+  pub admitted_sound : o ≡ Fine → Sound h r
+  admitted_sound e = given_sound h r (tt {0}) (tt {0}) (sym asked ∙ ap told_outcome e)
 
-  pub turned-away : {A : Type 0} (a : A) (x : Refusal) → o ≡ notFine x → told x ≡ judgedBy h r a
-  turned-away a x e = sym (refused-same h r (tt {0}) a _ _ (sym asked ∙ ap toldOutcome e))
+  pub turned_away : {A : Type 0} (a : A) (x : Refusal) → o ≡ notFine x → told x ≡ judged_by h r a
+  turned_away a x e = sym (refused_same h r (tt {0}) a _ _ (sym asked ∙ ap told_outcome e))
 
 -- two answers that say the same are equal
-pub judged-only : (a : Answer Finding) (i j : Judged) → toldJudged i ≡ a → toldJudged j ≡ a → i ≡ j
-judged-only a (isVerdict v s) (isVerdict w t) p q =
-    let e = given-same (p ∙ sym q) in
-    ap₂ isVerdict (ap (λ (f : Finding). f.verdict) e) (source-only s t (ap (λ (f : Finding). f.source) e))
-judged-only a (isVerdict v s) (notJudged r) p q = given-refused (p ∙ sym q)
-judged-only a (notJudged r) (isVerdict w t) p q = given-refused (q ∙ sym p)
-judged-only a (notJudged r) (notJudged s) p q = ap notJudged (refusal-only r s (refused-number (p ∙ sym q)) (refused-place (p ∙ sym q)))
+pub judged_only : (a : Answer Finding) (i j : Judged) → told_judged i ≡ a → told_judged j ≡ a → i ≡ j
+judged_only a (isVerdict v s) (isVerdict w t) p q =
+    let e = given_same (p ∙ sym q) in
+    ap₂ isVerdict (ap (λ (f : Finding). f.verdict) e) (source_only s t (ap (λ (f : Finding). f.source) e))
+judged_only a (isVerdict v s) (notJudged r) p q = given_refused (p ∙ sym q)
+judged_only a (notJudged r) (isVerdict w t) p q = given_refused (q ∙ sym p)
+judged_only a (notJudged r) (notJudged s) p q = ap notJudged (refusal_only r s (refused_number (p ∙ sym q)) (refused_place (p ∙ sym q)))
 
 -- the header goes first
 module _ (h : Header) (r : Record) where
-  pub header-first : (k p : ℕ) → headerRefused (headerFault h) (given (tt {0})) ≡ refused k p → judgedBy h r (tt {0}) ≡ refused k p
-  unfolding judgedBy
-  header-first k p e = go (eqb (headerFault h) 0) e
+  pub header_first : (k p : ℕ) → header_refused (header_fault h) (given (tt {0})) ≡ refused k p → judged_by h r (tt {0}) ≡ refused k p
+  unfolding judged_by
+  header_first k p e = go (eqb (header_fault h) 0) e
     where
       rest : Answer (Unit {0})
-      rest = cond (eqb (headerFault h) 1) (refused 2 0) (refused 3 (headerFault h))
+      rest = cond (eqb (header_fault h) 1) (refused 2 0) (refused 3 (header_fault h))
 
-      go : (t : Bool) → cond t (given (tt {0})) rest ≡ refused k p → cond t (recordRefused 0 (recordFault r 0) (given (tt {0}))) rest ≡ refused k p
-      go true e = given-refused e
+      go : (t : Bool) → cond t (given (tt {0})) rest ≡ refused k p → cond t (record_refused 0 (record_fault r 0) (given (tt {0}))) rest ≡ refused k p
+      go true e = given_refused e
       go false e = e
 
-  pub then-record : headerRefused (headerFault h) (given (tt {0})) ≡ given (tt {0}) → recordRefused 0 (recordFault r 0) (given (tt {0})) ≡ judgedBy h r (tt {0})
-  unfolding judgedBy
-  then-record e = rw (eq-eqb (headerFault h) 0 (by-none 2 0 3 (λ k. k) (headerFault h) (tt {0}) (tt {0}) e).0)
+  pub then_record : header_refused (header_fault h) (given (tt {0})) ≡ given (tt {0}) → record_refused 0 (record_fault r 0) (given (tt {0})) ≡ judged_by h r (tt {0})
+  unfolding judged_by
+  then_record e = rw (eq-eqb (header_fault h) 0 (by_none 2 0 3 (λ k. k) (header_fault h) (tt {0}) (tt {0}) e).0)

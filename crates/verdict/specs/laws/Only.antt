@@ -6,14 +6,14 @@ use Rattle.gauge.specs.declared.Shape.{Shape}
 use Rattle.sheet.specs.declared.Header.{Header}
 use Rattle.sheet.specs.declared.Record.{Record}
 use Rattle.sheet.specs.declared.Outcome.{Outcome}
-use Rattle.sheet.specs.Refusals.{toldOutcome}
-use Rattle.sheet.specs.laws.RefusalLaws.{outcome-only}
+use Rattle.sheet.specs.Refusals.{told_outcome}
+use Rattle.sheet.specs.laws.RefusalLaws.{outcome_only}
 use Rattle.verdict.specs.declared.Verdict.{Verdict}
-use Rattle.verdict.specs.Judged.{judgedBy}
-use Rattle.verdict.specs.Verdict.{failedOf}
+use Rattle.verdict.specs.Judged.{judged_by}
+use Rattle.verdict.specs.Verdict.{failed_of}
 
-pub failed-only : (rule : ℕ) (d : Shape) (top : ℕ) (a b : Verdict) → a ≡ failedOf rule d top → b ≡ failedOf rule d top → a ≡ b
-failed-only rule d top a b p q = p ∙ sym q
+pub failed_only : (rule : ℕ) (d : Shape) (top : ℕ) (a b : Verdict) → a ≡ failed_of rule d top → b ≡ failed_of rule d top → a ≡ b
+failed_only rule d top a b p q = p ∙ sym q
 
-pub admitted-only : (h : Header) (r : Record) (o p : Outcome) → toldOutcome o ≡ judgedBy h r (tt {0}) → toldOutcome p ≡ judgedBy h r (tt {0}) → o ≡ p
-admitted-only h r o p e f = outcome-only (judgedBy h r (tt {0})) o p e f
+pub admitted_only : (h : Header) (r : Record) (o p : Outcome) → told_outcome o ≡ judged_by h r (tt {0}) → told_outcome p ≡ judged_by h r (tt {0}) → o ≡ p
+admitted_only h r o p e f = outcome_only (judged_by h r (tt {0})) o p e f

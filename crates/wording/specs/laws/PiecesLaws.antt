@@ -8,9 +8,9 @@ use mathlib.Core.List.{List, [], ◌∷◌, ◌++◌}
 use native.Mathlib.Omega.{arith}
 use Rattle.std.proofs.Math.ListN.{length, drop, get_or, length-append, drop_of_length-le}
 use Rattle.std.proofs.Math.Seq.{drop-cons}
-use Rattle.wording.specs.Words.{piece_of, behind, pieces, roomOf, most}
+use Rattle.wording.specs.Words.{piece_of, behind, pieces, room_of, most}
 use Rattle.wording.specs.Writes.{Spot, spot, write_all, text_of, Writes}
-use Rattle.wording.specs.laws.WritesLaws.{text-append, write-append, all-length}
+use Rattle.wording.specs.laws.WritesLaws.{text_append, write_append, all_length}
 
 -- of the words those from i on are left, behind this mark
 pub record Filling (words given own page₀ : List ℕ) (at : ℕ) (page : List ℕ) (next mark i : ℕ) : Type 0 where
@@ -25,7 +25,7 @@ begin words given own page at = record { upto = omega arith; same = refl; ends =
 module _ {words given own page₀ : List ℕ} {at : ℕ} {page : List ℕ} {next mark i : ℕ} (p : Filling words given own page₀ at page next mark i) where
   -- the byte at i is put
   pub turn : i < length words → {after : List ℕ} {place on : ℕ} → on ≡ behind mark (get_or words i 0)
-      → Writes (piece_of given own mark (get_or words i 0)) (roomOf mark) (spot page next) (spot after place)
+      → Writes (piece_of given own mark (get_or words i 0)) (room_of mark) (spot page next) (spot after place)
       → Filling words given own page₀ at after place on (i + 1)
   unfolding pieces most
   turn l {after} {place} {on} u f =
@@ -37,14 +37,14 @@ module _ {words given own page₀ : List ℕ} {at : ℕ} {page : List ℕ} {next
       let whole : pieces given own mark (drop i words) ≡ one ++ pieces given own on w
       = ap (pieces given own mark) cut ∙ ap (λ (m : ℕ). one ++ pieces given own m w) (sym u) in
       let go : write_all (spot page next) (pieces given own mark (drop i words)) ≡ write_all (spot after place) (pieces given own on w)
-      = ap (write_all (spot page next)) whole ∙ write-append (spot page next) one _ ∙ ap (λ (s : Spot). write_all s (pieces given own on w)) (sym f.ends) in
-      let sizes = ap (λ (ts : List (List ℕ)). length (text_of ts)) whole ∙ ap length (text-append one _) ∙ length-append (text_of one) _ in
-      let long-most : most mark (drop i words) ≡ roomOf mark + most on w = ap (most mark) cut ∙ ap (λ (m : ℕ). roomOf mark + most m w) (sym u) in
+      = ap (write_all (spot page next)) whole ∙ write_append (spot page next) one _ ∙ ap (λ (s : Spot). write_all s (pieces given own on w)) (sym f.ends) in
+      let sizes = ap (λ (ts : List (List ℕ)). length (text_of ts)) whole ∙ ap length (text_append one _) ∙ length-append (text_of one) _ in
+      let long_most : most mark (drop i words) ≡ room_of mark + most on w = ap (most mark) cut ∙ ap (λ (m : ℕ). room_of mark + most m w) (sym u) in
       record {
         upto = omega arith;
-        same = ap (λ (s : Spot). length s.bytes) f.ends ∙ all-length (spot page next) one ∙ p.same;
+        same = ap (λ (s : Spot). length s.bytes) f.ends ∙ all_length (spot page next) one ∙ p.same;
         ends = sym go ∙ p.ends;
-        size = omega (arith, p.size, sizes, f.size, long-most);
+        size = omega (arith, p.size, sizes, f.size, long_most);
       }
 
   -- none is left

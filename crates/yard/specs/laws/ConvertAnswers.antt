@@ -3,27 +3,27 @@
 use Rattle.std.specs.Prelude.{ℕ, ◌+◌, ◌≤◌, ◌≡◌, refl, Bool, true, false, cond, not, ◌&&◌, List, map, length, ltb, leb, eqb}
 use Rattle.std.proofs.Common.{sym, ap, ◌∙◌, arith, length-append, ltb-true}
 use Rattle.quantity.specs.Range.{within}
-use Rattle.sheet.specs.Versions.{longestSheet, versionNumbers, numbered}
-use Rattle.sheet.specs.Lines.{firstWidths, ownWidths}
+use Rattle.sheet.specs.Versions.{longest_sheet, version_numbers, numbered}
+use Rattle.sheet.specs.Lines.{first_widths, own_widths}
 use Rattle.sheet.specs.laws.VersionLaws.{regular}
 use Rattle.sheet.specs.Refusals.{Answer, given, refused}
-use Rattle.sheet.specs.laws.RefusalLaws.{given-same}
-use Rattle.sheet.specs.laws.HeaderLaws.{header-ranges}
-use Rattle.checker.specs.Check.{demand, Sheet, sheetIn, recordsPart}
-use Rattle.checker.specs.laws.ThenLaws.{then-given}
+use Rattle.sheet.specs.laws.RefusalLaws.{given_same}
+use Rattle.sheet.specs.laws.HeaderLaws.{header_ranges}
+use Rattle.checker.specs.Check.{demand, Sheet, sheet_in, records_part}
+use Rattle.checker.specs.laws.ThenLaws.{then_given}
 use Rattle.checker.specs.Rows.{Row, RefusedBy, Refusable}
-use Rattle.checker.specs.laws.Bounds.{then-told, demand-told, told-also, sheet-told}
-use Rattle.checker.specs.Unjudged.{room, soundSheet}
-use Rattle.fields.specs.Lines.{Lines, none, bad, row, linesIn}
-use Rattle.text.specs.laws.LinesLaws.{valueIn}
+use Rattle.checker.specs.laws.Bounds.{then_told, demand_told, told_also, sheet_told}
+use Rattle.checker.specs.Unjudged.{room, sound_sheet}
+use Rattle.fields.specs.Lines.{Lines, none, bad, row, lines_in}
+use Rattle.text.specs.laws.LinesLaws.{value_in}
 use Rattle.rows.specs.Pack.{below, powers}
-use Rattle.rows.specs.Forms.{firstCount, ownCount, recordWidths, recordCount}
-use Rattle.rows.specs.Rows.{kinds, first_of, taken, lineBy, firstsOf, ownsOf, headerMade, headerLine, recordsOf, recordMade, recordLine}
-use Rattle.csv.specs.Read.{nextLine, recordsMade, sheetMade, sheetFrom, length_of}
-use Rattle.csv.specs.Write.{headerCells, line, text_of, textFrom}
-use Rattle.csv.specs.Steps.{recordsText}
-use Rattle.csv.specs.laws.WriteLaws.{header-most, texts-most, sound-written}
-use Rattle.yard.specs.laws.PackedLaws.{TextRow, longestText, Converted}
+use Rattle.rows.specs.Forms.{first_count, own_count, record_widths, record_count}
+use Rattle.rows.specs.Rows.{kinds, first_of, taken, line_by, firsts_of, owns_of, header_made, header_line, records_of, record_made, record_line}
+use Rattle.sheet_csv.specs.Read.{next_line, records_made, sheet_made, sheet_from, length_of}
+use Rattle.sheet_csv.specs.Write.{header_cells, line, text_of, text_from}
+use Rattle.sheet_csv.specs.Steps.{records_text}
+use Rattle.sheet_csv.specs.laws.WriteLaws.{header_most, texts_most, sound_written}
+use Rattle.yard.specs.laws.PackedLaws.{TextRow, longest_text, Converted}
 
 -- ---- refusals
 
@@ -32,110 +32,110 @@ abbrev Rowed : {A : Type 0} → Answer A → Type 0
 Rowed x = RefusedBy TextRow x
 
 -- the table's own are
-of-table : {A : Type 0} (x : Answer A) → Refusable x → Rowed x
-of-table x t = told-also Row TextRow x (λ k p r. record { some = r.some; last = omega (arith, r.last); inside = omega (arith, r.inside) }) t
+of_table : {A : Type 0} (x : Answer A) → Refusable x → Rowed x
+of_table x t = told_also Row TextRow x (λ k p r. record { some = r.some; last = omega (arith, r.last); inside = omega (arith, r.inside) }) t
 
-five-rowed : (t : Bool) → Rowed (demand t 5)
-five-rowed t = demand-told TextRow t 5 (record { some = omega arith; last = omega arith; inside = omega arith })
+five_rowed : (t : Bool) → Rowed (demand t 5)
+five_rowed t = demand_told TextRow t 5 (record { some = omega arith; last = omega arith; inside = omega arith })
 
-sound-rowed : (s : List ℕ) → Rowed (soundSheet s)
-unfolding soundSheet
-sound-rowed s = of-table (sheetIn s room) (sheet-told s room)
+sound_rowed : (s : List ℕ) → Rowed (sound_sheet s)
+unfolding sound_sheet
+sound_rowed s = of_table (sheet_in s room) (sheet_told s room)
 
 -- 15 and 14 on a line
-line-rowed : (p : ℕ) (miscounted fits : Bool) (b : List ℕ) → p ≤ 4294967295 → Rowed (lineBy p miscounted fits b)
-line-rowed p true fits b l = record { some = omega arith; last = omega arith; inside = l }
-line-rowed p false true b l = tt
-line-rowed p false false b l = record { some = omega arith; last = omega arith; inside = l }
+line_rowed : (p : ℕ) (miscounted fits : Bool) (b : List ℕ) → p ≤ 4294967295 → Rowed (line_by p miscounted fits b)
+line_rowed p true fits b l = record { some = omega arith; last = omega arith; inside = l }
+line_rowed p false true b l = tt
+line_rowed p false false b l = record { some = omega arith; last = omega arith; inside = l }
 
-header-rowed : (p count : ℕ) (vs : List ℕ) → p ≤ 4294967295 → Rowed (headerLine p count vs)
-unfolding headerLine
-header-rowed p count vs l =
+header_rowed : (p count : ℕ) (vs : List ℕ) → p ≤ 4294967295 → Rowed (header_line p count vs)
+unfolding header_line
+header_rowed p count vs l =
     let v = numbered (first_of vs) in
-    let known = within versionNumbers (first_of vs) in
+    let known = within version_numbers (first_of vs) in
     let ns = taken known vs in
-    line-rowed p (known && not (eqb count (firstCount + ownCount v))) (below (powers firstWidths) (firstsOf ns) && below (powers (ownWidths v)) (ownsOf v ns)) (headerMade v ns) l
+    line_rowed p (known && not (eqb count (first_count + own_count v))) (below (powers first_widths) (firsts_of ns) && below (powers (own_widths v)) (owns_of v ns)) (header_made v ns) l
 
-record-rowed : (p count : ℕ) (vs : List ℕ) → p ≤ 4294967295 → Rowed (recordLine p count vs)
-unfolding recordLine
-record-rowed p count vs l =
+record_rowed : (p count : ℕ) (vs : List ℕ) → p ≤ 4294967295 → Rowed (record_line p count vs)
+unfolding record_line
+record_rowed p count vs l =
     let kind = first_of vs in
     let known = within kinds kind in
     let ns = taken known vs in
-    line-rowed p (known && not (eqb count (recordCount kind))) (below (powers (recordWidths kind)) (recordsOf kind ns)) (recordMade kind ns) l
+    line_rowed p (known && not (eqb count (record_count kind))) (below (powers (record_widths kind)) (records_of kind ns)) (record_made kind ns) l
 
-quotes-rowed : (p : ℕ) → p ≤ 4294967295 → TextRow 14 p
-quotes-rowed p l = record { some = omega arith; last = omega arith; inside = l }
+quotes_rowed : (p : ℕ) → p ≤ 4294967295 → TextRow 14 p
+quotes_rowed p l = record { some = omega arith; last = omega arith; inside = l }
 
-next-inside : (p : ℕ) → p ≤ 4294967295 → nextLine p ≤ 4294967295
-next-inside p l = go (ltb p 4294967295) refl
+next_inside : (p : ℕ) → p ≤ 4294967295 → next_line p ≤ 4294967295
+next_inside p l = go (ltb p 4294967295) refl
   where
     go : (t : Bool) → ltb p 4294967295 ≡ t → cond t (p + 1) p ≤ 4294967295
     go true e = omega (arith, ltb-true p 4294967295 e)
     go false e = l
 
-records-rowed : (p : ℕ) (ls : Lines) → p ≤ 4294967295 → Rowed (recordsMade p ls)
-unfolding recordsMade
-records-rowed p none l = tt
-records-rowed p bad l = quotes-rowed p l
-records-rowed p (row fs ls) l =
-    then-told TextRow (recordLine p (length fs) (map valueIn fs)) _ (record-rowed p (length fs) (map valueIn fs) l)
-    (λ b e. then-told TextRow (recordsMade (nextLine p) ls) _ (records-rowed (nextLine p) ls (next-inside p l)) (λ bs e. tt))
+records_rowed : (p : ℕ) (ls : Lines) → p ≤ 4294967295 → Rowed (records_made p ls)
+unfolding records_made
+records_rowed p none l = tt
+records_rowed p bad l = quotes_rowed p l
+records_rowed p (row fs ls) l =
+    then_told TextRow (record_line p (length fs) (map value_in fs)) _ (record_rowed p (length fs) (map value_in fs) l)
+    (λ b e. then_told TextRow (records_made (next_line p) ls) _ (records_rowed (next_line p) ls (next_inside p l)) (λ bs e. tt))
 
-made-rowed : (ls : Lines) → Rowed (sheetMade ls)
-unfolding sheetMade
-made-rowed none = quotes-rowed 1 (omega arith)
-made-rowed bad = quotes-rowed 1 (omega arith)
-made-rowed (row fs ls) =
-    then-told TextRow (headerLine 1 (length fs) (map valueIn fs)) _ (header-rowed 1 (length fs) (map valueIn fs) (omega arith))
-    (λ b e. then-told TextRow (recordsMade 2 ls) _ (records-rowed 2 ls (omega arith)) (λ bs e. tt))
+made_rowed : (ls : Lines) → Rowed (sheet_made ls)
+unfolding sheet_made
+made_rowed none = quotes_rowed 1 (omega arith)
+made_rowed bad = quotes_rowed 1 (omega arith)
+made_rowed (row fs ls) =
+    then_told TextRow (header_line 1 (length fs) (map value_in fs)) _ (header_rowed 1 (length fs) (map value_in fs) (omega arith))
+    (λ b e. then_told TextRow (records_made 2 ls) _ (records_rowed 2 ls (omega arith)) (λ bs e. tt))
 
-read-rowed : (s : List ℕ) (room : ℕ) → Rowed (sheetFrom s room)
-unfolding sheetFrom
-read-rowed s room =
-    then-told TextRow (sheetMade (linesIn s)) _ (made-rowed (linesIn s))
-    (λ b e. then-told TextRow (soundSheet b) _ (sound-rowed b) (λ t e. then-told TextRow (demand (leb (length b) room) 5) _ (five-rowed (leb (length b) room)) (λ u e. tt)))
+read_rowed : (s : List ℕ) (room : ℕ) → Rowed (sheet_from s room)
+unfolding sheet_from
+read_rowed s room =
+    then_told TextRow (sheet_made (lines_in s)) _ (made_rowed (lines_in s))
+    (λ b e. then_told TextRow (sound_sheet b) _ (sound_rowed b) (λ t e. then_told TextRow (demand (leb (length b) room) 5) _ (five_rowed (leb (length b) room)) (λ u e. tt)))
 
-write-rowed : (s : List ℕ) (room : ℕ) → Rowed (textFrom s room)
-unfolding textFrom
-write-rowed s room = then-told TextRow (soundSheet s) _ (sound-rowed s) (λ t e. then-told TextRow (demand (leb (length (text_of t)) room) 5) _ (five-rowed (leb (length (text_of t)) room)) (λ u e. tt))
+write_rowed : (s : List ℕ) (room : ℕ) → Rowed (text_from s room)
+unfolding text_from
+write_rowed s room = then_told TextRow (sound_sheet s) _ (sound_rowed s) (λ t e. then_told TextRow (demand (leb (length (text_of t)) room) 5) _ (five_rowed (leb (length (text_of t)) room)) (λ u e. tt))
 
 -- ---- lengths
 
 -- the length of a sheet, and of its text
-sheet-most : (s : List ℕ) (t : Sheet) → soundSheet s ≡ given t → length s ≤ longestSheet
-sheet-most s t e = let w = sound-written s t e in omega (arith, w.whole, (header-ranges t.header w.fine).count-high, (regular t.header.own).short)
+sheet_most : (s : List ℕ) (t : Sheet) → sound_sheet s ≡ given t → length s ≤ longest_sheet
+sheet_most s t e = let w = sound_written s t e in omega (arith, w.whole, (header_ranges t.header w.fine).count_high, (regular t.header.own).short)
 
-text-most : (s : List ℕ) (t : Sheet) → soundSheet s ≡ given t → length (text_of t) ≤ longestText
-text-most s t e =
-    let w = sound-written s t e in
-    let same : text_of t ≡ text_of w.sheet = ap text_of (given-same (sym e ∙ w.sound)) in
-    let records = recordsText (recordsPart t.header s) 0 t.header.count in
-    omega (arith, ap length (same ∙ w.text), length-append (line (headerCells t.header)) records, header-most t.header w.fine, texts-most (recordsPart t.header s) 0 t.header.count, w.few)
+text_most : (s : List ℕ) (t : Sheet) → sound_sheet s ≡ given t → length (text_of t) ≤ longest_text
+text_most s t e =
+    let w = sound_written s t e in
+    let same : text_of t ≡ text_of w.sheet = ap text_of (given_same (sym e ∙ w.sound)) in
+    let records = records_text (records_part t.header s) 0 t.header.count in
+    omega (arith, ap length (same ∙ w.text), length-append (line (header_cells t.header)) records, header_most t.header w.fine, texts_most (records_part t.header s) 0 t.header.count, w.few)
 
-read-most : (s : List ℕ) (room : ℕ) (b : List ℕ) → sheetFrom s room ≡ given b → length b ≤ longestSheet
-unfolding sheetFrom
-read-most s room b e =
-    let m = then-given (sheetMade (linesIn s)) _ b e in
-    let t = then-given (soundSheet m.0) _ b m.2 in
-    let u = then-given (demand (leb (length m.0) room) 5) _ b t.2 in
-    omega (arith, sheet-most m.0 t.0 t.1, ap length (given-same u.2))
+read_most : (s : List ℕ) (room : ℕ) (b : List ℕ) → sheet_from s room ≡ given b → length b ≤ longest_sheet
+unfolding sheet_from
+read_most s room b e =
+    let m = then_given (sheet_made (lines_in s)) _ b e in
+    let t = then_given (sound_sheet m.0) _ b m.2 in
+    let u = then_given (demand (leb (length m.0) room) 5) _ b t.2 in
+    omega (arith, sheet_most m.0 t.0 t.1, ap length (given_same u.2))
 
-write-most : (s : List ℕ) (room : ℕ) (b : List ℕ) → textFrom s room ≡ given b → length b ≤ longestText
-unfolding textFrom
-write-most s room b e =
-    let t = then-given (soundSheet s) _ b e in
-    let u = then-given (demand (leb (length (text_of t.0)) room) 5) _ b t.2 in
-    omega (arith, text-most s t.0 t.1, ap length (given-same u.2))
+write_most : (s : List ℕ) (room : ℕ) (b : List ℕ) → text_from s room ≡ given b → length b ≤ longest_text
+unfolding text_from
+write_most s room b e =
+    let t = then_given (sound_sheet s) _ b e in
+    let u = then_given (demand (leb (length (text_of t.0)) room) 5) _ b t.2 in
+    omega (arith, text_most s t.0 t.1, ap length (given_same u.2))
 
 -- ---- both
 
-ranged : (x : Answer (List ℕ)) → Rowed x → ((b : List ℕ) → x ≡ given b → length b ≤ longestText) → Converted (length_of x)
+ranged : (x : Answer (List ℕ)) → Rowed x → ((b : List ℕ) → x ≡ given b → length b ≤ longest_text) → Converted (length_of x)
 ranged (given b) r h = h b refl
 ranged (refused k p) r h = r
 
-pub read-text-converted : (s : List ℕ) (room : ℕ) → Converted (length_of (sheetFrom s room))
-read-text-converted s room = ranged (sheetFrom s room) (read-rowed s room) (λ b e. omega (arith, read-most s room b e))
+pub read_text_converted : (s : List ℕ) (room : ℕ) → Converted (length_of (sheet_from s room))
+read_text_converted s room = ranged (sheet_from s room) (read_rowed s room) (λ b e. omega (arith, read_most s room b e))
 
-pub write-text-converted : (s : List ℕ) (room : ℕ) → Converted (length_of (textFrom s room))
-write-text-converted s room = ranged (textFrom s room) (write-rowed s room) (write-most s room)
+pub write_text_converted : (s : List ℕ) (room : ℕ) → Converted (length_of (text_from s room))
+write_text_converted s room = ranged (text_from s room) (write_rowed s room) (write_most s room)

@@ -2,17 +2,17 @@
 -- Assumes nothing.
 use Rattle.std.specs.Prelude.{ℕ, ◌+◌, ◌*◌, ◌≤◌, ◌<◌, ◌≡◌, refl}
 use Rattle.std.proofs.Common.{ap, ap₂, arith}
-use Rattle.sheet.specs.Versions.{mostRecords, longestSheet}
+use Rattle.sheet.specs.Versions.{most_records, longest_sheet}
 use Rattle.sheet.specs.Refusals.{Answer, given, refused}
 use Rattle.checker.specs.Check.{Totals}
 use Rattle.checker.specs.Rows.{RefusedBy}
-use Rattle.csv.specs.Steps.{longestLine}
-use Rattle.yard.specs.Packed.{numberUnit, packed, fine}
+use Rattle.sheet_csv.specs.Steps.{longest_line}
+use Rattle.yard.specs.Packed.{number_unit, packed, fine}
 use Rattle.yard.specs.Editing.{resized}
 
 -- the ranges that refusals have: the number is at least 1, and the place stays clear of it
 abbrev pub Told : {A : Type 0} → Answer A → Type 0
-Told x = RefusedBy (λ (k p : ℕ). (0 < k) × (p < numberUnit)) x
+Told x = RefusedBy (λ (k p : ℕ). (0 < k) × (p < number_unit)) x
 
 -- and those of a check's answer: what is given stays clear of the number of a refusal
 abbrev pub Answered : Answer Totals → Type 0
@@ -23,10 +23,10 @@ Answered (refused k p) = Told {A = Totals} (refused k p)
 pub record EditRow (number place : ℕ) : Type 0 where
   pub some : 1 ≤ number
   pub last : number ≤ 11
-  pub inside : place ≤ 32 * mostRecords + 13
+  pub inside : place ≤ 32 * most_records + 13
 
 abbrev pub Resized : Answer ℕ → Type 0
-Resized (given n) = n ≤ longestSheet
+Resized (given n) = n ≤ longest_sheet
 Resized (refused k p) = EditRow k p
 
 -- and those of a text made into a sheet, or a sheet into a text: a line's place is a number of 32 bits, and no text is longer than the longest
@@ -36,39 +36,39 @@ pub record TextRow (number place : ℕ) : Type 0 where
   pub inside : place ≤ 4294967295
 
 -- a line for the header and for each of the most records
-abbrev pub longestText : ℕ
-longestText = longestLine * (1 + mostRecords)
+abbrev pub longest_text : ℕ
+longest_text = longest_line * (1 + most_records)
 
 abbrev pub Converted : Answer ℕ → Type 0
-Converted (given n) = n ≤ longestText
+Converted (given n) = n ≤ longest_text
 Converted (refused k p) = TextRow k p
 
-pub packed-same : (a b : Answer Totals) → Answered a → Answered b → packed a ≡ packed b → a ≡ b
-packed-same (given t) (given u) x y e = ap₂ (λ (n f : ℕ). given (record { n = n; failed = f })) (omega (arith, x, y)) (omega (arith, x, y))
-packed-same (given t) (refused k p) x y e = absurd (omega (arith, x, y))
-packed-same (refused k p) (given t) x y e = absurd (omega (arith, x, y))
-packed-same (refused k p) (refused l q) x y e = ap₂ refused (omega (arith, x, y)) (omega (arith, x, y))
+pub packed_same : (a b : Answer Totals) → Answered a → Answered b → packed a ≡ packed b → a ≡ b
+packed_same (given t) (given u) x y e = ap₂ (λ (n f : ℕ). given (record { n = n; failed = f })) (omega (arith, x, y)) (omega (arith, x, y))
+packed_same (given t) (refused k p) x y e = absurd (omega (arith, x, y))
+packed_same (refused k p) (given t) x y e = absurd (omega (arith, x, y))
+packed_same (refused k p) (refused l q) x y e = ap₂ refused (omega (arith, x, y)) (omega (arith, x, y))
 
 -- of a reader or a writer: 0 exactly where there is no refusal
-pub fine-given : {A : Type 0} (a : Answer A) → Told a → fine a ≡ 0 → (x : A) × (a ≡ given x)
-fine-given (given x) t e = (x, refl)
-fine-given (refused k p) t e = absurd (omega (arith, t))
+pub fine_given : {A : Type 0} (a : Answer A) → Told a → fine a ≡ 0 → (x : A) × (a ≡ given x)
+fine_given (given x) t e = (x, refl)
+fine_given (refused k p) t e = absurd (omega (arith, t))
 
 -- and else which refusal it is
-pub fine-refused : {A : Type 0} (a : Answer A) (k p : ℕ) → Told a → 0 < k → p < numberUnit → fine a ≡ k * numberUnit + p → a ≡ refused k p
-fine-refused (given x) k p t l m e = absurd (omega arith)
-fine-refused (refused j q) k p t l m e = ap₂ refused (omega (arith, t)) (omega (arith, t))
+pub fine_refused : {A : Type 0} (a : Answer A) (k p : ℕ) → Told a → 0 < k → p < number_unit → fine a ≡ k * number_unit + p → a ≡ refused k p
+fine_refused (given x) k p t l m e = absurd (omega arith)
+fine_refused (refused j q) k p t l m e = ap₂ refused (omega (arith, t)) (omega (arith, t))
 
 -- of an edit
-pub resized-same : (a b : Answer ℕ) → Resized a → Resized b → resized a ≡ resized b → a ≡ b
-resized-same (given m) (given n) x y e = ap given e
-resized-same (given m) (refused k p) x y e = absurd (omega (arith, x, y.some))
-resized-same (refused k p) (given n) x y e = absurd (omega (arith, x.some, y))
-resized-same (refused k p) (refused l q) x y e = ap₂ refused (omega (arith, x.inside, y.inside)) (omega (arith, x.inside, y.inside))
+pub resized_same : (a b : Answer ℕ) → Resized a → Resized b → resized a ≡ resized b → a ≡ b
+resized_same (given m) (given n) x y e = ap given e
+resized_same (given m) (refused k p) x y e = absurd (omega (arith, x, y.some))
+resized_same (refused k p) (given n) x y e = absurd (omega (arith, x.some, y))
+resized_same (refused k p) (refused l q) x y e = ap₂ refused (omega (arith, x.inside, y.inside)) (omega (arith, x.inside, y.inside))
 
 -- of a text or a sheet
-pub converted-same : (a b : Answer ℕ) → Converted a → Converted b → resized a ≡ resized b → a ≡ b
-converted-same (given m) (given n) x y e = ap given e
-converted-same (given m) (refused k p) x y e = absurd (omega (arith, x, y.some))
-converted-same (refused k p) (given n) x y e = absurd (omega (arith, x.some, y))
-converted-same (refused k p) (refused l q) x y e = ap₂ refused (omega (arith, x.inside, y.inside)) (omega (arith, x.inside, y.inside))
+pub converted_same : (a b : Answer ℕ) → Converted a → Converted b → resized a ≡ resized b → a ≡ b
+converted_same (given m) (given n) x y e = ap given e
+converted_same (given m) (refused k p) x y e = absurd (omega (arith, x, y.some))
+converted_same (refused k p) (given n) x y e = absurd (omega (arith, x.some, y))
+converted_same (refused k p) (refused l q) x y e = ap₂ refused (omega (arith, x.inside, y.inside)) (omega (arith, x.inside, y.inside))

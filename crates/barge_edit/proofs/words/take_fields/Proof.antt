@@ -2,7 +2,7 @@
 -- Assumes nothing.
 use borrow.Author.Rules.{rules}
 use native.Mathlib.Omega.{arith}
-use Rattle.barge_edit.specs.laws.OfficeLaws.{fields-most}
+use Rattle.barge_edit.specs.laws.OfficeLaws.{fields_most}
 use Rattle.barge_edit.proofs.words.take_fields.Statement.{statement}
 use Rattle.barge_edit.proofs.words.take_fields.Tie as tie
 
@@ -10,7 +10,7 @@ take-requires : tie.Need-take-requires
 take-requires c κs =
     let f = c.before.before.before.before in
     let s = f.before.before in
-    let most = fields-most s.args.kind in
+    let most = fields_most s.args.kind in
     (omega (arith, most, f.fields-of.ensures, s.requires.0), omega (arith, most, f.fields-of.ensures, s.requires.1))
 
 pub take-fields-spec : {M : Type 1} → statement M

@@ -7,16 +7,16 @@ use mathlib.Core.List.{List}
 use lib.ListN.{length, get_or, drop}
 use borrow.Author.Tests.{eq-eqb, ne_eqb}
 use Rattle.fields.specs.Marks.{feeds}
-use Rattle.barge_text.specs.Shown.{endsHere}
+use Rattle.barge_text.specs.Shown.{ends_here}
 use Rattle.barge_text.specs.laws.ShownLaws.{here}
 use Rattle.barge_text.proofs.show.ends_at.Statement.{statement}
 use Rattle.barge_text.proofs.show.ends_at.Tie as tie
 
 module _ (s : List ℕ) (i : ℕ) (l : i < length s) where
-  at_return : get_or s i 0 ≡ 13 → feeds (drop (i + 1) s) ≡ endsHere (drop i s)
+  at_return : get_or s i 0 ≡ 13 → feeds (drop (i + 1) s) ≡ ends_here (drop i s)
   at_return e = rw (here s i l, eq-eqb (get_or s i 0) 13 e)
 
-  at-another : (get_or s i 0 ≡ 13 → ⊥) → feeds (drop i s) ≡ endsHere (drop i s)
+  at-another : (get_or s i 0 ≡ 13 → ⊥) → feeds (drop i s) ≡ ends_here (drop i s)
   at-another d = rw (here s i l, ne_eqb (get_or s i 0) 13 d)
 
 returns : tie.Need-returns

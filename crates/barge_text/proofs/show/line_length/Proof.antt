@@ -7,7 +7,7 @@ use mathlib.Core.List.{◌++◌}
 use native.Mathlib.Omega.{arith}
 use lib.ListN.{length, take, drop}
 use Rattle.barge_text.specs.Shown.{line_of}
-use Rattle.barge_text.specs.laws.ShownLaws.{line-ends, line-all, line-goes-on}
+use Rattle.barge_text.specs.laws.ShownLaws.{line_ends, line_all, line_goes_on}
 use Rattle.barge_text.proofs.show.line_length.Statement.{statement}
 use Rattle.barge_text.proofs.show.line_length.Tie as tie
 
@@ -21,19 +21,19 @@ returns : tie.Need-returns invariant-loop decreases-loop
 returns c =
     let e = c.before in
     let l = e.before.before in
-    record { inside = l.loop.invariant.0; line = line-ends _ l.loop.i l.loop.invariant.1 (sym e.ends_at.ensures ∙ c.if1.true) }
+    record { inside = l.loop.invariant.0; line = line_ends _ l.loop.i l.loop.invariant.1 (sym e.ends_at.ensures ∙ c.if1.true) }
 
 loop-again : tie.Need-loop-preserved invariant-loop decreases-loop
 loop-again c =
     let e = c.before in
     let t = e.before in
     let l = t.before in
-    (omega (arith, t.loop-test.true), line-goes-on _ l.loop.i l.loop.invariant.1 t.loop-test.true (sym e.ends_at.ensures ∙ c.if1.false))
+    (omega (arith, t.loop-test.true), line_goes_on _ l.loop.i l.loop.invariant.1 t.loop-test.true (sym e.ends_at.ensures ∙ c.if1.false))
 
 returns-2 : tie.Need-returns-2 invariant-loop decreases-loop
 returns-2 c =
     let l = c.before in
-    record { inside = l.loop.invariant.0; line = line-all _ l.loop.i l.loop.invariant.1 c.loop-test.false }
+    record { inside = l.loop.invariant.0; line = line_all _ l.loop.i l.loop.invariant.1 c.loop-test.false }
 
 pub line-length-spec : {M : Type 1} → statement M
 line-length-spec =

@@ -6,7 +6,7 @@ use native.Mathlib.Omega.{arith}
 use lib.ListN.{length}
 use borrow.Rule.Slice.PartMut.{put_mid}
 use Rattle.decimal.specs.Laid.{Laid}
-use Rattle.decimal.specs.laws.LaidLaws.{laid-put}
+use Rattle.decimal.specs.laws.LaidLaws.{laid_put}
 use Rattle.barge_text.proofs.show.put.Statement.{statement}
 use Rattle.barge_text.proofs.show.put.Tie as tie
 
@@ -17,7 +17,7 @@ laid-there : (c : tie.After-write-text) → (let a = c.before.before.before.befo
 laid-there c =
     let start = c.before.before.before.before in
     let a = start.args in
-    laid-put a.out.now a.at a.text.now start.requires c.write-text.result c.write-text.new.1.0 c.write-text.ensures
+    laid_put a.out.now a.at a.text.now start.requires c.write-text.result c.write-text.new.1.0 c.write-text.ensures
 
 returns : tie.Need-returns
 returns c = let l = laid-there c.before.before in record { place = l.place; bytes = l.bytes }

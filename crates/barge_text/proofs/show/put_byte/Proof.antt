@@ -7,16 +7,16 @@ use mathlib.Core.Bool.{true, false}
 use mathlib.Core.List.{List, [], ◌∷◌}
 use native.Mathlib.Omega.{arith}
 use Rattle.decimal.specs.Laid.{Laid}
-use Rattle.barge_text.specs.Shown.{isPrinted, hexDigit, shownByte}
+use Rattle.barge_text.specs.Shown.{is_printed, hex_digit, shown_byte}
 use Rattle.barge_text.proofs.show.put_byte.Statement.{statement}
 use Rattle.barge_text.proofs.show.put_byte.Tie as tie
 
-printed : (b : ℕ) → isPrinted b ≡ true → b ∷ [] ≡ shownByte b
-unfolding shownByte
+printed : (b : ℕ) → is_printed b ≡ true → b ∷ [] ≡ shown_byte b
+unfolding shown_byte
 printed b e = rw e
 
-spelled : (b : ℕ) → isPrinted b ≡ false → 92 ∷ 120 ∷ hexDigit (b / 16) ∷ hexDigit (b % 16) ∷ [] ≡ shownByte b
-unfolding shownByte
+spelled : (b : ℕ) → is_printed b ≡ false → 92 ∷ 120 ∷ hex_digit (b / 16) ∷ hex_digit (b % 16) ∷ [] ≡ shown_byte b
+unfolding shown_byte
 spelled b e = rw e
 
 returns : tie.Need-returns

@@ -9,8 +9,8 @@ use lib.ListN.{length, get_or, take}
 use lib.Seq.{take_all, length-take-le}
 use Rattle.decimal.specs.Laid.{Laid}
 use Rattle.decimal.specs.laws.LaidLaws.{laid_none, laid_both}
-use Rattle.barge_text.specs.Shown.{shownByte, shown}
-use Rattle.barge_text.specs.laws.ShownLaws.{shown-most, shown-next}
+use Rattle.barge_text.specs.Shown.{shown_byte, shown}
+use Rattle.barge_text.specs.laws.ShownLaws.{shown_most, shown_next}
 use Rattle.barge_text.proofs.show.put_bytes.Statement.{statement}
 use Rattle.barge_text.proofs.show.put_bytes.Tie as tie
 
@@ -26,11 +26,11 @@ unfolding shown
 begin line out l = record { upto = omega arith; room = l; same = refl; front = laid_none out 0; short = omega arith }
 
 module _ {line out₀ out : List ℕ} {at i : ℕ} (p : Putting line out₀ out at i) where
-  turn : i < length line → (next : ℕ) (after : List ℕ) → length after ≡ length out → Laid out at (shownByte (get_or line i 0)) next after → Putting line out₀ after next (i + 1)
+  turn : i < length line → (next : ℕ) (after : List ℕ) → length after ≡ length out → Laid out at (shown_byte (get_or line i 0)) next after → Putting line out₀ after next (i + 1)
   turn l next after k f =
-      let most = shown-most (take (i + 1) line) in
+      let most = shown_most (take (i + 1) line) in
       let few : length (take (i + 1) line) ≡ i + 1 = length-take-le (i + 1) line (omega arith) in
-      let front = laid_both out₀ 0 (shown (take i line)) (shownByte (get_or line i 0)) (shown-next line i l) (omega (arith, p.room)) p.front f in
+      let front = laid_both out₀ 0 (shown (take i line)) (shown_byte (get_or line i 0)) (shown_next line i l) (omega (arith, p.room)) p.front f in
       record { upto = omega arith; room = p.room; same = k ∙ p.same; front = front; short = omega (arith, front.place) }
 
   done : length line ≤ i → Laid out₀ 0 (shown line) at out

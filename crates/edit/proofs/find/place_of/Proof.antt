@@ -4,14 +4,14 @@ use borrow.Author.Rules.{rules}
 use mathlib.Core.Path.{◌≡◌}
 use Prim.Native.Nat.{◌+◌, ◌-◌, ◌≤◌, ◌<◌}
 use native.Mathlib.Omega.{arith}
-use Rattle.checker.specs.Check.{recordPart}
-use Rattle.edit.specs.Steps.{idIn, place_in}
-use Rattle.edit.proofs.Search.{placeFrom, place-start, place_here, place-next, place_end}
+use Rattle.checker.specs.Check.{record_part}
+use Rattle.edit.specs.Steps.{id_in, place_in}
+use Rattle.edit.proofs.Search.{place_from, place_start, place_here, place_next, place_end}
 use Rattle.edit.proofs.find.place_of.Statement.{statement}
 use Rattle.edit.proofs.find.place_of.Tie as tie
 
 abbrev invariant-loop : tie.invariant-loop
-invariant-loop records n id i₀ i = (i ≤ n) × (i + placeFrom records n id i ≡ place_in records n id)
+invariant-loop records n id i₀ i = (i ≤ n) × (i + place_from records n id i ≡ place_in records n id)
 
 abbrev decreases-loop : tie.decreases-loop
 decreases-loop records n id i₀ i = n - i
@@ -19,14 +19,14 @@ decreases-loop records n id i₀ i = n - i
 loop-holds : tie.Need-loop-init invariant-loop decreases-loop
 loop-holds c =
     let a = c.before.args in
-    (search rules, omega (arith, place-start a.records.now a.n a.id))
+    (search rules, omega (arith, place_start a.records.now a.n a.id))
 
 returns : tie.Need-returns invariant-loop decreases-loop
 returns c =
     let t = c.before.before in
     let l = t.before.loop in
     let a = t.before.before.before.args in
-    let u : a.id ≤ idIn (recordPart a.records.now l.i) = omega (arith, c.before.id-at.ensures, c.if1.true) in
+    let u : a.id ≤ id_in (record_part a.records.now l.i) = omega (arith, c.before.id-at.ensures, c.if1.true) in
     (omega (arith, place_here a.records.now a.n a.id l.i t.loop-test.true u, l.invariant.1), search rules)
 
 loop-again : tie.Need-loop-preserved invariant-loop decreases-loop
@@ -34,8 +34,8 @@ loop-again c =
     let t = c.before.before in
     let l = t.before.loop in
     let a = t.before.before.before.args in
-    let u : idIn (recordPart a.records.now l.i) < a.id = omega (arith, c.before.id-at.ensures, c.if1.false) in
-    (search rules, omega (arith, place-next a.records.now a.n a.id l.i t.loop-test.true u, l.invariant.1))
+    let u : id_in (record_part a.records.now l.i) < a.id = omega (arith, c.before.id-at.ensures, c.if1.false) in
+    (search rules, omega (arith, place_next a.records.now a.n a.id l.i t.loop-test.true u, l.invariant.1))
 
 returns-2 : tie.Need-returns-2 invariant-loop decreases-loop
 returns-2 c =

@@ -6,7 +6,7 @@ use mathlib.Core.List.{◌++◌}
 use Prim.Native.Nat.{◌+◌, ◌-◌, ◌≤◌}
 use native.Mathlib.Omega.{arith}
 use lib.ListN.{length, take, drop, length-set}
-use Rattle.edit.proofs.Shifts.{zeros, clear-turn, clear-done}
+use Rattle.edit.proofs.Shifts.{zeros, clear_turn, clear_done}
 use Rattle.edit.proofs.shift.clear_all.Statement.{statement}
 use Rattle.edit.proofs.shift.clear_all.Tie as tie
 
@@ -19,12 +19,12 @@ decreases-loop part₀ i₀ part i = length part₀ - i
 loop-again : tie.Need-loop-preserved invariant-loop decreases-loop
 loop-again c =
     let l = c.before.loop in
-    (search rules, simp length-set l.invariant.1, rw l.invariant.2 (clear-turn c.before.before.args.part.now l.i (omega arith)))
+    (search rules, simp length-set l.invariant.1, rw l.invariant.2 (clear_turn c.before.before.args.part.now l.i (omega arith)))
 
 returns : tie.Need-returns invariant-loop decreases-loop
 returns c =
     let l = c.before.loop in
-    l.invariant.2 ∙ clear-done c.before.before.args.part.now l.i (omega arith)
+    l.invariant.2 ∙ clear_done c.before.before.args.part.now l.i (omega arith)
 
 pub clear-all-spec : {M : Type 1} → statement M
 clear-all-spec =

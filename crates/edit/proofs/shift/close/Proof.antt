@@ -6,7 +6,7 @@ use Prim.Native.Nat.{◌-◌, ◌≤◌}
 use native.Mathlib.Omega.{arith}
 use lib.ListN.{length, length-set}
 use Rattle.edit.specs.Steps.{closed}
-use Rattle.edit.proofs.Shifts.{close-none, close-turn}
+use Rattle.edit.proofs.Shifts.{close_none, close_turn}
 use Rattle.edit.proofs.shift.close.Statement.{statement}
 use Rattle.edit.proofs.shift.close.Tie as tie
 
@@ -17,13 +17,13 @@ abbrev decreases-loop : tie.decreases-loop
 decreases-loop buf₀ at end k₀ buf k = end - k
 
 loop-holds : tie.Need-loop-init invariant-loop decreases-loop
-loop-holds c = (search rules, search rules, refl, close-none _ _ (omega arith))
+loop-holds c = (search rules, search rules, refl, close_none _ _ (omega arith))
 
 loop-again : tie.Need-loop-preserved invariant-loop decreases-loop
 loop-again c =
     let l = c.before.before.loop in
     let s = c.before.before.before in
-    (search rules, search rules, simp length-set l.invariant.2, rw l.invariant.3 (close-turn _ _ _ (omega arith) (omega arith)))
+    (search rules, search rules, simp length-set l.invariant.2, rw l.invariant.3 (close_turn _ _ _ (omega arith) (omega arith)))
 
 returns : tie.Need-returns invariant-loop decreases-loop
 returns c =

@@ -2,23 +2,23 @@
 -- Assumes nothing.
 use borrow.Author.Rules.{rules}
 use mathlib.Core.Path.{◌≡◌, refl, sym, ap, ◌∙◌}
-use Rattle.quantity.specs.Range.{steelFactor}
-use Rattle.quantity.specs.Made.{toldSteelFactor}
-use Rattle.numbers.specs.Held.{heldIn}
-use Rattle.numbers.proofs.Kept.{heldOr, made-short}
+use Rattle.quantity.specs.Range.{steel_factor}
+use Rattle.quantity.specs.Made.{told_steel_factor}
+use Rattle.numbers.specs.Held.{held_in}
+use Rattle.numbers.proofs.Kept.{held_or, made_short}
 use Rattle.numbers.proofs.held.factor_of.Statement.{statement}
 use Rattle.numbers.proofs.held.factor_of.Tie as tie
 
-made : (c : tie.After-make) → heldOr 65535 (toldSteelFactor c.make.result) ≡ heldIn steelFactor 65535 c.before.before.args.x
-made c = made-short 65535 steelFactor c.before.before.args.x refl c.before.short.ensures c.make.ensures
+made : (c : tie.After-make) → held_or 65535 (told_steel_factor c.make.result) ≡ held_in steel_factor 65535 c.before.before.args.x
+made c = made_short 65535 steel_factor c.before.before.args.x refl c.before.short.ensures c.make.ensures
 
 returns : tie.Need-returns
 returns c =
-    ap (λ n. record { 0 = n }) (sym (ap (λ k. heldOr 65535 (toldSteelFactor k)) c.before.made.given.1) ∙ made c.before.before.before)
+    ap (λ n. record { 0 = n }) (sym (ap (λ k. held_or 65535 (told_steel_factor k)) c.before.made.given.1) ∙ made c.before.before.before)
 
 returns-2 : tie.Need-returns-2
 returns-2 c =
-    ap (λ n. record { 0 = n }) (sym (ap (λ k. heldOr 65535 (toldSteelFactor k)) c.enum_told.given.1) ∙ made c.before.before)
+    ap (λ n. record { 0 = n }) (sym (ap (λ k. held_or 65535 (told_steel_factor k)) c.enum_told.given.1) ∙ made c.before.before)
 
 pub factor-of-spec : {M : Type 1} → statement M
 factor-of-spec =

@@ -3,22 +3,22 @@
 use borrow.Author.Rules.{rules}
 use mathlib.Core.Path.{◌≡◌, refl, sym, ap, ◌∙◌}
 use Rattle.quantity.specs.Range.{span}
-use Rattle.quantity.specs.Made.{toldSpan}
-use Rattle.numbers.specs.Held.{heldIn}
-use Rattle.numbers.proofs.Kept.{heldOr, made-short}
+use Rattle.quantity.specs.Made.{told_span}
+use Rattle.numbers.specs.Held.{held_in}
+use Rattle.numbers.proofs.Kept.{held_or, made_short}
 use Rattle.numbers.proofs.held.span_of.Statement.{statement}
 use Rattle.numbers.proofs.held.span_of.Tie as tie
 
-made : (c : tie.After-make) → heldOr 65535 (toldSpan c.make.result) ≡ heldIn span 65535 c.before.before.args.x
-made c = made-short 65535 span c.before.before.args.x refl c.before.short.ensures c.make.ensures
+made : (c : tie.After-make) → held_or 65535 (told_span c.make.result) ≡ held_in span 65535 c.before.before.args.x
+made c = made_short 65535 span c.before.before.args.x refl c.before.short.ensures c.make.ensures
 
 returns : tie.Need-returns
 returns c =
-    ap (λ n. record { 0 = n }) (sym (ap (λ k. heldOr 65535 (toldSpan k)) c.before.made.given.1) ∙ made c.before.before.before)
+    ap (λ n. record { 0 = n }) (sym (ap (λ k. held_or 65535 (told_span k)) c.before.made.given.1) ∙ made c.before.before.before)
 
 returns-2 : tie.Need-returns-2
 returns-2 c =
-    ap (λ n. record { 0 = n }) (sym (ap (λ k. heldOr 65535 (toldSpan k)) c.enum_told.given.1) ∙ made c.before.before)
+    ap (λ n. record { 0 = n }) (sym (ap (λ k. held_or 65535 (told_span k)) c.enum_told.given.1) ∙ made c.before.before)
 
 pub span-of-spec : {M : Type 1} → statement M
 span-of-spec =

@@ -6,9 +6,9 @@ use mathlib.Core.Path.{◌≡◌}
 use native.Mathlib.Omega.{arith}
 use native.Mathlib.Nat.{max-le}
 use lib.Dec.{lit<, eqb}
-use Rattle.gauge.specs.laws.CeilLaws.{ceil-most}
+use Rattle.gauge.specs.laws.CeilLaws.{ceil_most}
 use Rattle.loads.specs.laws.Bounds.{either}
-use Rattle.pencil.specs.Numbers.{loadNumbers}
+use Rattle.pencil.specs.Numbers.{load_numbers}
 use Rattle.pencil.proofs.bearing.load_numbers.Statement.{statement}
 use Rattle.pencil.proofs.bearing.load_numbers.Tie as tie
 
@@ -25,7 +25,7 @@ wind-low c =
 half : (c : tie.After-ceil-div) → c.ceil-div.result ≤ 564075 * 65535
 half c =
     let d : c.before.before.before.before.before.before.before.before.before.before.before.args.draught.0 ≤ 65535 = omega arith in
-    rw c.ceil-div.ensures (ceil-most _ 10 _ (lit< tt) (omega arith))
+    rw c.ceil-div.ensures (ceil_most _ 10 _ (lit< tt) (omega arith))
 
 add-t20 : tie.Need-overflow-add-t20
 add-t20 c = omega (arith, crest c.before.before.before.before.before, wind-low c.before.before.before.before.before)
@@ -34,7 +34,7 @@ add-t31 : tie.Need-overflow-add-t31
 add-t31 c = omega (arith, half c)
 
 returns : tie.Need-returns
-unfolding loadNumbers
+unfolding load_numbers
 returns c =
     let net = c.before in
     let relief = net.before in

@@ -7,7 +7,7 @@ use lib.ListN.{get_or}
 use mir.Val.{bool_byte}
 use native.Mathlib.Omega.{arith}
 use native.Mathlib.Nat.{mul-le-mul}
-use Rattle.pencil.specs.Numbers.{ruleNumbers}
+use Rattle.pencil.specs.Numbers.{rule_numbers}
 use Rattle.pencil.specs.Trail.{ruled}
 use Rattle.pencil.proofs.Fits.{under, bit}
 use Rattle.pencil.proofs.lines.ruled.Statement.{statement}
@@ -33,7 +33,7 @@ add-result-3 : tie.Need-overflow-add-result-3
 add-result-3 c = omega (arith, product c, c.before.before.before.requires)
 
 returns : tie.Need-returns
-unfolding ruled ruleNumbers
+unfolding ruled rule_numbers
 returns c =
     let t = c.before in
     let n = t.before in

@@ -5,7 +5,7 @@ use Prim.Native.Nat.{◌*◌, ◌≤◌}
 use borrow.Author.Tests.{le-leb, lt-leb, lt-ltb, le-ltb}
 use native.Mathlib.Omega.{arith}
 use native.Mathlib.Nat.{mul-le-mul}
-use Rattle.pencil.specs.Trail.{memberFirst}
+use Rattle.pencil.specs.Trail.{member_first}
 use Rattle.pencil.proofs.members.member_first.Statement.{statement}
 use Rattle.pencil.proofs.members.member_first.Tie as tie
 
@@ -21,19 +21,19 @@ mul-times : tie.Need-overflow-mul-times
 mul-times c = omega (arith, square c.before.before.before.before.before)
 
 returns : tie.Need-returns
-unfolding memberFirst
+unfolding member_first
 returns c =
     let told = rw c.before.times.ensures at c.ruled.ensures in
     rw (le-leb 6 _ c.before.before.if1.true) told
 
 returns-2 : tie.Need-returns-2
-unfolding memberFirst
+unfolding member_first
 returns-2 c =
     let told = rw c.before.times2.ensures at c.ruled2.ensures in
     rw (lt-leb 6 _ c.before.before.before.before.if1.false, lt-ltb _ 12000 c.before.before.if2.true) told
 
 returns-3 : tie.Need-returns-3
-unfolding memberFirst
+unfolding member_first
 returns-3 c =
     let told = rw c.before.times3.ensures at c.ruled3.ensures in
     rw (lt-leb 6 _ c.before.before.before.before.if1.false, le-ltb _ 12000 c.before.before.if2.false) told

@@ -3,25 +3,25 @@
 use borrow.Author.Rules.{rules}
 use borrow.Author.Tests.{lt-ltb, le-ltb}
 use native.Mathlib.Omega.{arith}
-use Rattle.pencil.specs.Trail.{memberThird}
+use Rattle.pencil.specs.Trail.{member_third}
 use Rattle.pencil.proofs.Fits.{under, bit}
 use Rattle.pencil.proofs.members.member_third.Statement.{statement}
 use Rattle.pencil.proofs.members.member_third.Tie as tie
 
 returns : tie.Need-returns
-unfolding memberThird
+unfolding member_third
 returns c =
     let told = rw (c.before.times2.ensures, c.before.before.times.ensures, c.before.before.before.before.before.before.before.verdict-line.ensures) at c.ruled.ensures in
     rw (lt-ltb _ 6 c.before.before.before.before.if1.true) told
 
 returns-2 : tie.Need-returns-2
-unfolding memberThird
+unfolding member_third
 returns-2 c =
     let told = rw (c.before.times4.ensures, c.before.before.times3.ensures, c.before.before.before.before.before.before.before.verdict-line.ensures) at c.ruled2.ensures in
     rw (le-ltb _ 6 c.before.before.before.before.if1.false, lt-ltb _ 8 c.before.before.before.if2.true) told
 
 returns-3 : tie.Need-returns-3
-unfolding memberThird
+unfolding member_third
 returns-3 c =
     let told = rw (c.before.times6.ensures, c.before.before.times5.ensures, c.before.before.before.before.before.before.before.verdict-line.ensures) at c.ruled3.ensures in
     rw (le-ltb _ 6 c.before.before.before.before.if1.false, le-ltb _ 8 c.before.before.before.if2.false) told

@@ -7,7 +7,7 @@ use mathlib.Core.List.{List, [], ◌∷◌}
 use lib.Dec.{eqb}
 use mir.Val.{bool_byte}
 use Rattle.gauge.specs.Least.{number_of}
-use Rattle.pencil.specs.Numbers.{product, apart, ruleNumbers}
+use Rattle.pencil.specs.Numbers.{product, apart, rule_numbers}
 use Rattle.pencil.proofs.numbers.rule_numbers.Statement.{statement}
 use Rattle.pencil.proofs.numbers.rule_numbers.Tie as tie
 
@@ -32,7 +32,7 @@ nearby : {a b a₂ b₂ : ℕ} → a ≡ a₂ → b ≡ b₂ → a - bool_byte (
 nearby p q = rw (p, q)
 
 returns : tie.Need-returns
-unfolding ruleNumbers
+unfolding rule_numbers
 returns c =
     let other = c.before in
     let first = other.before.before in

@@ -5,7 +5,7 @@ use Prim.Native.Nat.{◌*◌, ◌≤◌}
 use mathlib.Core.Path.{refl}
 use native.Mathlib.Omega.{arith}
 use native.Mathlib.Nat.{mul-le-mul}
-use Rattle.pencil.specs.Trail.{formOf}
+use Rattle.pencil.specs.Trail.{form_of}
 use Rattle.pencil.proofs.plates.form_of.Statement.{statement}
 use Rattle.pencil.proofs.plates.form_of.Tie as tie
 
@@ -41,21 +41,21 @@ mul-t23 : tie.Need-overflow-mul-t23
 mul-t23 c = omega (arith, cube c.before.before.before.before.before)
 
 returns : tie.Need-returns
-unfolding formOf
+unfolding form_of
 returns c = rw (c.before.before.if1.true, c.before.if2.true) (record { p = refl; a = rw (c.times2.ensures, c.before.before.before.before.cut.ensures); panel = refl })
 
 returns-2 : tie.Need-returns-2
-unfolding formOf
+unfolding form_of
 returns-2 c =
     let b = c.before.before.before.before in
     rw (c.before.before.before.if1.true, c.before.before.if2.false) (record { p = c.before.times3.ensures; a = rw (c.times4.ensures, b.times.ensures, b.before.cut.ensures); panel = refl })
 
 returns-3 : tie.Need-returns-3
-unfolding formOf
+unfolding form_of
 returns-3 c = rw (c.before.before.if1.false, c.before.if3.true) (record { p = c.times5.ensures; a = refl; panel = refl })
 
 returns-4 : tie.Need-returns-4
-unfolding formOf
+unfolding form_of
 returns-4 c =
     let b = c.before.before.before.before in
     rw (c.before.before.before.if1.false, c.before.before.if3.false) (record { p = c.before.times6.ensures; a = rw (c.times7.ensures, b.times.ensures); panel = refl })

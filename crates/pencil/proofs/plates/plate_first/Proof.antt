@@ -5,7 +5,7 @@ use Prim.Native.Nat.{◌*◌, ◌≤◌}
 use borrow.Author.Tests.{ne_eqb}
 use native.Mathlib.Omega.{arith}
 use native.Mathlib.Nat.{mul-le-mul}
-use Rattle.pencil.specs.Trail.{plateFirst}
+use Rattle.pencil.specs.Trail.{plate_first}
 use Rattle.pencil.proofs.plates.plate_first.Statement.{statement}
 use Rattle.pencil.proofs.plates.plate_first.Tie as tie
 
@@ -36,15 +36,15 @@ mul-ruled-3 : tie.Need-overflow-mul-ruled-3
 mul-ruled-3 c = omega (arith, cube c.before.before.before)
 
 returns : tie.Need-returns
-unfolding plateFirst
+unfolding plate_first
 returns c = rw c.before.match.keys1 c.ruled.ensures
 
 returns-2 : tie.Need-returns-2
-unfolding plateFirst
+unfolding plate_first
 returns-2 c = rw c.before.match.keys2 c.ruled2.ensures
 
 returns-3 : tie.Need-returns-3
-unfolding plateFirst
+unfolding plate_first
 returns-3 c = rw (ne_eqb _ 1 c.before.match.rest.0.1, ne_eqb _ 2 c.before.match.rest.1) c.ruled3.ensures
 
 pub plate-first-spec : {M : Type 1} → statement M

@@ -5,7 +5,7 @@ use Prim.Native.Nat.{◌*◌, ◌≤◌}
 use mathlib.Core.Path.{sym, ◌∙◌}
 use native.Mathlib.Omega.{arith}
 use native.Mathlib.Nat.{mul-le-mul}
-use Rattle.pencil.specs.Trail.{plateSecond}
+use Rattle.pencil.specs.Trail.{plate_second}
 use Rattle.pencil.proofs.plates.plate_second.Statement.{statement}
 use Rattle.pencil.proofs.plates.plate_second.Tie as tie
 
@@ -27,13 +27,13 @@ mul-times-2 : tie.Need-overflow-mul-times-2
 mul-times-2 c = omega (arith, cube c)
 
 returns : tie.Need-returns
-unfolding plateSecond
+unfolding plate_second
 returns c =
     let told = rw (c.before.before.before.before.times2.ensures, c.before.before.before.before.before.times.ensures) at c.ruled.ensures in
     rw (sym c.before.before.is-long.ensures ∙ c.before.if1.true) told
 
 returns-2 : tie.Need-returns-2
-unfolding plateSecond
+unfolding plate_second
 returns-2 c =
     let told = rw c.before.before.before.before.before.times.ensures at c.ruled2.ensures in
     rw (sym c.before.before.is-long.ensures ∙ c.before.if1.false) told

@@ -12,7 +12,7 @@ use Rattle.gauge.specs.declared.Shape.{Shape}
 use Rattle.quantity.specs.Range.{thickness}
 use Rattle.pencil.specs.declared.Section.{Section}
 use Rattle.pencil.specs.Numbers.{product}
-use Rattle.pencil.specs.Trail.{Tells, ruled, bendingLines, FormParts, formOf, plateThird}
+use Rattle.pencil.specs.Trail.{Tells, ruled, bending_lines, FormParts, form_of, plate_third}
 use Rattle.pencil.proofs.Fits.{under, bit}
 use Rattle.pencil.proofs.plates.plate_third.Statement.{statement}
 use Rattle.pencil.proofs.plates.plate_third.Tie as tie
@@ -65,7 +65,7 @@ mul-times-2 : tie.Need-overflow-mul-times-2
 mul-times-2 c = record { fits = under 6084 65535 (omega arith) (omega arith) (omega arith) }
 
 returns : tie.Need-returns
-unfolding plateThird
+unfolding plate_third
 returns c =
     let f = c.before.before.before.before.before.before.form_of.ensures in
     let l = c.before.before.before.before.divide3.ensures in
@@ -73,11 +73,11 @@ returns c =
     let r = c.before.before.before.before.before.before.before.before.before.before.before.divide.ensures in
     let a = c.before.before.before.before.before.before.before.before.before.before.before.before.before.before.before.before.before.before.args in
     let long = c.before.before.before.before.before.before.before.is-long.ensures in
-    let form : Bool → FormParts = λ x. formOf x a.w.is_second a.p.spacing.0 a.p.factor.0 a.w.k2 a.w.stress in
+    let form : Bool → FormParts = λ x. form_of x a.w.is_second a.p.spacing.0 a.p.factor.0 a.w.k2 a.w.stress in
     let fa = f.a ∙ ap (λ (x : Bool). (form x).a) long in
     let fp = f.panel ∙ ap (λ (x : Bool). (form x).panel) long in
     ruled-same a.w.third thickness.high a.p.thickness.0
-    (c.before.before.before.bending-lines.ensures ∙ ap₂ (λ (x : ℕ) (y : Bool). bendingLines a.kind a.h.version x a.w.is_second y) s.whole c.before.before.before.before.before.before.before.before.before.before.before.before.before.before.taken-apart.ensures.never)
+    (c.before.before.before.bending-lines.ensures ∙ ap₂ (λ (x : ℕ) (y : Bool). bending_lines a.kind a.h.version x a.w.is_second y) s.whole c.before.before.before.before.before.before.before.before.before.before.before.before.before.before.taken-apart.ensures.never)
     c.before.verdict-line.ensures
     (f.p ∙ ap (λ (x : Bool). (form x).p) long)
     fa

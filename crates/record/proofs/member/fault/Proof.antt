@@ -1,12 +1,12 @@
 -- `record::member::fault` meets its contract: the lines from the last to the first.
 -- Assumes nothing.
 use borrow.Author.Rules.{rules}
-use Rattle.sheet.specs.Record.{memberFault}
+use Rattle.sheet.specs.Record.{member_fault}
 use Rattle.record.proofs.member.fault.Statement.{statement}
 use Rattle.record.proofs.member.fault.Tie as tie
 
 returns : tie.Need-returns
-unfolding memberFault
+unfolding member_fault
 returns c =
     let c₁ = c.before in
     let c₂ = c₁.before in

@@ -3,13 +3,13 @@
 use borrow.Author.Rules.{rules}
 use native.Mathlib.Omega.{arith}
 use mathlib.Core.Path.{sym, ap}
-use Rattle.sheet.specs.Record.{memberAt}
-use Rattle.record.proofs.Fields.{member-fields}
+use Rattle.sheet.specs.Record.{member_at}
+use Rattle.record.proofs.Fields.{member_fields_lem}
 use Rattle.record.proofs.member.of_number.Statement.{statement}
 use Rattle.record.proofs.member.of_number.Tie as tie
 
 returns : tie.Need-returns
-returns c = let n = c.args.n in sym (ap memberAt (member-fields n.hi n.lo (omega arith)))
+returns c = let n = c.args.n in sym (ap member_at (member_fields_lem n.hi n.lo (omega arith)))
 
 pub of-number-spec : {M : Type 1} → statement M
 of-number-spec =

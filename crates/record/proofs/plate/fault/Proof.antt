@@ -1,13 +1,13 @@
 -- `record::plate::fault` meets its contract: the lines from the last to the first.
 -- Assumes nothing.
 use borrow.Author.Rules.{rules}
-use Rattle.sheet.specs.Record.{plateFault}
-use Rattle.sheet.specs.laws.HeaderLaws.{flag-within}
+use Rattle.sheet.specs.Record.{plate_fault}
+use Rattle.sheet.specs.laws.HeaderLaws.{flag_within}
 use Rattle.record.proofs.plate.fault.Statement.{statement}
 use Rattle.record.proofs.plate.fault.Tie as tie
 
 returns : tie.Need-returns
-unfolding plateFault
+unfolding plate_fault
 returns c =
     let c₁ = c.before in
     let c₂ = c₁.before in
@@ -45,7 +45,7 @@ returns c =
       c₁₅.pick2.ensures,
       c₁₆.pick.ensures,
       c₁₇.is-long.ensures,
-      flag-within c₁₇.before.args.p.ballast,
+      flag_within c₁₇.before.args.p.ballast,
     )
 
 pub fault-spec : {M : Type 1} → statement M

@@ -3,13 +3,13 @@
 use borrow.Author.Rules.{rules}
 use native.Mathlib.Omega.{arith}
 use mathlib.Core.Path.{sym, ap}
-use Rattle.sheet.specs.Record.{plateAt}
-use Rattle.record.proofs.Fields.{plate-fields}
+use Rattle.sheet.specs.Record.{plate_at}
+use Rattle.record.proofs.Fields.{plate_fields_lem}
 use Rattle.record.proofs.plate.of_number.Statement.{statement}
 use Rattle.record.proofs.plate.of_number.Tie as tie
 
 returns : tie.Need-returns
-returns c = let n = c.args.n in sym (ap plateAt (plate-fields n.hi n.lo (omega arith)))
+returns c = let n = c.args.n in sym (ap plate_at (plate_fields_lem n.hi n.lo (omega arith)))
 
 pub of-number-spec : {M : Type 1} → statement M
 of-number-spec =

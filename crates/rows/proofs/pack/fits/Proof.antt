@@ -2,7 +2,7 @@
 -- Assumes nothing.
 use borrow.Author.Rules.{rules}
 use Prim.Native.Nat.{◌-◌}
-use Rattle.rows.proofs.Appending.{Testing, untested, one_below, one-above, all-below}
+use Rattle.rows.proofs.Appending.{Testing, untested, one_below, one_above, all_below}
 use Rattle.rows.proofs.pack.fits.Statement.{statement}
 use Rattle.rows.proofs.pack.fits.Tie as tie
 
@@ -21,8 +21,8 @@ fits-spec =
     (λ c. search rules)
     (λ c. search rules)
     (λ c. search rules)
-    (λ c. one-above _ _ _ _ c.before.before.loop.invariant c.before.loop-test.true c.if1.true)
+    (λ c. one_above _ _ _ _ c.before.before.loop.invariant c.before.loop-test.true c.if1.true)
     (λ c. search rules)
     (λ c. search rules)
     (λ c. one_below _ _ _ _ c.before.before.loop.invariant c.before.loop-test.true c.if1.false)
-    (λ c. all-below _ _ _ _ c.before.loop.invariant c.loop-test.false))
+    (λ c. all_below _ _ _ _ c.before.loop.invariant c.loop-test.false))

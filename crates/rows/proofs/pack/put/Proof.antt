@@ -3,7 +3,7 @@
 use borrow.Author.Rules.{rules}
 use Prim.Native.Nat.{◌-◌}
 use native.Mathlib.Omega.{arith}
-use Rattle.rows.proofs.Appending.{Appending, begin, turn, finish, kept, slice-fit}
+use Rattle.rows.proofs.Appending.{Appending, begin, turn, finish, kept, slice_fit}
 use Rattle.rows.proofs.pack.put.Statement.{statement}
 use Rattle.rows.proofs.pack.put.Tie as tie
 
@@ -17,7 +17,7 @@ pub put_spec : {M : Type 1} → statement M
 put_spec =
     tie.close
     (tie.spec invariant-loop decreases-loop
-    (λ c. begin _ _ _ _ (slice-fit c.before.args.out.now (λ i. (c.slice-known.given i).fits)))
+    (λ c. begin _ _ _ _ (slice_fit c.before.args.out.now (λ i. (c.slice-known.given i).fits)))
     (λ c. search rules)
     (λ c. search rules)
     (λ c. search rules)

@@ -6,19 +6,19 @@ use mathlib.Core.Path.{◌≡◌, sym, ap, subst, ◌∙◌}
 use mathlib.Core.List.{List}
 use borrow.Author.Tests.{eq-eqb, ne_eqb}
 use Rattle.sheet.specs.Refusals.{Answer}
-use Rattle.edit.specs.Edit.{After, putNumbersIn, removeIn, Edits}
-use Rattle.streams.specs.Parts.{number_at, fieldsIn}
-use Rattle.streams.specs.Edits.{askedEdit}
+use Rattle.edit.specs.Edit.{After, put_numbers_in, remove_in, Edits}
+use Rattle.streams.specs.Parts.{number_at, fields_in}
+use Rattle.streams.specs.Edits.{asked_edit}
 use Rattle.streams.proofs.edits.edited.Statement.{statement}
 use Rattle.streams.proofs.edits.edited.Tie as tie
 
 -- the edit by the form's first number
-puts : (form b : List ℕ) (len : ℕ) → number_at form 0 ≡ 0 → askedEdit form b len ≡ putNumbersIn b len (fieldsIn form)
-unfolding askedEdit
+puts : (form b : List ℕ) (len : ℕ) → number_at form 0 ≡ 0 → asked_edit form b len ≡ put_numbers_in b len (fields_in form)
+unfolding asked_edit
 puts form b len e = rw (eq-eqb _ _ e)
 
-removes : (form b : List ℕ) (len : ℕ) → (number_at form 0 ≡ 0 → ⊥) → askedEdit form b len ≡ removeIn b len (number_at form 1)
-unfolding askedEdit
+removes : (form b : List ℕ) (len : ℕ) → (number_at form 0 ≡ 0 → ⊥) → asked_edit form b len ≡ remove_in b len (number_at form 1)
+unfolding asked_edit
 removes form b len d = rw (ne_eqb _ _ d)
 
 returns : tie.Need-returns
@@ -29,8 +29,8 @@ returns c =
     let n = t.before in
     let a = n.before.before.before.args in
     let b = a.buf.now in
-    let same : putNumbersIn b a.len f.fields.result ≡ askedEdit a.form.now b a.len =
-    ap (putNumbersIn b a.len) f.fields.ensures ∙ sym (puts a.form.now b a.len (sym n.number.ensures ∙ t.if1.true)) in
+    let same : put_numbers_in b a.len f.fields.result ≡ asked_edit a.form.now b a.len =
+    ap (put_numbers_in b a.len) f.fields.ensures ∙ sym (puts a.form.now b a.len (sym n.number.ensures ∙ t.if1.true)) in
     subst (λ (x : Answer After). Edits x b p.put-numbers.result p.put-numbers.new.0) same p.put-numbers.ensures
 
 returns-2 : tie.Need-returns-2
@@ -42,8 +42,8 @@ returns-2 c =
     let a = n.before.before.before.args in
     let b = now a.buf in
     let id : i.number2.result ≡ number_at (now a.form) 1 = i.number2.ensures in
-    let same : removeIn b a.len i.number2.result ≡ askedEdit (now a.form) b a.len =
-    ap (removeIn b a.len) id ∙ sym (removes (now a.form) b a.len (λ (e : number_at (now a.form) 0 ≡ 0). t.if1.false (n.number.ensures ∙ e))) in
+    let same : remove_in b a.len i.number2.result ≡ asked_edit (now a.form) b a.len =
+    ap (remove_in b a.len) id ∙ sym (removes (now a.form) b a.len (λ (e : number_at (now a.form) 0 ≡ 0). t.if1.false (n.number.ensures ∙ e))) in
     subst (λ (x : Answer After). Edits x b r.remove.result r.remove.new.0) same r.remove.ensures
 
 pub edited-spec : {M : Type 1} → statement M

@@ -9,23 +9,23 @@ use native.Mathlib.Omega.{arith}
 use lib.ListN.{length}
 use lib.Dec.{eqb}
 use Rattle.sheet.specs.Refusals.{Answer, given, refused}
-use Rattle.edit.specs.Edit.{After, putNumbersIn, removeIn, sizeBy}
-use Rattle.edit.specs.laws.Within.{numbers-within, remove-within}
-use Rattle.streams.specs.Parts.{number_at, fieldsIn, ShortLine}
-use Rattle.streams.specs.Edits.{askedEdit}
+use Rattle.edit.specs.Edit.{After, put_numbers_in, remove_in, size_by}
+use Rattle.edit.specs.laws.Within.{numbers_within, remove_within}
+use Rattle.streams.specs.Parts.{number_at, fields_in, ShortLine}
+use Rattle.streams.specs.Edits.{asked_edit}
 use Rattle.streams.proofs.edits.one_edit.Statement.{statement}
 use Rattle.streams.proofs.edits.one_edit.Tie as tie
 
-edit-within : (form b : List ℕ) (len : ℕ) (a : After) → askedEdit form b len ≡ given a → a.size ≤ length b
-unfolding askedEdit
+edit-within : (form b : List ℕ) (len : ℕ) (a : After) → asked_edit form b len ≡ given a → a.size ≤ length b
+unfolding asked_edit
 edit-within form b len a e = go (eqb (number_at form 0) 0) e
   where
-    go : (t : Bool) → cond t (putNumbersIn b len (fieldsIn form)) (removeIn b len (number_at form 1)) ≡ given a → a.size ≤ length b
-    go true f = numbers-within b len (fieldsIn form) a f
-    go false f = remove-within b len (number_at form 1) a f
+    go : (t : Bool) → cond t (put_numbers_in b len (fields_in form)) (remove_in b len (number_at form 1)) ≡ given a → a.size ≤ length b
+    go true f = numbers_within b len (fields_in form) a f
+    go false f = remove_within b len (number_at form 1) a f
 
-inside : (x : Answer After) (b : List ℕ) → length b ≤ 65536 → ((a : After) → x ≡ given a → a.size ≤ length b) → ShortLine (sizeBy x)
-unfolding sizeBy
+inside : (x : Answer After) (b : List ℕ) → length b ≤ 65536 → ((a : After) → x ≡ given a → a.size ≤ length b) → ShortLine (size_by x)
+unfolding size_by
 inside (given a) b l w = omega (arith, w a refl)
 inside (refused k p) b l w = tt
 

@@ -1,12 +1,12 @@
 -- `streams::parts::fields` meets its contract.
 -- Assumes nothing.
 use borrow.Author.Rules.{rules}
-use Rattle.streams.specs.Parts.{fieldsIn}
+use Rattle.streams.specs.Parts.{fields_in}
 use Rattle.streams.proofs.parts.fields.Statement.{statement}
 use Rattle.streams.proofs.parts.fields.Tie as tie
 
 returns : tie.Need-returns
-unfolding fieldsIn
+unfolding fields_in
 returns c =
     let n12 = c.before in
     let n11 = n12.before in

@@ -6,8 +6,8 @@ use mathlib.Core.Path.{sym}
 use native.Mathlib.Omega.{arith}
 use lib.ListN.{length, replicate}
 use lib.Seq.{length-take-le}
-use Rattle.decimal.specs.laws.LaidLaws.{laid-inside}
-use Rattle.csv.specs.Read.{toldConverted}
+use Rattle.decimal.specs.laws.LaidLaws.{laid_inside}
+use Rattle.sheet_csv.specs.Read.{told_converted}
 use Rattle.streams.specs.Parts.{line_for}
 use Rattle.streams.proofs.parts.print.Statement.{statement}
 use Rattle.streams.proofs.parts.print.Tie as tie
@@ -17,7 +17,7 @@ put-line-requires c κs = (omega arith, c.before.before.requires)
 
 within : (c : tie.After-put-line) → c.put-line.result ≤ length c.put-line.new.1.0
 within c =
-    let most = laid-inside (replicate 22 0) (line_for (toldConverted c.before.before.before.args.c)) c.put-line.ensures c.put-line.auto.1.0 in
+    let most = laid_inside (replicate 22 0) (line_for (told_converted c.before.before.before.args.c)) c.put-line.ensures c.put-line.auto.1.0 in
     omega (arith, most, c.put-line.ensures.place, c.put-line.auto.1.0)
 
 pub print-spec : {M : Type 1} → statement M

@@ -9,10 +9,10 @@ use native.Mathlib.Numerals.{add-one}
 use lib.ListN.{length, take, drop, set, length-set}
 use lib.Seq.{take_at, take-suc-set}
 use Rattle.sheet.specs.Refusals.{given}
-use Rattle.sheet.specs.laws.RefusalLaws.{given-same, given-refused}
+use Rattle.sheet.specs.laws.RefusalLaws.{given_same, given_refused}
 use Rattle.report.specs.Text.{text_of}
-use Rattle.report.specs.Page.{toldLength}
-use Rattle.report.specs.laws.Longest.{text-most, answer-told}
+use Rattle.report.specs.Page.{told_length}
+use Rattle.report.specs.laws.Longest.{text_most, answer_told}
 use Rattle.streams.proofs.sheets.put_apart.Statement.{statement}
 use Rattle.streams.proofs.sheets.put_apart.Tie as tie
 
@@ -24,21 +24,21 @@ module _ (c : tie.After-write-answer) where
   text = text_of start.args.sheet.now
 
   -- the text stands in front, and its length is told
-  told : (toldLength c.write-answer.result ≡ given (length text)) × (c.write-answer.new.1.0 ≡ text ++ drop (length text) start.args.text.now)
-  told = answer-told start.args.sheet.now start.args.text.now c.write-answer.result c.write-answer.new.1.0 (omega (arith, start.pre)) c.write-answer.ensures
+  told : (told_length c.write-answer.result ≡ given (length text)) × (c.write-answer.new.1.0 ≡ text ++ drop (length text) start.args.text.now)
+  told = answer_told start.args.sheet.now start.args.text.now c.write-answer.result c.write-answer.new.1.0 (omega (arith, start.pre)) c.write-answer.ensures
 
   same : length c.write-answer.new.1.0 ≡ length start.args.text.now
   same = c.write-answer.auto.1.0
 
 -- its length
 len_is : (c : tie.After-told) → c.told.given.0.0 ≡ length (text c.before.before.before.before)
-len_is c = given-same (sym (ap toldLength c.told.given.1) ∙ (told c.before.before.before.before).0)
+len_is c = given_same (sym (ap told_length c.told.given.1) ∙ (told c.before.before.before.before).0)
 
 -- and the byte behind it is in the slice
 behind : (c : tie.After-told) → c.told.given.0.0 < length c.before.before.before.before.write-answer.new.1.0
 behind c =
     let w = c.before.before.before.before in
-    omega (arith, len_is c, text-most (start w).args.sheet.now, same w, (start w).requires)
+    omega (arith, len_is c, text_most (start w).args.sheet.now, same w, (start w).requires)
 
 returns : tie.Need-returns
 returns c =
@@ -56,7 +56,7 @@ returns c =
 returns-2 : tie.Need-returns-2
 returns-2 c =
     let w = c.before.before.before.before in
-    given-refused (sym (told w).0 ∙ ap toldLength c.enum_told.given.1)
+    given_refused (sym (told w).0 ∙ ap told_length c.enum_told.given.1)
 
 pub put-apart-spec : {M : Type 1} → statement M
 put-apart-spec =

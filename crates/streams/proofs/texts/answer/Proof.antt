@@ -7,15 +7,15 @@ use mathlib.Core.List.{List}
 use native.Mathlib.Omega.{arith}
 use lib.ListN.{length, drop, length-append}
 use Rattle.sheet.specs.Refusals.{Answer, given, refused}
-use Rattle.decimal.specs.laws.LaidLaws.{laid-inside, laid-taken}
-use Rattle.csv.specs.Read.{toldConverted, length_of, outputBy}
+use Rattle.decimal.specs.laws.LaidLaws.{laid_inside, laid_taken}
+use Rattle.sheet_csv.specs.Read.{told_converted, length_of, output_by}
 use Rattle.streams.specs.Parts.{line_for, ShortLine}
 use Rattle.streams.specs.Texts.{asked}
 use Rattle.streams.proofs.texts.answer.Statement.{statement}
 use Rattle.streams.proofs.texts.answer.Tie as tie
 
 -- what stands in front of the output has no more bytes than it
-inside : (a : Answer (List ℕ)) (o after : List ℕ) → length o ≤ 65536 → length after ≡ length o → after ≡ outputBy a o → ShortLine (length_of a)
+inside : (a : Answer (List ℕ)) (o after : List ℕ) → length o ≤ 65536 → length after ≡ length o → after ≡ output_by a o → ShortLine (length_of a)
 inside (given b) o after l k e = omega (arith, ap length e, length-append b (drop (length b) o))
 inside (refused m p) o after l k e = tt
 
@@ -31,11 +31,11 @@ returns c =
     let p = c.before.before in
     let v = p.before.before.before.before in
     let s = v.before.before.before.before.before in
-    let text = line_for (toldConverted v.converted.result) in
-    let room = laid-inside s.args.line.now text p.put-line.ensures p.put-line.auto.1.0 in
+    let text = line_for (told_converted v.converted.result) in
+    let room = laid_inside s.args.line.now text p.put-line.ensures p.put-line.auto.1.0 in
     record {
       inside = omega (arith, room, p.put-line.ensures.place, p.put-line.auto.1.0);
-      line = laid-taken s.args.line.now text p.put-line.ensures ∙ ap line_for v.converted.ensures.answer;
+      line = laid_taken s.args.line.now text p.put-line.ensures ∙ ap line_for v.converted.ensures.answer;
       bytes = v.converted.ensures.bytes;
     }
 

@@ -7,23 +7,23 @@ use mathlib.Core.List.{List}
 use lib.ListN.{length}
 use borrow.Author.Tests.{eq-eqb, ne_eqb}
 use Rattle.sheet.specs.Refusals.{Answer}
-use Rattle.csv.specs.Read.{sheetFrom, Converts}
-use Rattle.csv.specs.Table.{tableFrom}
-use Rattle.csv.specs.Write.{textFrom}
+use Rattle.sheet_csv.specs.Read.{sheet_from, Converts}
+use Rattle.sheet_csv.specs.Table.{table_from}
+use Rattle.sheet_csv.specs.Write.{text_from}
 use Rattle.streams.specs.Texts.{asked}
 use Rattle.streams.proofs.texts.converted.Statement.{statement}
 use Rattle.streams.proofs.texts.converted.Tie as tie
 
 -- what is asked by the case's first number
-reads : (what : ℕ) (input : List ℕ) (room : ℕ) → what ≡ 0 → sheetFrom input room ≡ asked what input room
+reads : (what : ℕ) (input : List ℕ) (room : ℕ) → what ≡ 0 → sheet_from input room ≡ asked what input room
 unfolding asked
 reads what input room e = rw (eq-eqb what 0 e)
 
-writes : (what : ℕ) (input : List ℕ) (room : ℕ) → (what ≡ 0 → ⊥) → what ≡ 1 → textFrom input room ≡ asked what input room
+writes : (what : ℕ) (input : List ℕ) (room : ℕ) → (what ≡ 0 → ⊥) → what ≡ 1 → text_from input room ≡ asked what input room
 unfolding asked
 writes what input room d e = rw (ne_eqb what 0 d, eq-eqb what 1 e)
 
-looks-again : (what : ℕ) (input : List ℕ) (room : ℕ) → (what ≡ 0 → ⊥) → (what ≡ 1 → ⊥) → tableFrom input room ≡ asked what input room
+looks-again : (what : ℕ) (input : List ℕ) (room : ℕ) → (what ≡ 0 → ⊥) → (what ≡ 1 → ⊥) → table_from input room ≡ asked what input room
 unfolding asked
 looks-again what input room d e = rw (ne_eqb what 0 d, ne_eqb what 1 e)
 

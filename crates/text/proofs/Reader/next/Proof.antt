@@ -42,7 +42,7 @@ use denote.Triple.Table.{entered, cited}
 use denote.Triple.Walked.{says, Stays, stay_none, walk_of, Goes-none, Walks, ends_at, walked, walk_Meets}
 use denote.Exit.{yes}
 use denote.Triple.Clauses.{ensured, lasts}
-use Rattle.fields.specs.Field.{fieldAt}
+use Rattle.fields.specs.Field.{field_at}
 use Rattle.text.specs.declared.Reader.{Reader}
 use Rattle.fields.specs.declared.Field.{Field as Step}
 use Rattle.text.specs.contracts.Reader as T
@@ -81,7 +81,7 @@ module _ {M : Type 1} {𝓤 : Ura M} (𝓛 : Logic 𝓤) (mem : Memory → SProp
   v = slice_val d.text.ref_ptr (length d.text.now)
 
   abbrev found : Step
-  found = fieldAt d.text.now d.at
+  found = field_at d.text.now d.at
 
   abbrev Post : Val → SProp 𝓤
   Post = (walk_of 𝓛 next.ended stayed (next.clauses 𝓛 mem run)).post (((κ, tt), (q, tt), tt, (d, tt), (mach ∷ [], tt)), tt)
