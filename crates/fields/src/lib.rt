@@ -1,4 +1,6 @@
 // One field of comma-separated text, as a number: what its bytes spell, its quotes taken away, how it ends, and where the next one starts.
+#![tactic(auto)]
+
 ghost use Rattle.std.specs.Prelude.{◌≡◌, ◌<◌, drop};
 ghost use Rattle.fields.specs.Number.{digit_of, longer_of};
 ghost use Rattle.fields.specs.Marks.{feeds, after_feed, seen_at, outside, inside};
