@@ -1,4 +1,6 @@
 // One field of comma-separated text, as a number: what its bytes spell, its quotes taken away, how it ends, and where the next one starts.
+#![tactic(auto)]
+
 ghost use Rattle.std.specs.Prelude.{◌≡◌, ◌<◌, drop};
 ghost use Rattle.fields.specs.Number.{digit_of, longer_of};
 ghost use Rattle.fields.specs.Marks.{feeds, after_feed, seen_at, outside, inside};
@@ -6,7 +8,7 @@ ghost use Rattle.fields.specs.Field.{field_of, field_at};
 ghost use Rattle.fields.specs.Rest.{is_bad, is_closed, plain_turn, closed_turn, quoted_turn, turn_of, marks_in};
 
 // What the bytes of a field spell, so far.
-#[derive(Drop)]
+#[derive(Clone, Copy)]
 pub enum Num {
     Empty,
     Value(u32),
