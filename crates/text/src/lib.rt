@@ -1,4 +1,6 @@
 // Comma-separated text, one field after another and one line after another.
+#![tactic(auto)]
+
 ghost use Rattle.std.specs.Prelude.{◌≡◌, ◌+◌, ◌<◌, ◌^◌, set};
 ghost use Rattle.fields.specs.Number.{value_of};
 ghost use Rattle.fields.specs.Field.{field_at};

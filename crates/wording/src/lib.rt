@@ -1,5 +1,7 @@
 // Words with marks for numbers, filled in and written behind what a page has. Where there is no room for a piece it is left out, so that nobody has to
 // look at the page first.
+#![tactic(auto)]
+
 ghost use Rattle.std.specs.Prelude.{◌+◌, ◌*◌, ◌≡◌, [], ◌∷◌, ◌++◌, length};
 ghost use Rattle.decimal.specs.Decimal.{decimal_of};
 ghost use Rattle.wording.specs.Words.{is_mark as isMarkOf, hundredths as hundredthsOf, tenths as tenthsOf, shown, named, piece_of, behind, pieces, longest_mark, room_of, most};
