@@ -12,10 +12,10 @@ ghost use Rattle.sheet_csv.specs.Write.{text_from};
 ghost use Rattle.barge_text.specs.Convert.{MadeInside, line_in, printed_by, Shows, Replies};
 
 use console::Read;
-use sheet_csv::Converted;
 use libc::{STDERR_FILENO, STDOUT_FILENO};
 use report::{Page, Told};
 use sheet::Refusal;
+use sheet_csv::Converted;
 
 // Where the word stands.
 const COMMAND: usize = 1;

@@ -1,4 +1,6 @@
 // A sheet edited where it stands: the first `len` bytes of a lent buffer are the sheet, and an edit gives its new length back.
+#![tactic(auto)]
+
 mod find;
 mod shift;
 

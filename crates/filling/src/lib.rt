@@ -1,5 +1,6 @@
 // A line of comma-separated text without the filling that a spreadsheet program adds to it: empty fields at the ends of rows, and rows of nothing else at the end.
 #![tactic(auto)]
+
 ghost use Rattle.std.specs.Prelude.{◌≡◌, true, cond, ◌+◌, ◌<◌, ◌^◌, drop};
 ghost use Rattle.fields.specs.Marks.{seen_at};
 ghost use Rattle.text.specs.declared.LineEnd.TheVariants.{More, Last};

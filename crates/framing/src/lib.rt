@@ -1,4 +1,6 @@
 // Rules 4, 5 and 6: the web, the section modulus and the shear area of a member.
+#![tactic(auto)]
+
 ghost use Rattle.std.specs.Prelude.{◌≡◌, ◌*◌, ◌<◌, ◌≤◌, ◌^◌};
 ghost use Rattle.gauge.specs.Ceil.{ceil_of};
 ghost use Rattle.loads.specs.Sources.{told_load};

@@ -1,4 +1,6 @@
 // The sheet's header: 96 bits in twelve bytes that every version has, and after them the bits that a version has of its own.
+#![tactic(auto)]
+
 ghost use Rattle.std.specs.Prelude.{◌≡◌, cond, ◌≤◌, ◌++◌, length, drop, eqb};
 ghost use Rattle.layout.specs.Layout.{pack, unpack, bytes, Fit};
 ghost use Rattle.layout.specs.Line.{among, fault_from};

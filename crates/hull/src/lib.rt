@@ -1,4 +1,6 @@
 // One record against Part 3: a plate answers to rules 1, 2 and 3, a member to rules 4, 5 and 6.
+#![tactic(auto)]
+
 ghost use Rattle.std.specs.Prelude.{◌≡◌};
 ghost use Rattle.verdict.specs.Judged.{told_judged, judged_by};
 ghost use Rattle.hull.specs.Hull.{finding};

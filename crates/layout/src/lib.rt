@@ -1,5 +1,7 @@
 // Numbers of 32, 64, 96 and 128 bits in bytes, most significant byte first: read from the front of a slice and written there. Too short a
 // slice is read as 0 and stays as it is, so that nobody has to look at its length first.
+#![tactic(auto)]
+
 pub mod powers;
 
 ghost use Rattle.std.specs.Prelude.{◌≡◌, cond, ◌≤◌, ◌<◌, length, take, drop, ◌++◌, reverse};

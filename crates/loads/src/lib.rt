@@ -1,4 +1,6 @@
 // The pressures on the bottom, in thousandths of a Pa, each with the load that it comes from, and the line load that a member bears.
+#![tactic(auto)]
+
 ghost use Rattle.std.specs.Prelude.{◌≡◌, cond, ◌-◌, max};
 ghost use Rattle.loads.specs.Loads.{water, wind as windOf, ballast as ballastOf, relief as reliefOf, two_run_water};
 ghost use Rattle.loads.specs.Sources.{number_of, told_load, told_line, line_named, heavier as heavierOf, sea_named, tank_named, bottom_named, inner_named, deep_named};

@@ -1,5 +1,7 @@
 // The fields of a header and of a record as plain numbers of 32 bits in layout order, and the header or the record that numbers are. Of numbers nothing is
 // known: the first that its field does not allow is refused at that field, however great it is.
+#![tactic(auto)]
+
 mod held;
 mod values;
 

@@ -1,6 +1,8 @@
 // How a member's least scantlings are worked out, as text that can be followed with a pencil: the loads that bear on it, for each rule the right side, the
 // root, the rounding, the last step tested and what the member has, then the verdict. A section is lines by their templates' numbers and registers; one loop
 // writes them.
+#![tactic(auto)]
+
 mod bearing;
 mod lines;
 mod members;

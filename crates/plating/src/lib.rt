@@ -1,4 +1,6 @@
 // Plates of the bottom and the inner bottom: rules 1, 2 and 3.
+#![tactic(auto)]
+
 ghost use Rattle.std.specs.Prelude.{◌≡◌, false, ◌*◌, ◌^◌, ◌≤◌, ◌<◌};
 ghost use Rattle.quantity.specs.Range.{thickness, pressure, steel_factor};
 ghost use Rattle.loads.specs.Sources.{told_load};

@@ -1,5 +1,7 @@
 // The eight quantities of the sheet. Each is a type of its own, so that none can be handed over for another; each has its lowest and
 // highest value, and a maker that refuses what lies outside them.
+#![tactic(auto)]
+
 ghost use Rattle.quantity.specs.Range.{span, spacing, thickness, modulus, shear_area, pressure, line_load, steel_factor};
 ghost use Rattle.quantity.specs.Made.{Makes, told_span, told_spacing, told_thickness, told_modulus, told_shear_area, told_pressure, told_line_load, told_steel_factor};
 
@@ -19,7 +21,7 @@ impl Span {
     pub const HIGH: u16 = 13500;
 
     pub fn make(x: u16) -> MadeSpan
-        ensures* { do ⌜ Makes span (← (⟦Span::LOW⟧).entry) (← (⟦Span::HIGH⟧).entry) x (told_span result) ⌝ }
+        ensures { Makes span Span.LOW Span.HIGH x (told_span result) }
     {
         if x < Span::LOW {
             return MadeSpan::Refused;
@@ -47,7 +49,7 @@ impl Spacing {
     pub const HIGH: u16 = 4000;
 
     pub fn make(x: u16) -> MadeSpacing
-        ensures* { do ⌜ Makes spacing (← (⟦Spacing::LOW⟧).entry) (← (⟦Spacing::HIGH⟧).entry) x (told_spacing result) ⌝ }
+        ensures { Makes spacing Spacing.LOW Spacing.HIGH x (told_spacing result) }
     {
         if x < Spacing::LOW {
             return MadeSpacing::Refused;
@@ -75,7 +77,7 @@ impl Thickness {
     pub const HIGH: u16 = 4000;
 
     pub fn make(x: u16) -> MadeThickness
-        ensures* { do ⌜ Makes thickness (← (⟦Thickness::LOW⟧).entry) (← (⟦Thickness::HIGH⟧).entry) x (told_thickness result) ⌝ }
+        ensures { Makes thickness Thickness.LOW Thickness.HIGH x (told_thickness result) }
     {
         if x < Thickness::LOW {
             return MadeThickness::Refused;
@@ -103,7 +105,7 @@ impl Modulus {
     pub const HIGH: u32 = 100000;
 
     pub fn make(x: u32) -> MadeModulus
-        ensures* { do ⌜ Makes modulus (← (⟦Modulus::LOW⟧).entry) (← (⟦Modulus::HIGH⟧).entry) x (told_modulus result) ⌝ }
+        ensures { Makes modulus Modulus.LOW Modulus.HIGH x (told_modulus result) }
     {
         if x < Modulus::LOW {
             return MadeModulus::Refused;
@@ -131,7 +133,7 @@ impl ShearArea {
     pub const HIGH: u16 = 16000;
 
     pub fn make(x: u16) -> MadeShearArea
-        ensures* { do ⌜ Makes shear_area (← (⟦ShearArea::LOW⟧).entry) (← (⟦ShearArea::HIGH⟧).entry) x (told_shear_area result) ⌝ }
+        ensures { Makes shear_area ShearArea.LOW ShearArea.HIGH x (told_shear_area result) }
     {
         if x < ShearArea::LOW {
             return MadeShearArea::Refused;
@@ -159,7 +161,7 @@ impl Pressure {
     pub const HIGH: u64 = 200000000;
 
     pub fn make(x: u64) -> MadePressure
-        ensures* { do ⌜ Makes pressure (← (⟦Pressure::LOW⟧).entry) (← (⟦Pressure::HIGH⟧).entry) x (told_pressure result) ⌝ }
+        ensures { Makes pressure Pressure.LOW Pressure.HIGH x (told_pressure result) }
     {
         if x < Pressure::LOW {
             return MadePressure::Refused;
@@ -187,7 +189,7 @@ impl LineLoad {
     pub const HIGH: u64 = 416415;
 
     pub fn make(x: u64) -> MadeLineLoad
-        ensures* { do ⌜ Makes line_load (← (⟦LineLoad::LOW⟧).entry) (← (⟦LineLoad::HIGH⟧).entry) x (told_line_load result) ⌝ }
+        ensures { Makes line_load LineLoad.LOW LineLoad.HIGH x (told_line_load result) }
     {
         if x < LineLoad::LOW {
             return MadeLineLoad::Refused;
@@ -215,7 +217,7 @@ impl SteelFactor {
     pub const HIGH: u16 = 1000;
 
     pub fn make(x: u16) -> MadeSteelFactor
-        ensures* { do ⌜ Makes steel_factor (← (⟦SteelFactor::LOW⟧).entry) (← (⟦SteelFactor::HIGH⟧).entry) x (told_steel_factor result) ⌝ }
+        ensures { Makes steel_factor SteelFactor.LOW SteelFactor.HIGH x (told_steel_factor result) }
     {
         if x < SteelFactor::LOW {
             return MadeSteelFactor::Refused;

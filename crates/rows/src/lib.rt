@@ -1,5 +1,6 @@
 // A line of comma-separated text as the bytes of a header or of a record: its numbers in layout order, the zero bits being 0.
 #![tactic(auto)]
+
 mod form;
 mod pack;
 

@@ -1,5 +1,7 @@
 // The yard's sheet: what its header and its records hold, and why one is turned away. A value outside its range can be held, so that writing can
 // refuse it.
+#![tactic(auto)]
+
 pub mod kinds;
 
 ghost use Rattle.std.specs.Prelude.{◌≡◌};

@@ -1,5 +1,6 @@
 // Sheets in and out as comma-separated text: a line for the header's fields and one for each record's.
 #![tactic(auto)]
+
 mod page;
 
 ghost use Rattle.std.specs.Prelude.{◌≡◌, [], ◌≤◌, length, take, false};

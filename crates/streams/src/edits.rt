@@ -6,9 +6,9 @@ ghost use Rattle.edit.specs.Edit.{Edits};
 ghost use Rattle.streams.specs.Edits.{asked_edit, IsDone};
 
 use crate::parts;
-use sheet_csv::Converted;
 use edit::Edited;
 use libc::STDIN_FILENO;
+use sheet_csv::Converted;
 
 // What is printed of an edit, and the length that the next one finds.
 #[derive(Drop)]

@@ -4,9 +4,9 @@ ghost use Rattle.decimal.specs.Laid.{Laid};
 ghost use Rattle.sheet_csv.specs.Read.{told_converted};
 ghost use Rattle.streams.specs.Parts.{number_at, fields_in, line_for, ShortLine};
 
-use sheet_csv::Converted;
 use libc::STDOUT_FILENO;
 use report::Told;
+use sheet_csv::Converted;
 
 // A refusal's longest line; a length's has fewer bytes.
 pub const LINE: usize = 22;

@@ -5,8 +5,8 @@ ghost use Rattle.sheet_csv.specs.Read.{Converts};
 ghost use Rattle.streams.specs.Texts.{asked, Answers};
 
 use crate::parts;
-use sheet_csv::Converted;
 use libc::STDOUT_FILENO;
+use sheet_csv::Converted;
 
 fn converted(what: u32, input: &[u8], out: &mut [u8]) -> Converted
     ensures { Converts (asked what input.now (length out.old)) out.old result out.new }

@@ -1,4 +1,6 @@
 // The verdict on one member: the first of its rules that fails, with the scantling that the rule requires.
+#![tactic(auto)]
+
 ghost use Rattle.std.specs.Prelude.{◌≡◌};
 ghost use Rattle.sheet.specs.Refusals.{told_outcome};
 ghost use Rattle.sheet.specs.Record.{of_plate, of_member};

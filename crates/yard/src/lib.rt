@@ -17,9 +17,9 @@ ghost use Rattle.sheet_csv.specs.Write.{text_from};
 ghost use Rattle.numbers.specs.Fields.{header_numbers, record_numbers};
 
 use checker::{Checked, Entry, EntryRead};
-use sheet_csv::Converted;
 use edit::Edited;
 use sheet::{HeaderRead, Outcome, RecordRead, Refusal};
+use sheet_csv::Converted;
 
 // A refusal's number counts these.
 const NUMBER: u64 = 1099511627776;

@@ -22,6 +22,8 @@ unpack_fit (w ∷ ws) n = (mod-lt (n / 2 ^ total ws) (pow_pos w), unpack_fit ws 
 pub pack_lt : (ws vs : List ℕ) → Fit ws vs → pack ws vs < 2 ^ total ws
 pack_lt [] [] f = omega arith
 pack_lt (w ∷ ws) (v ∷ vs) f = rw (pow-add 2 w (total ws)) (digits_lt f.0 (pack_lt ws vs f.1))
+pack_lt [] (v ∷ vs) f = elim f [ ]
+pack_lt (w ∷ ws) [] f = elim f [ ]
 
 -- what stands above a layout's bits does not show in its fields
 pub unpack_over : (ws : List ℕ) (a b : ℕ) → unpack ws (a * 2 ^ total ws + b) ≡ unpack ws b
@@ -41,6 +43,8 @@ unpack_pack (w ∷ ws) (v ∷ vs) f =
     ap₂ {C = List ℕ} (λ x xs. x ∷ xs)
     (ap (λ (x : ℕ). x % 2 ^ w) (high v (total ws) (pack_lt ws vs f.1)) ∙ mod-eq_of_lt f.0)
     (unpack_over ws v (pack ws vs) ∙ unpack_pack ws vs f.1)
+unpack_pack [] (v ∷ vs) f = elim f [ ]
+unpack_pack (w ∷ ws) [] f = elim f [ ]
 
 -- a layout in two parts
 total_append : (us ws : List ℕ) → total (us ++ ws) ≡ total us + total ws

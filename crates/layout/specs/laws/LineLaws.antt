@@ -23,6 +23,8 @@ none_all k (l ∷ ls) (v ∷ vs) e = go (allows l v) refl (none_all (suc k) ls v
 pub all_none : (k : ℕ) (ls : List Line) (vs : List ℕ) → Allowed ls vs → fault_from k ls vs ≡ 0
 all_none k [] [] a = refl
 all_none k (l ∷ ls) (v ∷ vs) a = rw a.0 (all_none (suc k) ls vs a.1)
+all_none k [] (v ∷ vs) a = elim a [ ]
+all_none k (l ∷ ls) [] a = elim a [ ]
 
 -- a fault is never numbered below the first field
 past : (k : ℕ) (ls : List Line) (vs : List ℕ) → 0 < fault_from (suc k) ls vs → k < fault_from (suc k) ls vs
@@ -110,6 +112,8 @@ allowed_fit [] [] f a = tt
 allowed_fit (l ∷ ls) (v ∷ vs) f a =
     let h = both _ _ f in
     (among_below (2 ^ l.width) l.values v h.0 a.0, allowed_fit ls vs h.1 a.1)
+allowed_fit [] (v ∷ vs) f a = elim a [ ]
+allowed_fit (l ∷ ls) [] f a = elim a [ ]
 
 -- the fault is numbered i + 1 exactly when the field at i is the first at fault
 module _ (ls : List Line) (vs : List ℕ) (same : length vs ≡ length ls) (i : ℕ) where
