@@ -1,4 +1,4 @@
-use Rattle.std.proofs.Common.{◌+◌, ◌-◌, sym, ap, ◌∙◌, arith}
+use Rattle.std.proofs.Common.{◌+◌, ◌-◌, sym, ap, ◌∙◌}
 use Rattle.text.specs.Line.{start_from}
 use Rattle.text.specs.laws.LineLaws.{start_stays, start_next, start_none}
 use Rattle.text.proofs.line_start.Goals as goal
