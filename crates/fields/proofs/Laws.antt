@@ -17,7 +17,7 @@ use Rattle.fields.specs.declared.Field.{Field}
 use Rattle.fields.specs.declared.Seen.{Seen}
 use Rattle.fields.specs.declared.Seen.TheVariants.{End, Comma, Line, Skip, Quote, Data}
 use Rattle.fields.specs.declared.Place.{Place}
-use Rattle.fields.specs.declared.Place.TheVariants.{Start, Inside, Closed}
+use Rattle.fields.specs.declared.Place.TheVariants.{Closed}
 
 pub past : (s : List ℕ) (at : ℕ) → length s ≤ at → drop at s ≡ []
 past s at h = drop_of_length-le s h

@@ -12,24 +12,21 @@ use Rattle.fields.specs.Marks.{Marks, seen, seen_at, by, outside, inside}
 use Rattle.fields.specs.Field.{field_of}
 use Rattle.fields.specs.Rest.{is_bad, is_closed, plain_turn, closed_turn, quoted_turn, turn_of, marks_in}
 use Rattle.fields.specs.declared.Num.{Num}
-use Rattle.fields.specs.declared.Num.TheVariants as Num
 use Rattle.fields.specs.declared.Place.{Place}
-use Rattle.fields.specs.declared.Place.TheVariants as Place
 use Rattle.fields.specs.declared.Seen.{Seen}
-use Rattle.fields.specs.declared.Seen.TheVariants as Seen
 use Rattle.fields.specs.declared.Mode.{Mode}
-use Rattle.fields.specs.declared.Mode.TheVariants as Mode
 use Rattle.fields.specs.declared.Turn.{Turn}
-use Rattle.fields.specs.declared.Turn.TheVariants as Turn
 use Rattle.fields.specs.declared.Field.{Field}
-use Rattle.fields.specs.declared.Field.TheVariants as Field
+
+two_bad : (t u : Bool) → cond t Num.Bad (cond u Num.Bad Num.Bad) ≡ Num.Bad
+two_bad true u = refl
+two_bad false true = refl
+two_bad false false = refl
 
 -- what is no number stays none
 pub stays : (b : ℕ) → digit_of Num.Bad b ≡ Num.Bad
 unfolding digit_of
-stays b =
-    let go : (t u : Bool) → cond t Num.Bad (cond u Num.Bad Num.Bad) ≡ Num.Bad = λ t u. elim t [ true ↦ refl | false ↦ elim u [ true ↦ refl | false ↦ refl ] ] in
-    go (ltb b 48) (ltb 57 b)
+stays b = two_bad (ltb b 48) (ltb 57 b)
 
 -- the field, after a turn
 abbrev pub turned : Turn → ℕ → List ℕ → Field

@@ -1,9 +1,6 @@
 -- The lines of a text, each a list of fields, each field its bytes; up to the first line with a quote that is unclosed or out of place.
-use Rattle.std.specs.Prelude.{ℕ, ◌+◌, List, [], ◌∷◌}
-use Rattle.fields.specs.Number.{digit_of, value_of}
+use Rattle.std.specs.Prelude.{ℕ, List, [], ◌∷◌}
 use Rattle.fields.specs.Marks.{Marks, marks_at}
-use Rattle.fields.specs.declared.Num.{Num}
-use Rattle.fields.specs.declared.Num.TheVariants.{Empty}
 
 -- no line more; a line whose quotes are at fault, after which nothing is read; a line of fields, and those after it
 pub data Lines : Type 0 where

@@ -2,15 +2,10 @@
 use Rattle.std.specs.Prelude.{ℕ, List, [], ◌∷◌, Bool, true, false, cond, eqb}
 use Rattle.fields.specs.Marks.{Marks, seen_at, outside, inside}
 use Rattle.fields.specs.declared.Num.{Num}
-use Rattle.fields.specs.declared.Num.TheVariants as Num
 use Rattle.fields.specs.declared.Place.{Place}
-use Rattle.fields.specs.declared.Place.TheVariants as Place
 use Rattle.fields.specs.declared.Seen.{Seen}
-use Rattle.fields.specs.declared.Seen.TheVariants as Seen
 use Rattle.fields.specs.declared.Mode.{Mode}
-use Rattle.fields.specs.declared.Mode.TheVariants as Mode
 use Rattle.fields.specs.declared.Turn.{Turn}
-use Rattle.fields.specs.declared.Turn.TheVariants as Turn
 
 abbrev pub is_bad : Num → Bool
 is_bad Num.Bad = true

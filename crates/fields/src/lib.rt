@@ -8,7 +8,7 @@ ghost use Rattle.fields.specs.Field.{field_of, field_at};
 ghost use Rattle.fields.specs.Rest.{is_bad, is_closed, plain_turn, closed_turn, quoted_turn, turn_of, marks_in};
 
 // What the bytes of a field spell, so far.
-#[derive(Drop)]
+#[derive(Clone, Copy)]
 pub enum Num {
     Empty,
     Value(u32),

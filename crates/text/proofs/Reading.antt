@@ -4,10 +4,7 @@ use Prim.Native.Nat.{ℕ, ◌+◌}
 use mathlib.Core.Path.{◌≡◌, refl, sym, ap, ◌∙◌}
 use mathlib.Core.List.{List, [], ◌∷◌, ◌++◌, append_assoc, append-nil}
 use lib.ListN.{length, set, length-append}
-use Rattle.fields.specs.declared.Num.{Num}
-use Rattle.fields.specs.Number.{value_of}
 use Rattle.text.specs.declared.LineEnd.{LineEnd}
-use Rattle.text.specs.declared.Line.{Line}
 use Rattle.text.specs.Line.{Numbers, behind, over, Reads}
 use Rattle.text.specs.laws.LineLaws.{over_more, over_length}
 

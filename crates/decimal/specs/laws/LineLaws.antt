@@ -1,6 +1,6 @@
 -- A line reads back as its numbers.
 -- Assumes nothing.
-use Rattle.std.specs.Prelude.{ℕ, ◌+◌, ◌≤◌, ◌<◌, ◌≡◌, refl, List, [], ◌∷◌, ◌++◌, map, length}
+use Rattle.std.specs.Prelude.{ℕ, ◌≤◌, ◌<◌, ◌≡◌, refl, List, [], ◌∷◌, ◌++◌, map, length}
 use Rattle.std.proofs.Common.{sym, ap, ap₂, ◌∙◌, append_assoc, append-nil, arith, eq-eqb, ne_eqb}
 use Rattle.decimal.specs.Decimal.{decimal_of, value_of}
 use Rattle.decimal.specs.laws.DecimalLaws.{Digits, decimal_back, decimal_digits, decimal_some}

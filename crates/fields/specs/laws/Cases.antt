@@ -1,9 +1,9 @@
 -- What some texts say.
 -- Assumes nothing.
-use Rattle.std.specs.Prelude.{◌≡◌, refl, List, [], ◌∷◌}
-use Rattle.fields.specs.Marks.{seen_at, outside, marks_at}
+use Rattle.std.specs.Prelude.{◌≡◌, refl, [], ◌∷◌}
+use Rattle.fields.specs.Marks.{outside, marks_at}
 use Rattle.fields.specs.Number.{number_of, digits_of, digit_of, longer_of}
-use Rattle.fields.specs.Lines.{Lines, lines_of, lines_at, lines_in, none, bad, row}
+use Rattle.fields.specs.Lines.{lines_of, lines_at, lines_in, none, bad, row}
 use Rattle.fields.specs.declared.Num.TheVariants.{Empty, Value, Bad}
 
 -- the empty text is one line with one empty field, and so is a line end alone

@@ -2,12 +2,11 @@
 -- fault.
 -- Assumes nothing.
 use Rattle.std.specs.Prelude.{ℕ, suc, ◌+◌, ◌≤◌, ◌<◌, ◌≡◌, refl, Bool, true, false, cond, List, [], ◌∷◌, eqb, length, drop}
-use Rattle.std.proofs.Common.{sym, ap, ◌∙◌, subst, arith, length-drop, drop-drop}
+use Rattle.std.proofs.Common.{ap, ◌∙◌, arith, length-drop, drop-drop}
 use Rattle.fields.specs.Number.{digit_of, digits_of}
 use Rattle.fields.specs.Marks.{Marks, seen, by, outside, inside, marks_at}
-use Rattle.fields.specs.Field.{field_of, field_at}
+use Rattle.fields.specs.Field.{field_of}
 use Rattle.fields.specs.declared.Num.{Num}
-use Rattle.fields.specs.declared.Num.TheVariants.{Empty}
 use Rattle.fields.specs.declared.Seen.{Seen}
 use Rattle.fields.specs.declared.Seen.TheVariants.{End, Comma, Line, Skip, Quote, Data}
 use Rattle.fields.specs.declared.Place.{Place}

@@ -1,6 +1,6 @@
 -- The fields of a row without its filling counted one after another, and its numbers.
 -- Assumes nothing.
-use Rattle.std.specs.Prelude.{ℕ, zero, suc, ◌+◌, ◌-◌, ◌≤◌, ◌<◌, ◌≡◌, Bool, ◌&&◌, List, [], ◌∷◌, ◌++◌, eqb, get_or, drop}
+use Rattle.std.specs.Prelude.{ℕ, zero, suc, ◌+◌, ◌≤◌, ◌<◌, ◌≡◌, Bool, ◌&&◌, List, [], ◌∷◌, ◌++◌, eqb, get_or, drop}
 use Rattle.std.proofs.Math.Path.{refl, sym, ap, ap₂, subst}
 use Rattle.std.proofs.Common.{◌∙◌, arith, add-one, take-append-drop, drop_of_length-le, drop-cons}
 use Rattle.std.proofs.Math.Bool.{true, false, cond}
@@ -14,7 +14,6 @@ use Rattle.fields.specs.laws.First.{prefix, First, comma, line, end, fault, firs
 use Rattle.fields.specs.declared.Num.{Num}
 use Rattle.fields.specs.declared.Num.TheVariants.{Empty}
 use Rattle.fields.specs.declared.Field.{Field}
-use Rattle.fields.specs.declared.Field.TheVariants as Field
 use Rattle.fields.specs.declared.Place.TheVariants.{Start}
 use Rattle.text.specs.declared.LineEnd.{LineEnd}
 use Rattle.text.specs.declared.LineEnd.TheVariants.{More, Last, Fault}

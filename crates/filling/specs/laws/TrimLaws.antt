@@ -314,6 +314,7 @@ left_rows s = go (by_steps (length s) s 0 (omega arith))
 onto_plain : (b : ℕ) (r : Rows) → Filled r → plain (onto_row b r) ≡ onto_line b (plain r)
 onto_plain b none f = refl
 onto_plain b bad f = refl
+onto_plain b (row [] rs) f = elim f [ ]
 onto_plain b (row (c ∷ cs) rs) f = refl
 
 more_plain : (s : List ℕ) (at : ℕ) (r : Rows) → plain (cell_more (cell s at) r) ≡ field_more (plain r)
@@ -328,6 +329,7 @@ filled s (Marks.byte b m) at = go (rows_of s m at) (filled s m at)
     go : (r : Rows) → Filled r → Filled (onto_row b r)
     go none f = tt
     go bad f = tt
+    go (row [] rs) f = elim f [ ]
     go (row (c ∷ cs) rs) f = tt
 filled s (Marks.comma next m) at = go (rows_of s m next)
   where

@@ -189,9 +189,13 @@ module _ {A B : Type 0} (f : A → ℕ) (g : B → ℕ) (k : ℕ) where
   pub same_place : (xs : List A) (ys : List B) → SameKeys xs ys → position_of f k xs ≡ position_of g k ys
   unfolding position_of
   same_place [] [] none = refl
+  same_place [] (y ∷ ys) s = elim s [ ]
+  same_place (x ∷ xs) [] s = elim s [ ]
   same_place (x ∷ xs) (y ∷ ys) (next e s) = rw (e, same_place xs ys s)
 
   pub same_has : (xs : List A) (ys : List B) → SameKeys xs ys → has_of f k xs ≡ has_of g k ys
   unfolding has_of
   same_has [] [] none = refl
+  same_has [] (y ∷ ys) s = elim s [ ]
+  same_has (x ∷ xs) [] s = elim s [ ]
   same_has (x ∷ xs) (y ∷ ys) (next e s) = rw (e, same_has xs ys s)

@@ -1,19 +1,17 @@
 -- A line, by its first field; and what the lines of a text are, by the first of them.
 -- Assumes nothing.
 use Prim.Native.Nat.{ℕ, zero, suc, ◌+◌, ◌-◌, ◌≤◌, ◌<◌}
-use Rattle.std.specs.Prelude.{◌≡◌, refl, List, [], ◌∷◌, ◌++◌, map, length, set}
+use Rattle.std.specs.Prelude.{◌≡◌, refl, List, [], ◌∷◌, ◌++◌, length, set}
 use Rattle.std.proofs.Math.Path.{sym, ap, ap₂}
-use Rattle.std.proofs.Common.{◌∙◌, append_assoc}
+use Rattle.std.proofs.Common.{◌∙◌}
 use native.Mathlib.Omega.{arith}
 use Rattle.fields.specs.Number.{digit_of, digits_of, number_of, value_of}
 use Rattle.fields.specs.Marks.{Marks, marks_at}
 use Rattle.fields.specs.Field.{field_of, field_at}
 use Rattle.fields.specs.laws.First.{prefix, First, comma, line, end, fault, first, field_prefix}
-use Rattle.fields.specs.Lines.{Lines, none, bad, row, onto, onto_line, field_more, lines_of, lines_at}
 use Rattle.fields.specs.declared.Num.{Num}
 use Rattle.fields.specs.declared.Num.TheVariants.{Empty}
 use Rattle.fields.specs.declared.Field as field
-use Rattle.text.specs.declared.LineEnd.{LineEnd}
 use Rattle.text.specs.declared.LineEnd.TheVariants.{More, Last, Fault}
 use Rattle.text.specs.Line.{Numbers, behind, line_of, line_at, over, next_of, start_from}
 

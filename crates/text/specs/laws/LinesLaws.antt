@@ -1,16 +1,16 @@
 -- The lines of a text from a line's start on, by the first of them.
 -- Assumes nothing.
-use Rattle.std.specs.Prelude.{ℕ, zero, suc, ◌+◌, ◌-◌, ◌≤◌, ◌<◌, ◌≡◌, refl, length}
-use Rattle.std.proofs.Common.{sym, ap₂, ◌∙◌, arith}
+use Rattle.std.specs.Prelude.{ℕ, zero, suc, ◌+◌, ◌≤◌, ◌<◌, ◌≡◌, refl, length}
+use Rattle.std.proofs.Common.{◌∙◌, arith}
 use Rattle.std.proofs.Math.Path.{ap}
 use mathlib.Core.List.{List, [], ◌∷◌, map}
-use Rattle.fields.specs.Number.{digits_of, number_of, value_of}
+use Rattle.fields.specs.Number.{number_of, value_of}
 use Rattle.fields.specs.Marks.{Marks, marks_at}
 use Rattle.fields.specs.laws.First.{prefix, First, comma, line, end, fault, first}
 use Rattle.fields.specs.Lines.{Lines, none, bad, row, onto_line, field_more, lines_of, lines_at}
 use Rattle.fields.specs.declared.Num.TheVariants.{Empty}
 use Rattle.text.specs.declared.LineEnd.TheVariants.{More, Last, Fault}
-use Rattle.text.specs.Line.{Numbers, behind, line_of, line_at}
+use Rattle.text.specs.Line.{behind, line_of, line_at}
 use Rattle.text.specs.laws.LineLaws.{line_prefix}
 
 -- the number of a field, by its bytes

@@ -1,0 +1,7 @@
+use Rattle.std.proofs.Common.{arith}
+use Rattle.wording.specs.laws.WritesLaws.{and_then, within}
+use Rattle.wording.proofs.put_hundredths.Goals as goal
+
+-- one number behind another
+pub returns : goal.returns
+returns c = within _ (omega arith) (and_then (and_then (and_then c.put_number-whole.ensures c.put_number-point.ensures) c.put_number-tenth.ensures) c.put_number.ensures)
