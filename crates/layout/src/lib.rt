@@ -19,7 +19,7 @@ pub struct Short {
 }
 
 // A number of 128 bits: hi · 2⁶⁴ + lo.
-#[derive(Drop)]
+#[derive(Clone, Copy)]
 pub struct Long {
     pub hi: u64,
     pub lo: u64,

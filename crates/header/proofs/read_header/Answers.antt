@@ -1,5 +1,4 @@
 -- `header::read_header` meets its contract.
-use borrow.Author.Rules.{rules}
 use native.Mathlib.Omega.{arith}
 use Prim.Native.Nat.{ℕ, ◌+◌, ◌*◌, ◌%◌, ◌^◌, ◌<◌}
 use mathlib.Core.Path.{◌≡◌, refl, sym, ap, ◌∙◌}
@@ -11,15 +10,6 @@ use Rattle.layout.specs.laws.Tail.{mid_tail}
 use Rattle.sheet.specs.Lines.{first_widths}
 use Rattle.header.proofs.Fields.{first_fields_lem}
 use Rattle.header.proofs.Answers.{read_few, read_under, read_good, read_bad}
-use Rattle.std.proofs.Common.{cond, ◌≤◌, ◌++◌, length, eqb, ◌-◌, ◌/◌, Bool, true, false, nat_lt, [], ◌∷◌, slice_index_or, slice_set, bit_and, bit_or, Fits, w8, w32, w64, Bor, MutBor}
-use Rattle.layout.specs.Layout.{pack, bytes, Fit}
-use Rattle.layout.specs.Line.{among, fault_from}
-use Rattle.layout.specs.Bytes.{short_of}
-use Rattle.sheet.specs.Versions.{numbered, version_of}
-use Rattle.sheet.specs.Lines.{waves, own_widths}
-use Rattle.sheet.specs.Refusals.{given, told_outcome, told_header, header_refused}
-use Rattle.sheet.specs.Header.{first_values, own_values, own_at, header_at, raw_fault, header_fault, fields_in, own_bytes, header_needs, read_header, write_header}
-use Rattle.sheet.specs.Writes.{Writes}
 use Rattle.header.proofs.read_header.Goals.{After-read_word-rest}
 use Rattle.header.proofs.read_header.Goals as goal
 

@@ -1,5 +1,4 @@
 -- `header::write_header` meets its contract.
-use borrow.Author.Rules.{rules}
 use native.Mathlib.Omega.{arith}
 use Prim.Native.Nat.{◌≤◌}
 use mathlib.Core.Path.{◌≡◌, sym, ap, ◌∙◌}
@@ -9,15 +8,6 @@ use Rattle.sheet.specs.Header.{header_size, header_fault}
 use Rattle.sheet.specs.laws.VersionLaws.{regular}
 use Rattle.sheet.specs.laws.HeaderLaws.{header_fit}
 use Rattle.header.proofs.Answers.{write_under, write_bad, room, write_good, both_parts}
-use Rattle.std.proofs.Common.{cond, ◌++◌, drop, eqb, ℕ, ◌+◌, ◌-◌, ◌*◌, ◌<◌, ◌/◌, ◌%◌, Bool, true, false, nat_lt, List, [], ◌∷◌, slice_index_or, slice_set, bit_and, bit_or, Fits, w8, w32, w64, Bor, MutBor}
-use Rattle.layout.specs.Layout.{pack, unpack, bytes, Fit}
-use Rattle.layout.specs.Line.{among, fault_from}
-use Rattle.layout.specs.Bytes.{short_of}
-use Rattle.sheet.specs.Versions.{numbered, version_of}
-use Rattle.sheet.specs.Lines.{waves, first_widths, own_widths}
-use Rattle.sheet.specs.Refusals.{given, told_outcome, told_header, header_refused}
-use Rattle.sheet.specs.Header.{first_values, own_values, own_at, header_at, raw_fault, fields_in, own_bytes, header_needs, read_header, write_header}
-use Rattle.sheet.specs.Writes.{Writes}
 use Rattle.header.proofs.write_header.Goals.{Else-f-ne0}
 use Rattle.header.proofs.write_header.Goals as goal
 

@@ -1,5 +1,4 @@
 -- `header::write_own` meets its contract.
-use borrow.Author.Rules.{rules}
 use Prim.Native.Nat.{ℕ, ◌<◌}
 use mathlib.Core.Path.{◌≡◌, refl, sym, ap, ◌∙◌}
 use mathlib.Core.List.{List, ◌++◌}
@@ -12,15 +11,6 @@ use Rattle.sheet.specs.declared.Own.TheVariants.{One, Two}
 use Rattle.sheet.specs.Versions.{first_bytes, version_of}
 use Rattle.sheet.specs.Lines.{own_widths}
 use Rattle.sheet.specs.Header.{own_values, own_bytes}
-use Rattle.std.proofs.Common.{cond, ◌≤◌, length, eqb, ◌+◌, ◌-◌, ◌*◌, ◌/◌, ◌%◌, Bool, true, false, nat_lt, [], ◌∷◌, slice_index_or, slice_set, bit_and, bit_or, Fits, w8, w32, w64, Bor, MutBor}
-use Rattle.layout.specs.Layout.{Fit}
-use Rattle.layout.specs.Line.{among, fault_from}
-use Rattle.layout.specs.Bytes.{short_of}
-use Rattle.sheet.specs.Versions.{numbered}
-use Rattle.sheet.specs.Lines.{waves, first_widths}
-use Rattle.sheet.specs.Refusals.{given, told_outcome, told_header, header_refused}
-use Rattle.sheet.specs.Header.{first_values, own_at, header_at, raw_fault, header_fault, fields_in, header_needs, read_header, write_header}
-use Rattle.sheet.specs.Writes.{Writes}
 use Rattle.header.proofs.write_own.Goals as goal
 
 -- `header::write_own` meets its contract.
