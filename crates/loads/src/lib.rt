@@ -32,7 +32,7 @@ impl Source {
 }
 
 // A pressure that says what it comes from.
-#[derive(Drop)]
+#[derive(Clone, Copy)]
 pub struct Load {
     pub pressure: Pressure,
     pub source: Source,

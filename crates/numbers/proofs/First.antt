@@ -74,6 +74,10 @@ Agree (a ∷ os) (x ∷ xs) [] = ⊥
 Agree (a ∷ os) (x ∷ xs) (s ∷ ss) = (a ≡ (x && s)) × (a ≡ true → Agree os xs ss)
 
 pub agree_fault : (k : ℕ) (os xs ss : List Bool) → Agree os xs ss → fault_of (suc k) os ≡ first_of (fault_of (suc k) ss) (fault_of (suc k) xs)
+agree_fault k [] [] (s ∷ ss) h = elim h [ ]
+agree_fault k [] (x ∷ xs) ss h = elim h [ ]
+agree_fault k (a ∷ os) [] ss h = elim h [ ]
+agree_fault k (a ∷ os) (x ∷ xs) [] h = elim h [ ]
 agree_fault k [] [] [] h = refl
 agree_fault k (a ∷ os) (x ∷ xs) (s ∷ ss) h = go x s a h.0 (λ t. agree_fault (suc k) os xs ss (h.1 t))
   where

@@ -1,6 +1,6 @@
 -- What another number in place of a scantling does to the verdict, over any list of rules: it is a pass or a later rule exactly where the rule named is met.
 -- Assumes nothing.
-use Rattle.std.specs.Prelude.{ℕ, ◌≤◌, ◌<◌, ◌≡◌, Bool, true, false, cond, List, [], ◌∷◌, eqb}
+use Rattle.std.specs.Prelude.{ℕ, ◌≤◌, ◌<◌, ◌≡◌, Bool, true, false, cond, List, [], ◌∷◌}
 use Rattle.std.proofs.Common.{sym, ap, subst, ◌∙◌, arith, eq-eqb, ne_eqb}
 use Rattle.verdict.specs.declared.Verdict.{Verdict}
 use Rattle.verdict.specs.Verdict.{Rule, failing, verdict_of, met_in}
@@ -11,6 +11,8 @@ rising_put : (n k x : ℕ) (low : Type 0) (rs ss : List Rule) → AllPut k x low
 rising_put n k x low [] [] a o = tt
 rising_put n k x low (r ∷ rs) (s ∷ ss) a o =
     (omega (arith, a.0.number, o.0), subst (λ (m : ℕ). Rising m ss) (sym a.0.number) (rising_put r.number k x low rs ss a.1 o.1))
+rising_put n k x low [] (s ∷ ss) a o = elim a [ ]
+rising_put n k x low (r ∷ rs) [] a o = elim a [ ]
 
 -- the verdict of a rule that is not above k is not later than k
 not_later : (n k : ℕ) (s : Rule) → n < s.number → s.number ≤ k → Later k (failing s) → ⊥
@@ -27,6 +29,8 @@ module _ (x : ℕ) (low : Type 0) (v : Verdict) where
   put_met n (r ∷ rs) (s ∷ ss) o a (there t f) =
       let l = failing_above r.number v rs o.1 f in
       rw (ne_eqb s.number v.rule (λ e. omega (arith, a.0.number))) (put_met r.number rs ss o.1 a.1 f)
+  put_met n [] ss o a f = elim f [ ]
+  put_met n (r ∷ rs) [] o a f = elim a [ ]
 
   -- where it is met, the verdict is a pass or a later rule
   pub put_later : (n : ℕ) (rs ss : List Rule) → Rising n rs → AllMonotone rs → AllPut v.rule x low rs ss → low → (f : Failing v rs) → (the_rule f).asks x ≡ true → Later v.rule (verdict_of ss)
@@ -37,6 +41,8 @@ module _ (x : ℕ) (low : Type 0) (v : Verdict) where
   put_later n (r ∷ rs) (s ∷ ss) o m a l (there u f) t =
       let met : s.asks s.has ≡ true = ap (λ (g : ℕ → Bool). g s.has) a.0.asks ∙ m.0 r.has s.has (a.0.no_lower l) u in
       rw met (put_later r.number rs ss o.1 m.1 a.1 l f t)
+  put_later n [] ss o m a l f t = elim f [ ]
+  put_later n (r ∷ rs) [] o m a l f t = elim a [ ]
 
   -- and where it is not, it is neither
   pub put_fails : (n : ℕ) (rs ss : List Rule) → Rising n rs → AllPut v.rule x low rs ss → (f : Failing v rs) → (the_rule f).asks x ≡ false → Later v.rule (verdict_of ss) → ⊥
@@ -49,6 +55,8 @@ module _ (x : ℕ) (low : Type 0) (v : Verdict) where
       go : (b : Bool) → (Later v.rule (verdict_of ss) → ⊥) → Later v.rule (cond b (verdict_of ss) (failing s)) → ⊥
       go true on z = on z
       go false on z = not_later n v.rule s (omega (arith, a.0.number, o.0)) (omega (arith, a.0.number, failing_above r.number v rs o.1 f)) z
+  put_fails n [] ss o a f t w = elim f [ ]
+  put_fails n (r ∷ rs) [] o a f t w = elim a [ ]
 
 -- raised to the number required, the verdict is a pass or a later rule
 pub raised_later : (n : ℕ) (v : Verdict) (rs ss : List Rule) (f : Failing v rs) → Rising n rs → AllMonotone rs

@@ -8,7 +8,7 @@ use Rattle.gauge.specs.Least.{least_in, number_of, Monotone}
 use Rattle.gauge.specs.laws.LeastLaws.{least_is_lem, smaller_fails, none_passes, none_given, larger_passes, fails_below}
 use Rattle.verdict.specs.declared.Verdict.{Verdict}
 use Rattle.verdict.specs.Verdict.{Rule, pass, failing, verdict_of}
-use Rattle.verdict.specs.Raising.{Required, All, Met, AllMonotone, Failing, here, there, the_rule, Names, Found, passes, fails, Rising, Later, passed, above}
+use Rattle.verdict.specs.Raising.{Required, All, AllMonotone, Failing, here, there, the_rule, Names, Found, passes, fails, Rising, Later, passed, above}
 
 -- ---- the number required
 
@@ -96,6 +96,7 @@ has_under (there t f) m q = has_under f m.1 q
 pub failing_above : (n : ℕ) (v : Verdict) (rs : List Rule) → Rising n rs → Failing v rs → n < v.rule
 failing_above n v (r ∷ rs) o (here f e) = subst (λ (w : Verdict). n < w.rule) (sym e) o.0
 failing_above n v (r ∷ rs) o (there t f) = omega (arith, failing_above r.number v rs o.1 f, o.0)
+failing_above n v [] o x'' = elim x'' [ ]
 
 pub later_of : (n : ℕ) (rs : List Rule) → Rising n rs → Later n (verdict_of rs)
 later_of n rs o = go (found rs)

@@ -1,0 +1,59 @@
+-- `plating::judge` meets its contract.
+use borrow.Author.Rules.{rules}
+use mathlib.Core.Path.{◌≡◌, sym, ap, ◌∙◌}
+use Rattle.loads.specs.Sources.{Named, told_load}
+use Rattle.sheet.specs.Record.{of_plate}
+use Rattle.sheet.specs.laws.HeaderLaws.{header_ranges}
+use Rattle.sheet.specs.laws.RecordLaws.{plate_ranges}
+use Rattle.verdict.specs.Judged.{Sound}
+use Rattle.verdict.specs.laws.JudgedLaws.{admitted_sound, turned_away, found_given}
+use Rattle.plating.specs.Rules.{plate_pressure, plate_named, plate_verdict, plate_finding}
+use Rattle.plating.specs.laws.Laws.{plate_pressure_lem}
+use Rattle.std.proofs.Common.{false, ◌*◌, ◌^◌, ◌≤◌, ◌<◌, ℕ, ◌+◌, ◌-◌, length, ◌/◌, ◌%◌, Bool, true, nat_eq, nat_lt, List, [], ◌∷◌, ◌++◌, slice_index_or, slice_set, bit_and, bit_or, Fits, w8, w32, w64, Bor, MutBor}
+use Rattle.quantity.specs.Range.{thickness, pressure, steel_factor}
+use Rattle.sheet.specs.Kinds.{is_long}
+use Rattle.sheet.specs.Lines.{plate_spacing}
+use Rattle.sheet.specs.Ranges.{HeaderRanges, PlateRanges}
+use Rattle.verdict.specs.Verdict.{verdict_of}
+use Rattle.verdict.specs.Judged.{told_judged, judged_by}
+use Rattle.plating.specs.Rules.{R, plate_modulus, K2, allowance, is_second, plate_rules}
+use Rattle.plating.specs.Shapes.{square_shape, over_shape, excess_shape, shape1, shape2, first_shape, second_shape, shape3}
+use Rattle.plating.specs.Work.{panel_k2, told_work, work_of, told_worked}
+use Rattle.plating.specs.Bounds.{Panel, greatest_r}
+use Rattle.plating.proofs.judge.Goals.{After-load-load, In_default}
+use Rattle.plating.proofs.judge.Goals as goal
+
+-- `plating::judge` meets its contract.
+-- Assumes nothing.
+-- where nothing is at fault
+sound : (c : In_default) → let a = c.args in Sound a.h (of_plate a.kind a.id a.p)
+sound c = admitted_sound _ _ _ c.admitted_plate-admitted.ensures c.in_default.is
+
+-- the load's pressure is the one that the rules go by
+load-pressure : (c : After-load-load) → let a = c.args in c.load-load.result.pressure.0 ≡ plate_pressure a.h a.kind a.p
+load-pressure c =
+    let a = c.args in
+    let named : told_load c.load-load.result ≡ plate_named a.h a.kind a.p = c.load-load.ensures in
+    ap (λ (n : Named). n.pressure) named ∙ plate_pressure_lem a.h a.kind a.p
+
+-- src/lib.rt:297:9
+pub returns-in-Refused : goal.returns-in-Refused
+returns-in-Refused c =
+    let a = c.args in
+    turned_away a.h (of_plate a.kind a.id a.p) _ c.admitted_plate-admitted.ensures (plate_finding a.h a.kind a.p) _ c.in-Refused.is
+
+-- src/lib.rt:301:21
+pub plate_verdict-requires : goal.plate_verdict-requires
+plate_verdict-requires c =
+    let a = c.args in
+    let s = sound (goal.at.plate_verdict-requires c).In_default in
+    (header_ranges a.h s.header, plate_ranges a.kind a.id a.p 0 s.body, load-pressure c)
+
+-- src/lib.rt:292:1
+-- LOOK: κs/given
+pub returns : goal.returns
+returns c =
+    let a = c.args in
+    let judged : c.plate_verdict.result ≡ plate_verdict a.h a.kind a.p = c.plate_verdict.ensures in
+    let named : told_load c.load-load.result ≡ plate_named a.h a.kind a.p = c.load-load.ensures in
+    found_given a.h (of_plate a.kind a.id a.p) (sound (goal.at.returns c).In_default) judged (ap (λ (n : Named). n.source) named)

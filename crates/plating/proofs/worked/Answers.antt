@@ -1,0 +1,51 @@
+-- `plating::worked` meets its contract.
+use borrow.Author.Rules.{rules}
+use mathlib.Core.Path.{◌≡◌, sym, ap, ◌∙◌}
+use Rattle.sheet.specs.Refusals.{given}
+use Rattle.sheet.specs.Record.{of_plate}
+use Rattle.sheet.specs.laws.HeaderLaws.{header_ranges}
+use Rattle.sheet.specs.laws.RecordLaws.{plate_ranges}
+use Rattle.verdict.specs.Judged.{Sound}
+use Rattle.verdict.specs.laws.JudgedLaws.{admitted_sound, turned_away, sound_given}
+use Rattle.plating.specs.Work.{told_work, work_of}
+use Rattle.std.proofs.Common.{false, ◌*◌, ◌^◌, ◌≤◌, ◌<◌, ℕ, ◌+◌, ◌-◌, length, ◌/◌, ◌%◌, Bool, true, nat_eq, nat_lt, List, [], ◌∷◌, ◌++◌, slice_index_or, slice_set, bit_and, bit_or, Fits, w8, w32, w64, Bor, MutBor}
+use Rattle.quantity.specs.Range.{thickness, pressure, steel_factor}
+use Rattle.loads.specs.Sources.{told_load}
+use Rattle.sheet.specs.Kinds.{is_long}
+use Rattle.sheet.specs.Lines.{plate_spacing}
+use Rattle.sheet.specs.Ranges.{HeaderRanges, PlateRanges}
+use Rattle.verdict.specs.Verdict.{verdict_of}
+use Rattle.verdict.specs.Judged.{told_judged, judged_by}
+use Rattle.plating.specs.Rules.{R, plate_modulus, K2, allowance, is_second, plate_pressure, plate_named, plate_rules, plate_finding}
+use Rattle.plating.specs.Shapes.{square_shape, over_shape, excess_shape, shape1, shape2, first_shape, second_shape, shape3}
+use Rattle.plating.specs.Work.{panel_k2, told_worked}
+use Rattle.plating.specs.Bounds.{Panel, greatest_r}
+use Rattle.plating.proofs.worked.Goals.{In_default}
+use Rattle.plating.proofs.worked.Goals as goal
+
+-- `plating::worked` meets its contract.
+-- Assumes nothing.
+-- where nothing is at fault
+sound : (c : In_default) → let a = c.args in Sound a.h (of_plate a.kind a.id a.p)
+sound c = admitted_sound _ _ _ c.admitted_plate-admitted.ensures c.in_default.is
+
+-- src/lib.rt:286:9
+pub returns-in-Refused : goal.returns-in-Refused
+returns-in-Refused c =
+    let a = c.args in
+    turned_away a.h (of_plate a.kind a.id a.p) _ c.admitted_plate-admitted.ensures (work_of a.h a.kind a.p) _ c.in-Refused.is
+
+-- src/lib.rt:288:23
+pub plate_work-requires : goal.plate_work-requires
+plate_work-requires c =
+    let a = c.args in
+    let s = sound (goal.at.plate_work-requires c).In_default in
+    (header_ranges a.h s.header, plate_ranges a.kind a.id a.p 0 s.body, c.load.ensures)
+
+-- src/lib.rt:281:1
+-- LOOK: κs/given
+pub returns : goal.returns
+returns c =
+    let a = c.args in
+    let work : told_work c.plate_work.result ≡ work_of a.h a.kind a.p = c.plate_work.ensures in
+    ap given work ∙ sym (sound_given a.h (of_plate a.kind a.id a.p) (work_of a.h a.kind a.p) (sound (goal.at.returns c).In_default))
