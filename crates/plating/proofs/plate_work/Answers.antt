@@ -25,24 +25,21 @@ use Rattle.plating.specs.Rules.{allowance, plate_named, plate_rules, plate_findi
 use Rattle.plating.specs.Shapes.{square_shape, over_shape, excess_shape, shape1, first_shape, second_shape}
 use Rattle.plating.specs.Work.{told_work, work_of, told_worked}
 use Rattle.plating.specs.Bounds.{Panel}
-use Rattle.plating.proofs.plate_work.Goals.{After-hull_stress-stress, After-panel_k2-k2, After-plate_modulus-modulus, After-rule1-arg-1, After-rule2-arg-1, After-rule2-second, Start}
+use Rattle.plating.proofs.plate_work.Goals.{After-hull_stress-stress, After-plate_modulus-modulus, Start}
 use Rattle.plating.proofs.plate_work.Goals as goal
 
 -- `plating::plate_work` meets its contract: each number and each shape is that of the plate.
 -- Assumes nothing.
-modulus-at : (c : After-plate_modulus-modulus) → 1 ≤ c.plate_modulus-modulus.result
-modulus-at c =
+modulus_at : (c : After-plate_modulus-modulus) → 1 ≤ c.plate_modulus-modulus.result
+modulus_at c =
     rw c.plate_modulus-modulus.ensures (modulus_some c.args.h c.args.kind c.args.p c.requires.0 c.requires.1)
 
 stress_high : (c : After-hull_stress-stress) → c.hull_stress-stress.result ≤ greatest_r
-stress_high c = rw c.hull_stress-stress.ensures (R_high c.args.h.moment _ c.requires.0.moment_high (modulus-at c.before))
--- LOOK: passes ['After-plate_modulus-modulus']
--- LOOK: before
+stress_high c = rw c.hull_stress-stress.ensures (R_high c.args.h.moment _ c.requires.0.moment_high (modulus_at c.before))
 
 -- the load's pressure is the one that rule 2 asks of
-load-pressure : (c : Start) → c.args.load.pressure.0 ≡ plate_pressure c.args.h c.args.kind c.args.p
-load-pressure c = ap (λ (n : Named). n.pressure) c.requires.2 ∙ plate_pressure_lem c.args.h c.args.kind c.args.p
--- LOOK: passes ['Start', 'Start']
+load_pressure : (c : Start) → c.args.load.pressure.0 ≡ plate_pressure c.args.h c.args.kind c.args.p
+load_pressure c = ap (λ (n : Named). n.pressure) c.requires.2 ∙ plate_pressure_lem c.args.h c.args.kind c.args.p
 
 stress : (c : After-hull_stress-stress) → let a = c.args in c.hull_stress-stress.result ≡ R a.h.moment (plate_modulus a.h a.kind)
 stress c = c.hull_stress-stress.ensures ∙ ap (R c.args.h.moment) c.plate_modulus-modulus.ensures
@@ -56,22 +53,22 @@ parts p1 p2 p3 p4 p5 p6 p7 p8 p9 = rw (p1, p2, p3, p4, p5, p6, p7, p8, p9)
 
 -- src/lib.rt:262:9
 pub is_second-is_second-requires : goal.is_second-is_second-requires
-is_second-is_second-requires c = (c.requires.1.factor_high, stress_high (goal.at.is_second-is_second-requires c).After-panel_k2-k2)
+is_second-is_second-requires c = (c.requires.1.factor_high, stress_high (goal.at.is_second-is_second-requires c).After-hull_stress-stress)
 
 -- src/lib.rt:264:9
 pub rule2-second-requires : goal.rule2-second-requires
 rule2-second-requires c =
     let p = c.requires.1 in
-    (p.factor_high, p.spacing_high, rw (load-pressure (goal.at.rule2-second-requires c).After-rule1-arg-1) (load_high c.args.h c.args.kind c.args.p c.requires.0 p))
+    (p.factor_high, p.spacing_high, rw (load_pressure (goal.at.rule2-second-requires c).Start) (load_high c.args.h c.args.kind c.args.p c.requires.0 p))
 
 -- src/lib.rt:265:9
 pub rule3-third-requires : goal.rule3-third-requires
 rule3-third-requires c =
-    (panel c.args.h c.args.kind c.args.p c.requires.0 c.requires.1, c.requires.1.factor_high, stress_high (goal.at.rule3-third-requires c).After-rule2-second)
+    (panel c.args.h c.args.kind c.args.p c.requires.0 c.requires.1, c.requires.1.factor_high, stress_high (goal.at.rule3-third-requires c).After-hull_stress-stress)
 
 -- src/lib.rt:266:9
 pub plate_verdict-verdict-requires : goal.plate_verdict-verdict-requires
-plate_verdict-verdict-requires c = (c.requires.0, c.requires.1, load-pressure (goal.at.plate_verdict-verdict-requires c).After-rule2-arg-1)
+plate_verdict-verdict-requires c = (c.requires.0, c.requires.1, load_pressure (goal.at.plate_verdict-verdict-requires c).Start)
 
 -- src/lib.rt:255:1
 pub returns : goal.returns
@@ -81,10 +78,10 @@ returns c =
     parts
     c.requires.2
     c.plate_modulus-modulus.ensures
-    (stress (goal.at.returns c).After-rule2-second)
+    (stress (goal.at.returns c).After-hull_stress-stress)
     side
-    (c.is_second-is_second.ensures ∙ ap (is_second a.kind a.p.factor.0) (stress (goal.at.returns c).After-rule2-second))
+    (c.is_second-is_second.ensures ∙ ap (is_second a.kind a.p.factor.0) (stress (goal.at.returns c).After-hull_stress-stress))
     c.rule1-first.ensures
-    (c.rule2-second.ensures ∙ ap (shape2 a.kind a.p.factor.0 a.p.spacing.0) (load-pressure (goal.at.returns c).After-rule2-arg-1))
-    (c.rule3-third.ensures ∙ ap (shape3 a.kind a.p.factor.0 a.p.spacing.0 (K2 a.p.b1.0 a.p.b2.0)) (stress (goal.at.returns c).After-rule2-second))
+    (c.rule2-second.ensures ∙ ap (shape2 a.kind a.p.factor.0 a.p.spacing.0) (load_pressure (goal.at.returns c).Start))
+    (c.rule3-third.ensures ∙ ap (shape3 a.kind a.p.factor.0 a.p.spacing.0 (K2 a.p.b1.0 a.p.b2.0)) (stress (goal.at.returns c).After-hull_stress-stress))
     c.plate_verdict-verdict.ensures
