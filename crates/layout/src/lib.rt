@@ -12,14 +12,14 @@ ghost use Rattle.layout.specs.Bytes.{short_of, long_of, read_of, written_of};
 use crate::powers::{P8, P16, P24, P32, P40, P48, P56};
 
 // A number of 96 bits: hi · 2³² + lo.
-#[derive(Drop)]
+#[derive(Clone, Copy)]
 pub struct Short {
     pub hi: u64,
     pub lo: u32,
 }
 
 // A number of 128 bits: hi · 2⁶⁴ + lo.
-#[derive(Drop)]
+#[derive(Clone, Copy)]
 pub struct Long {
     pub hi: u64,
     pub lo: u64,

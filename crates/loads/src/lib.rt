@@ -8,7 +8,7 @@ ghost use Rattle.loads.specs.Sources.{number_of, told_load, told_line, line_name
 use quantity::{LineLoad, Pressure, Spacing, Span};
 
 // What a pressure comes from.
-#[derive(Drop)]
+#[derive(Clone, Copy)]
 pub enum Source {
     // at or below the draught
     SeaBelow,

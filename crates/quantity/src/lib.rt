@@ -6,7 +6,7 @@ ghost use Rattle.quantity.specs.Range.{span, spacing, thickness, modulus, shear_
 ghost use Rattle.quantity.specs.Made.{Makes, told_span, told_spacing, told_thickness, told_modulus, told_shear_area, told_pressure, told_line_load, told_steel_factor};
 
 // A length, a height or a span, in cm.
-#[derive(Drop)]
+#[derive(Clone, Copy)]
 pub struct Span(pub u16);
 
 #[derive(Drop)]
@@ -34,7 +34,7 @@ impl Span {
 }
 
 // The spacing S of frames, in mm.
-#[derive(Drop)]
+#[derive(Clone, Copy)]
 pub struct Spacing(pub u16);
 
 #[derive(Drop)]
@@ -62,7 +62,7 @@ impl Spacing {
 }
 
 // The thickness T of a plate or a web, in hundredths of a mm.
-#[derive(Drop)]
+#[derive(Clone, Copy)]
 pub struct Thickness(pub u16);
 
 #[derive(Drop)]
@@ -90,7 +90,7 @@ impl Thickness {
 }
 
 // The section modulus W of a member, in tenths of a cm³.
-#[derive(Drop)]
+#[derive(Clone, Copy)]
 pub struct Modulus(pub u32);
 
 #[derive(Drop)]
@@ -118,7 +118,7 @@ impl Modulus {
 }
 
 // The shear area A of a member, in hundredths of a cm².
-#[derive(Drop)]
+#[derive(Clone, Copy)]
 pub struct ShearArea(pub u16);
 
 #[derive(Drop)]
@@ -146,7 +146,7 @@ impl ShearArea {
 }
 
 // A pressure P, in thousandths of a Pa.
-#[derive(Drop)]
+#[derive(Clone, Copy)]
 pub struct Pressure(pub u64);
 
 #[derive(Drop)]
@@ -174,7 +174,7 @@ impl Pressure {
 }
 
 // The line load q on a member, in N/m.
-#[derive(Drop)]
+#[derive(Clone, Copy)]
 pub struct LineLoad(pub u64);
 
 #[derive(Drop)]
@@ -202,7 +202,7 @@ impl LineLoad {
 }
 
 // The steel factor K = 1000k.
-#[derive(Drop)]
+#[derive(Clone, Copy)]
 pub struct SteelFactor(pub u16);
 
 #[derive(Drop)]

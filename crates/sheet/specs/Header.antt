@@ -37,8 +37,8 @@ abbrev pub header_values : Header → (spare rest : ℕ) → List ℕ
 header_values h spare rest = first_values h spare ++ own_values h.own rest
 
 -- what the values of version k's own fields are
-abbrev pub field_own : (k : ℕ) → List ℕ → Own
-field_own k us = cond (eqb k two.number) (Two (record { inner_modulus = get_or us 0 0; depth = record { 0 = get_or us 1 0 } })) One
+abbrev pub own_at : (k : ℕ) → List ℕ → Own
+own_at k us = cond (eqb k two.number) (Two (record { inner_modulus = get_or us 0 0; depth = record { 0 = get_or us 1 0 } })) One
 
 -- the header that values are
 abbrev pub header_at : List ℕ → Header
@@ -52,7 +52,7 @@ header_at vs =
       moment = get_or vs 5 0;
       bottom_modulus = get_or vs 6 0;
       count = get_or vs 7 0;
-      own = field_own (get_or vs 0 0) (drop 9 vs);
+      own = own_at (get_or vs 0 0) (drop 9 vs);
     }
 
 -- the first faulty field, version being 1; 0 where there is none. A version that does not go with what is held of its own is a faulty version

@@ -13,7 +13,7 @@ ghost use Rattle.sheet.specs.Slender.{longest_of, beyond_of, too_slender};
 use quantity::{Modulus, ShearArea, Spacing, Span, SteelFactor, Thickness};
 
 // A header: what every version holds, and what its own version holds besides.
-#[derive(Drop)]
+#[derive(Clone, Copy)]
 pub struct Header {
     pub version: u8,
     // L
@@ -34,13 +34,13 @@ pub struct Header {
 
 // What each version holds of its own: version 1 nothing, version 2 two numbers of the midship section. A case that is not the version's can be held, so
 // that writing can refuse it.
-#[derive(Drop)]
+#[derive(Clone, Copy)]
 pub enum Own {
     One,
     Two(Section),
 }
 
-#[derive(Drop)]
+#[derive(Clone, Copy)]
 pub struct Section {
     // ZDB, cm³
     pub inner_modulus: u32,
@@ -48,7 +48,7 @@ pub struct Section {
 }
 
 // A version of the header: its number, how many bytes the header takes, and the most records that it counts.
-#[derive(Drop)]
+#[derive(Clone, Copy)]
 pub struct Version {
     pub number: u8,
     pub size: usize,
@@ -140,7 +140,7 @@ fn beyond(length: Span, depth: Span, wave: Span) -> bool
 }
 
 // What a record of kind 1 to 4 carries.
-#[derive(Drop)]
+#[derive(Clone, Copy)]
 pub struct Plate {
     // K
     pub factor: SteelFactor,
@@ -159,7 +159,7 @@ pub struct Plate {
 }
 
 // What a record of kind 5 to 8 carries.
-#[derive(Drop)]
+#[derive(Clone, Copy)]
 pub struct Member {
     pub z: Span,
     // S
@@ -182,13 +182,13 @@ pub struct Member {
     pub factor: SteelFactor,
 }
 
-#[derive(Drop)]
+#[derive(Clone, Copy)]
 pub enum Body {
     Plate(Plate),
     Member(Member),
 }
 
-#[derive(Drop)]
+#[derive(Clone, Copy)]
 pub struct Record {
     pub kind: u8,
     pub id: u16,
@@ -196,14 +196,14 @@ pub struct Record {
 }
 
 // A record as it stands in its bytes, with what stands in the bits that carry nothing. Neither has been tested.
-#[derive(Drop)]
+#[derive(Clone, Copy)]
 pub struct Raw {
     pub values: Record,
     pub spare: u32,
 }
 
 // Why a sheet, a header, a record, an edit or a text is turned away, in the order of the table. What a case carries is its place.
-#[derive(Drop)]
+#[derive(Clone, Copy)]
 pub enum Refusal {
     SheetShort,
     Version,
@@ -265,19 +265,19 @@ impl Refusal {
 }
 
 // Nothing is at fault, or the first thing that is.
-#[derive(Drop)]
+#[derive(Clone, Copy)]
 pub enum Outcome {
     Fine,
     Refused(Refusal),
 }
 
-#[derive(Drop)]
+#[derive(Clone, Copy)]
 pub enum HeaderRead {
     Good(Header),
     Refused(Refusal),
 }
 
-#[derive(Drop)]
+#[derive(Clone, Copy)]
 pub enum RecordRead {
     Good(Record),
     Refused(Refusal),

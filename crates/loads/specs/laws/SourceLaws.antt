@@ -1,10 +1,10 @@
 -- The load that decides does decide, and no other one does; its pressure is the one that the document gives.
 -- Assumes nothing.
-use Rattle.std.specs.Prelude.{ℕ, ◌≤◌, ◌<◌, max, ◌≡◌, refl, Bool, true, false, cond, List, [], ◌∷◌, leb, ltb}
+use Rattle.std.specs.Prelude.{ℕ, ◌≤◌, ◌<◌, max, ◌≡◌, refl, Bool, true, false, List, [], ◌∷◌, leb, ltb}
 use Rattle.std.proofs.Common.{sym, ap, ap₂, ◌∙◌, arith, lit≤, lt-ltb, le-ltb}
 use Rattle.std.proofs.Math.Decide.{dec_lt}
 use Rattle.std.proofs.Math.Nat.{max-le}
-use Rattle.truth.specs.laws.Tests.{either_of, either_both}
+use Rattle.truth.specs.laws.Tests.{either_of}
 use Rattle.loads.specs.declared.Source.TheVariants.{Cargo}
 use Rattle.loads.specs.Loads.{bottom_pressure, inner_pressure}
 use Rattle.loads.specs.Sources.{number_of, Named, sea_named, tank_named, cargo_named, heavier, deciding, bottom_named, inner_named, Among, first, later, Decides}
@@ -24,10 +24,12 @@ decides_two d a b m g n = record { one_of_them = m; none_greater = greater; lowe
     greater : (l : Named) → Among l (a ∷ b ∷ []) → l.pressure ≤ d.pressure
     greater l (first e) = omega (arith, ap (λ (k : Named). k.pressure) e, g.0)
     greater l (later (first e)) = omega (arith, ap (λ (k : Named). k.pressure) e, g.1)
+    greater l (later (later x6)) = elim x6 [ ]
 
     lowest : (l : Named) → Among l (a ∷ b ∷ []) → l.pressure ≡ d.pressure → d.source ≤ l.source
     lowest l (first e) p = omega (arith, ap (λ (k : Named). k.source) e, n.0 (sym (ap (λ (k : Named). k.pressure) e) ∙ p))
     lowest l (later (first e)) p = omega (arith, ap (λ (k : Named). k.source) e, n.1 (sym (ap (λ (k : Named). k.pressure) e) ∙ p))
+    lowest l (later (later x7)) p = elim x7 [ ]
 
 heavier_decides : (a b : Named) → Decides (heavier a b) (a ∷ b ∷ [])
 heavier_decides a b = go (dec_lt a.pressure b.pressure) (dec_lt b.pressure a.pressure) (dec_lt a.source b.source)
@@ -57,6 +59,7 @@ heavier_pressure a b = go (heavier_decides a b).one_of_them
     go : Among (heavier a b) (a ∷ b ∷ []) → (heavier a b).pressure ≡ max a.pressure b.pressure
     go (first e) = omega (arith, ap (λ (k : Named). k.pressure) e, least)
     go (later (first e)) = omega (arith, ap (λ (k : Named). k.pressure) e, least)
+    go (later (later x6)) = elim x6 [ ]
 
 -- ---- of several
 
@@ -65,6 +68,7 @@ module _ (d h a b : Named) (bs : List Named) (two : Decides h (a ∷ b ∷ [])) 
   among_two : Among h (a ∷ b ∷ []) → d ≡ h → Among d (a ∷ b ∷ bs)
   among_two (first e) f = first (f ∙ e)
   among_two (later (first e)) f = later (first (f ∙ e))
+  among_two (later (later x7)) f = elim x7 [ ]
 
   among_all : Among d (h ∷ bs) → Among d (a ∷ b ∷ bs)
   among_all (first e) = among_two two.one_of_them e
@@ -90,9 +94,11 @@ deciding_decides a [] = record { one_of_them = first refl; none_greater = greate
   where
     greater : (l : Named) → Among l (a ∷ []) → l.pressure ≤ a.pressure
     greater l (first e) = omega (arith, ap (λ (k : Named). k.pressure) e)
+    greater l (later x3) = elim x3 [ ]
 
     lowest : (l : Named) → Among l (a ∷ []) → l.pressure ≡ a.pressure → a.source ≤ l.source
     lowest l (first e) p = omega (arith, ap (λ (k : Named). k.source) e)
+    lowest l (later x4) p = elim x4 [ ]
 deciding_decides a (b ∷ bs) = decides_all _ (heavier a b) a b bs (heavier_decides a b) (deciding_decides (heavier a b) bs)
 
 -- no other one decides

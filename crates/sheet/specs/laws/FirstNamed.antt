@@ -25,6 +25,8 @@ pub past_allowed : (k : ℕ) (us ls : List Line) (xs vs : List ℕ) → Allowed 
 past_allowed k [] ls [] vs a = ap (λ (n : ℕ). fault_from n ls vs) (omega arith)
 past_allowed k (u ∷ us) ls (x ∷ xs) vs a =
     rw a.0 (past_allowed (suc k) us ls xs vs a.1 ∙ ap (λ (n : ℕ). fault_from n ls vs) (omega arith))
+past_allowed k [] ls (x ∷ xs) vs a = elim a [ ]
+past_allowed k (u ∷ us) ls [] vs a = elim a [ ]
 
 -- ---- zL against z
 

@@ -1,6 +1,6 @@
 -- The header, there and back: nothing is lost, in any version.
 -- Assumes nothing.
-use Rattle.std.specs.Prelude.{ℕ, ◌+◌, ◌-◌, ◌≤◌, ◌≡◌, refl, get_or, take, drop}
+use Rattle.std.specs.Prelude.{ℕ, ◌+◌, ◌≤◌, ◌≡◌, refl, get_or, take, drop}
 use Rattle.std.proofs.Math.Path.{sym, ap, subst}
 use Rattle.std.proofs.Common.{ap₂, ◌∙◌, arith, length-append, take-append-drop, take-add, take_at, length-take-le}
 use mathlib.Core.List.{List, [], ◌∷◌, ◌++◌}

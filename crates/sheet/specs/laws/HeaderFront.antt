@@ -1,6 +1,6 @@
 -- A header is read of its own bytes: two lists that begin alike are read alike.
 -- Assumes nothing.
-use Rattle.std.specs.Prelude.{ℕ, ◌+◌, ◌-◌, ◌≤◌, ◌<◌, ◌≡◌, take, drop}
+use Rattle.std.specs.Prelude.{ℕ, ◌+◌, ◌≤◌, ◌<◌, ◌≡◌, take, drop}
 use Rattle.std.proofs.Common.{sym, ◌∙◌, arith, length-take-le, take_all, take-take}
 use Rattle.std.proofs.Math.Path.{ap, ap₂}
 use mathlib.Core.List.{List, ◌++◌}

@@ -1,6 +1,6 @@
 -- The header: its values and their fields, and what the absence of a fault gives.
 -- Assumes nothing.
-use Rattle.std.specs.Prelude.{ℕ, zero, suc, ◌+◌, ◌≤◌, ◌<◌, ◌≡◌, refl, Bool, true, false, cond, length, get_or, take, drop, eqb}
+use Rattle.std.specs.Prelude.{ℕ, zero, suc, ◌≤◌, ◌<◌, ◌≡◌, refl, Bool, true, false, cond, length, get_or, take, drop, eqb}
 use Rattle.std.proofs.Math.Path.{sym}
 use Rattle.std.proofs.Common.{ap₂, ◌∙◌, arith, mod-lt, length-append}
 use mathlib.Core.List.{List, ◌++◌}

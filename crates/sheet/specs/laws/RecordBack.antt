@@ -8,7 +8,6 @@ use Rattle.std.proofs.Math.Decide.{dec_lt}
 use Rattle.std.proofs.Math.ListN.{length}
 use Rattle.quantity.specs.Range.{from}
 use Rattle.layout.specs.Layout.{total, pack, unpack, bytes, Fit}
-use Rattle.layout.specs.Bytes.{read_of}
 use Rattle.layout.specs.laws.BytesLaws.{read_few, read_all}
 use Rattle.layout.specs.laws.Laws.{pack_lt, pack_unpack_lt, unpack_pack}
 use Rattle.layout.specs.Line.{Allowed}

@@ -1,11 +1,11 @@
 -- A record: each answer of reading it, of writing it and of looking for its fault is given exactly when its case of the table holds and none
 -- before it does; refusal 6 by the kind alone; and what the bytes are after writing.
 -- Assumes nothing.
-use Rattle.std.specs.Prelude.{ℕ, ◌+◌, ◌*◌, ◌≤◌, ◌<◌, ◌≡◌, Bool, true, false, cond, List, ◌++◌, length, get_or, take, drop, leb}
+use Rattle.std.specs.Prelude.{ℕ, ◌+◌, ◌*◌, ◌≤◌, ◌<◌, ◌≡◌, Bool, true, false, cond, List, ◌++◌, length, drop}
 use Rattle.std.proofs.Math.Path.{refl, ap}
 use Rattle.std.proofs.Common.{sym, ◌∙◌, arith, le-leb, ltb-true, ltb-false}
 use Rattle.quantity.specs.Range.{within, from}
-use Rattle.layout.specs.Layout.{pack, unpack, bytes}
+use Rattle.layout.specs.Layout.{unpack, bytes}
 use Rattle.layout.specs.laws.Laws.{length_unpack}
 use Rattle.layout.specs.Line.{Line, line, Allowed, fault_from, FirstFault}
 use Rattle.truth.specs.laws.Tests.{clash, false_of}
@@ -14,7 +14,7 @@ use Rattle.layout.specs.laws.LineLaws.{none_all}
 use Rattle.sheet.specs.declared.Body.{Body}
 use Rattle.sheet.specs.declared.Body.TheVariants.{Plate as isPlate, Member as isMember}
 use Rattle.sheet.specs.declared.Record.{Record}
-use Rattle.sheet.specs.Lines.{ids, plate_lines, member_lines, plate_widths, member_widths}
+use Rattle.sheet.specs.Lines.{ids, plate_widths, member_widths}
 use Rattle.sheet.specs.Refusals.{given, refused, record_refused}
 use Rattle.sheet.specs.Record.{number_in, record_of, fields_at, lines_at, lines_in, lines_of, values_of, kind_at, belongs, plate_record, member_record, plate_lines_of, member_lines_of, plate_fault, member_fault, body_fault, record_fault, plate_in, record_in, read_record, values_in, record_number, record_bytes, write_record, record_at}
 use Rattle.sheet.specs.laws.ExactlyLaws.{exactly_then, exactly_of, in_front, in_middle, at_end, same_places, alone, alone_two, first_alone, fields_first, fields_later, fields_given, fields_others, answer_short, answer_first, answer_later, answer_given, answer_others}

@@ -12,7 +12,6 @@ use Rattle.sheet.specs.declared.Member.{Member}
 use Rattle.sheet.specs.declared.Body.{Body}
 use Rattle.sheet.specs.declared.Body.TheVariants.{Plate as isPlate, Member as isMember}
 use Rattle.sheet.specs.declared.Record.{Record}
-use Rattle.sheet.specs.declared.Raw.{Raw}
 use Rattle.sheet.specs.Kinds.{is_long, is_bottom, is_floor, is_deep}
 use Rattle.sheet.specs.Lines.{either, none, plate_spacing, sides, plate_table, member_table, plate_lines, member_lines, plate_widths, member_widths}
 pub use Rattle.sheet.specs.Record.{record_at, spare_at, raw_at}
