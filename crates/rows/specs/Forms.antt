@@ -1,6 +1,6 @@
 -- The forms of a line, from the layouts of the sheet: the limits of the fields, and how many of them are numbers of the text.
-use Rattle.std.specs.Prelude.{ℕ, ◌-◌, cond, List, [], ◌∷◌, ◌++◌, length, replicate, ltb, eqb}
-use Rattle.sheet.specs.Versions.{Version, first_bytes, one, two, numbered}
+use Rattle.std.specs.Prelude.{ℕ, ◌-◌, cond, List, ◌++◌, length, replicate, ltb, eqb}
+use Rattle.sheet.specs.Versions.{Version, first_bytes, one, two}
 use Rattle.sheet.specs.Lines.{first_widths, own_widths, plate_widths, member_widths}
 use Rattle.sheet.specs.Header.{own_bytes}
 use Rattle.rows.specs.declared.form.Form.{Form}

@@ -8,11 +8,9 @@ use Rattle.sheet.specs.Lines.{first_widths, own_widths}
 use Rattle.sheet.specs.Header.{own_bytes}
 use Rattle.sheet.specs.Refusals.{Answer, given, refused, told}
 use Rattle.text.specs.declared.LineEnd.{LineEnd}
-use Rattle.text.specs.declared.LineEnd.TheVariants as LineEnd
 use Rattle.text.specs.Line.{Numbers}
 use Rattle.rows.specs.declared.Row.{Row}
 use Rattle.rows.specs.declared.RowEnd.{RowEnd}
-use Rattle.rows.specs.declared.RowEnd.TheVariants as RowEnd
 use Rattle.rows.specs.Pack.{fields_from, fields_of, below, powers}
 use Rattle.rows.specs.Forms.{first_count, own_count, record_widths, record_count}
 

@@ -1,10 +1,8 @@
 -- What the functions of this crate say to each other. No promise to a caller rests on this.
-use Rattle.std.specs.Prelude.{ℕ, ◌+◌, Bool, true, false, List, ◌++◌, take, drop}
+use Rattle.std.specs.Prelude.{ℕ, Bool, true, false, List, ◌++◌, take, drop}
 use Rattle.text.specs.declared.LineEnd.{LineEnd}
-use Rattle.text.specs.declared.LineEnd.TheVariants as LineEnd
 use Rattle.rows.specs.declared.form.Form.{Form}
 use Rattle.rows.specs.declared.RowEnd.{RowEnd}
-use Rattle.rows.specs.declared.RowEnd.TheVariants as RowEnd
 use Rattle.rows.specs.Pack.{fields_from, fields_of, packed_on}
 use Rattle.rows.specs.Forms.{first_count}
 use Rattle.rows.specs.Rows.{zeros}

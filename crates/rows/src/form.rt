@@ -3,7 +3,7 @@ ghost use Rattle.std.specs.Prelude.{◌≡◌, cond, ltb, eqb};
 ghost use Rattle.rows.specs.Forms.{first_form, own_form, record_form};
 
 // The fields' limits, two to the power of their bits, and how many there are; of these so many are written as numbers; the bytes that they fill.
-#[derive(Drop)]
+#[derive(Clone, Copy)]
 pub struct Form {
     pub limits: [u32; 13],
     pub count: usize,

@@ -17,7 +17,7 @@ use sheet::Refusal;
 use text::LineEnd;
 
 // How a line ends that can be made into bytes, or why it cannot.
-#[derive(Drop)]
+#[derive(Clone, Copy)]
 pub enum RowEnd {
     More(usize),
     Last,
@@ -25,7 +25,7 @@ pub enum RowEnd {
 }
 
 // The bytes of a line, so many of them and then zeros; of one that is turned away there are none.
-#[derive(Drop)]
+#[derive(Clone, Copy)]
 pub struct Row {
     pub bytes: [u8; 20],
     pub size: usize,

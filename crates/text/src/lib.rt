@@ -47,7 +47,7 @@ pub fn field_from(text: &[u8], at: usize) -> Field
 }
 
 // How a line ends: where the next one starts, or with the text, or in a fault of its quotes.
-#[derive(Drop)]
+#[derive(Clone, Copy)]
 pub enum LineEnd {
     More(usize),
     Last,
@@ -55,7 +55,7 @@ pub enum LineEnd {
 }
 
 // A line that was read: how many fields it has, up to a fault, and how it ends.
-#[derive(Drop)]
+#[derive(Clone, Copy)]
 pub struct Line {
     pub count: usize,
     pub end: LineEnd,

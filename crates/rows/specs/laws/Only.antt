@@ -1,14 +1,12 @@
 -- Two rows that meet a promise of this crate are equal: `header_at` and `record_at`.
 -- Assumes nothing.
-use Rattle.std.specs.Prelude.{ℕ, ◌≡◌, List}
+use Rattle.std.specs.Prelude.{◌≡◌}
 use Rattle.std.proofs.Common.{sym, ap, ap₂, ◌∙◌}
 use Rattle.sheet.specs.Refusals.{Answer}
 use Rattle.sheet.specs.laws.RefusalLaws.{refusal_only, given_refused, given_same, refused_number, refused_place}
 use Rattle.text.specs.declared.LineEnd.{LineEnd}
-use Rattle.text.specs.declared.LineEnd.TheVariants as LineEnd
 use Rattle.rows.specs.declared.Row.{Row}
 use Rattle.rows.specs.declared.RowEnd.{RowEnd}
-use Rattle.rows.specs.declared.RowEnd.TheVariants as RowEnd
 use Rattle.rows.specs.Rows.{Shown, told_end, told_row}
 
 -- the code's end from what it says

@@ -1,7 +1,7 @@
 -- Fields that are appended one after another are packed as their layout says; and one byte of a number after another, from the last.
 -- Assumes nothing.
-use Rattle.std.specs.Prelude.{ℕ, zero, suc, ◌+◌, ◌*◌, ◌/◌, ◌%◌, ◌^◌, ◌≤◌, ◌<◌, ◌≡◌, refl, List, [], ◌∷◌, length}
-use Rattle.std.proofs.Common.{sym, ap, ap₂, ◌∙◌, arith, mul_assoc, mul_comm, add_assoc, add-mul, mul_right_comm, pow_pos, pow-add, shr-shr}
+use Rattle.std.specs.Prelude.{ℕ, suc, ◌+◌, ◌*◌, ◌/◌, ◌%◌, ◌^◌, ◌≡◌, List, [], ◌∷◌, length}
+use Rattle.std.proofs.Common.{sym, ap, ap₂, ◌∙◌, arith, mul_assoc, add_assoc, add-mul, mul_right_comm, pow_pos, pow-add, shr-shr}
 use Rattle.std.proofs.Math.Nat.{mul-add-div_right}
 use Rattle.std.proofs.Math.Pow.{split}
 use Rattle.layout.specs.Layout.{total, pack, unpack, bytes}

@@ -9,7 +9,7 @@ use mathlib.Core.List.{List, [], ◌∷◌, ◌++◌, append_assoc}
 use native.Mathlib.Omega.{arith}
 use Rattle.std.proofs.Math.ListN.{length, take, drop, length-append}
 use Rattle.std.proofs.Math.Seq.{take_at, drop_at}
-use Rattle.quantity.specs.Range.{within, from}
+use Rattle.quantity.specs.Range.{within}
 use Rattle.layout.specs.Layout.{total, pack, unpack, bytes}
 use Rattle.layout.specs.laws.Laws.{length_unpack, length_bytes}
 use Rattle.truth.specs.laws.Tests.{clash}
@@ -18,13 +18,12 @@ use Rattle.sheet.specs.Lines.{first_widths, own_widths, plate_widths, member_wid
 use Rattle.sheet.specs.Header.{own_bytes}
 use Rattle.sheet.specs.Refusals.{Answer, given, refused}
 use Rattle.text.specs.declared.LineEnd.{LineEnd}
-use Rattle.text.specs.declared.LineEnd.TheVariants as LineEnd
 use Rattle.text.specs.Line.{over}
 use Rattle.rows.specs.declared.form.Form.{Form}
 use Rattle.rows.specs.Pack.{fields_from, fields_of, below, packed_on, powers}
 use Rattle.rows.specs.laws.PackLaws.{packed_whole}
 use Rattle.rows.specs.Forms.{first_count, own_count, record_widths, record_count, first_form, own_form, record_form}
-use Rattle.rows.specs.Rows.{zeros, kinds, first_of, taken, line_by, firsts_of, owns_of, header_made, header_line, records_of, record_made, record_line, Made, ended_by, row_by, told_end, Shown, shown}
+use Rattle.rows.specs.Rows.{zeros, kinds, first_of, taken, line_by, firsts_of, owns_of, header_made, header_line, records_of, record_made, record_line, ended_by, row_by, told_end, Shown, shown}
 use Rattle.rows.specs.Steps.{is_fault, row_end, first_part, own_part, placed_of}
 
 -- ---- which answer it is
