@@ -39,7 +39,7 @@ pub struct Load {
 }
 
 // A line load that says what its pressure comes from.
-#[derive(Drop)]
+#[derive(Clone, Copy)]
 pub struct Line {
     pub load: LineLoad,
     pub source: Source,

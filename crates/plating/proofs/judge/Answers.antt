@@ -1,6 +1,5 @@
 -- `plating::judge` meets its contract.
-use borrow.Author.Rules.{rules}
-use mathlib.Core.Path.{◌≡◌, sym, ap, ◌∙◌}
+use mathlib.Core.Path.{◌≡◌, ap, ◌∙◌}
 use Rattle.loads.specs.Sources.{Named, told_load}
 use Rattle.sheet.specs.Record.{of_plate}
 use Rattle.sheet.specs.laws.HeaderLaws.{header_ranges}
@@ -9,17 +8,6 @@ use Rattle.verdict.specs.Judged.{Sound}
 use Rattle.verdict.specs.laws.JudgedLaws.{admitted_sound, turned_away, found_given}
 use Rattle.plating.specs.Rules.{plate_pressure, plate_named, plate_verdict, plate_finding}
 use Rattle.plating.specs.laws.Laws.{plate_pressure_lem}
-use Rattle.std.proofs.Common.{false, ◌*◌, ◌^◌, ◌≤◌, ◌<◌, ℕ, ◌+◌, ◌-◌, length, ◌/◌, ◌%◌, Bool, true, nat_eq, nat_lt, List, [], ◌∷◌, ◌++◌, slice_index_or, slice_set, bit_and, bit_or, Fits, w8, w32, w64, Bor, MutBor}
-use Rattle.quantity.specs.Range.{thickness, pressure, steel_factor}
-use Rattle.sheet.specs.Kinds.{is_long}
-use Rattle.sheet.specs.Lines.{plate_spacing}
-use Rattle.sheet.specs.Ranges.{HeaderRanges, PlateRanges}
-use Rattle.verdict.specs.Verdict.{verdict_of}
-use Rattle.verdict.specs.Judged.{told_judged, judged_by}
-use Rattle.plating.specs.Rules.{R, plate_modulus, K2, allowance, is_second, plate_rules}
-use Rattle.plating.specs.Shapes.{square_shape, over_shape, excess_shape, shape1, shape2, first_shape, second_shape, shape3}
-use Rattle.plating.specs.Work.{panel_k2, told_work, work_of, told_worked}
-use Rattle.plating.specs.Bounds.{Panel, greatest_r}
 use Rattle.plating.proofs.judge.Goals.{After-load-load, In_default}
 use Rattle.plating.proofs.judge.Goals as goal
 

@@ -3,30 +3,19 @@ use Prim.Native.Nat.{ℕ, ◌≤◌}
 use mathlib.Core.Bool.{not}
 use mathlib.Core.List.{[], ◌∷◌}
 use mathlib.Core.Path.{◌≡◌, sym, ap, ◌∙◌}
-use borrow.Author.Rules.{rules}
 use Rattle.quantity.specs.Range.{thickness}
 use Rattle.gauge.specs.declared.Shape.{Shape}
 use Rattle.gauge.specs.Shape.{meets_of}
 use Rattle.gauge.specs.laws.ShapeLaws.{said}
-use Rattle.verdict.specs.Verdict.{Rule, verdict_of, failed_of}
+use Rattle.verdict.specs.Verdict.{verdict_of, failed_of}
 use Rattle.verdict.specs.laws.Steps.{Step, step}
 use Rattle.plating.specs.Rules.{R, plate_modulus, K2, plate_pressure, asked1, asked2, asked3}
 use Rattle.plating.specs.laws.Laws.{R_high}
 use Rattle.plating.specs.Shapes.{shape2, shape3}
 use Rattle.plating.specs.laws.ShapeLaws.{says1, says2, says3}
 use Rattle.plating.proofs.Ranges.{load_high, modulus_some, panel}
-use Rattle.std.proofs.Common.{false, ◌*◌, ◌^◌, ◌<◌, ◌+◌, ◌-◌, length, ◌/◌, ◌%◌, Bool, true, nat_eq, nat_lt, List, ◌++◌, slice_index_or, slice_set, bit_and, bit_or, Fits, w8, w32, w64, Bor, MutBor}
-use Rattle.quantity.specs.Range.{pressure, steel_factor}
-use Rattle.loads.specs.Sources.{told_load}
-use Rattle.sheet.specs.Kinds.{is_long}
-use Rattle.sheet.specs.Lines.{plate_spacing}
-use Rattle.sheet.specs.Record.{of_plate}
-use Rattle.sheet.specs.Ranges.{HeaderRanges, PlateRanges}
-use Rattle.verdict.specs.Judged.{told_judged, judged_by}
-use Rattle.plating.specs.Rules.{allowance, is_second, plate_named, plate_rules, plate_finding}
-use Rattle.plating.specs.Shapes.{square_shape, over_shape, excess_shape, shape1, first_shape, second_shape}
-use Rattle.plating.specs.Work.{panel_k2, told_work, work_of, told_worked}
-use Rattle.plating.specs.Bounds.{Panel, greatest_r}
+use Rattle.std.proofs.Common.{true}
+use Rattle.plating.specs.Rules.{plate_rules}
 use Rattle.plating.proofs.plate_verdict.Goals.{After-meets, After-meets-2, After-meets-3, After-plate_modulus}
 use Rattle.plating.proofs.plate_verdict.Goals as goal
 

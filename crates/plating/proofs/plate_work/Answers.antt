@@ -2,7 +2,6 @@
 use Prim.Native.Nat.{ℕ, ◌≤◌}
 use mathlib.Core.Bool.{Bool}
 use mathlib.Core.Path.{◌≡◌, ap, ◌∙◌}
-use borrow.Author.Rules.{rules}
 use Rattle.gauge.specs.declared.Shape.{Shape}
 use Rattle.loads.specs.Sources.{Named}
 use Rattle.verdict.specs.declared.Verdict.{Verdict}
@@ -12,19 +11,6 @@ use Rattle.plating.specs.laws.Laws.{R_high, plate_pressure_lem}
 use Rattle.plating.specs.Shapes.{shape2, shape3}
 use Rattle.plating.specs.Work.{Work, panel_k2}
 use Rattle.plating.proofs.Ranges.{load_high, modulus_some, panel}
-use Rattle.std.proofs.Common.{false, ◌*◌, ◌^◌, ◌<◌, ◌+◌, ◌-◌, length, ◌/◌, ◌%◌, true, nat_eq, nat_lt, List, [], ◌∷◌, ◌++◌, slice_index_or, slice_set, bit_and, bit_or, Fits, w8, w32, w64, Bor, MutBor}
-use Rattle.quantity.specs.Range.{thickness, pressure, steel_factor}
-use Rattle.loads.specs.Sources.{told_load}
-use Rattle.sheet.specs.Kinds.{is_long}
-use Rattle.sheet.specs.Lines.{plate_spacing}
-use Rattle.sheet.specs.Record.{of_plate}
-use Rattle.sheet.specs.Ranges.{HeaderRanges, PlateRanges}
-use Rattle.verdict.specs.Verdict.{verdict_of}
-use Rattle.verdict.specs.Judged.{told_judged, judged_by}
-use Rattle.plating.specs.Rules.{allowance, plate_named, plate_rules, plate_finding}
-use Rattle.plating.specs.Shapes.{square_shape, over_shape, excess_shape, shape1, first_shape, second_shape}
-use Rattle.plating.specs.Work.{told_work, work_of, told_worked}
-use Rattle.plating.specs.Bounds.{Panel}
 use Rattle.plating.proofs.plate_work.Goals.{After-hull_stress-stress, After-plate_modulus-modulus, Start}
 use Rattle.plating.proofs.plate_work.Goals as goal
 

@@ -1,26 +1,12 @@
 -- `plating::second_form` meets its contract: below the limit the factors of T² are gathered into one divisor.
 use Prim.Native.Nat.{◌-◌, ◌*◌, ◌≤◌, ◌<◌}
 use mathlib.Core.Path.{sym, ◌∙◌}
-use borrow.Author.Rules.{rules}
 use borrow.Author.Tests.{lt-ltb, le-ltb}
 use native.Mathlib.Omega.{arith}
 use native.Mathlib.Nat.{mul-le-mul}
 use Rattle.plating.specs.Rules.{limit}
 use Rattle.plating.specs.Shapes.{second_shape}
-use Rattle.plating.proofs.Products.{in_range, sides}
-use Rattle.std.proofs.Common.{◌≡◌, false, ◌^◌, ℕ, ◌+◌, length, ◌/◌, ◌%◌, Bool, true, nat_eq, nat_lt, List, [], ◌∷◌, ◌++◌, slice_index_or, slice_set, bit_and, bit_or, Fits, w8, w32, w64, Bor, MutBor}
-use Rattle.quantity.specs.Range.{thickness, pressure, steel_factor}
-use Rattle.loads.specs.Sources.{told_load}
-use Rattle.sheet.specs.Kinds.{is_long}
-use Rattle.sheet.specs.Lines.{plate_spacing}
-use Rattle.sheet.specs.Record.{of_plate}
-use Rattle.sheet.specs.Ranges.{HeaderRanges, PlateRanges}
-use Rattle.verdict.specs.Verdict.{verdict_of}
-use Rattle.verdict.specs.Judged.{told_judged, judged_by}
-use Rattle.plating.specs.Rules.{R, plate_modulus, K2, allowance, is_second, plate_pressure, plate_named, plate_rules, plate_finding}
-use Rattle.plating.specs.Shapes.{square_shape, over_shape, excess_shape, shape1, shape2, first_shape, shape3}
-use Rattle.plating.specs.Work.{panel_k2, told_work, work_of, told_worked}
-use Rattle.plating.specs.Bounds.{Panel, greatest_r}
+use Rattle.plating.proofs.Products.{sides}
 use Rattle.plating.proofs.second_form.Goals.{After-k2-side, Else-is_long}
 use Rattle.plating.proofs.second_form.Goals as goal
 
@@ -38,6 +24,7 @@ divisor c =
     let high : limit - R ≤ limit = omega arith in
     let one : 1 ≤ c.k2-side.result * c.k2-side.result = omega arith in
     (s.1, mul-le-mul one low, mul-le-mul s.1 high)
+
 -- LOOK: passes ['Else-is_long']
 -- LOOK: before
 

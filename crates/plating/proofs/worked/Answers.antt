@@ -1,5 +1,4 @@
 -- `plating::worked` meets its contract.
-use borrow.Author.Rules.{rules}
 use mathlib.Core.Path.{◌≡◌, sym, ap, ◌∙◌}
 use Rattle.sheet.specs.Refusals.{given}
 use Rattle.sheet.specs.Record.{of_plate}
@@ -8,18 +7,6 @@ use Rattle.sheet.specs.laws.RecordLaws.{plate_ranges}
 use Rattle.verdict.specs.Judged.{Sound}
 use Rattle.verdict.specs.laws.JudgedLaws.{admitted_sound, turned_away, sound_given}
 use Rattle.plating.specs.Work.{told_work, work_of}
-use Rattle.std.proofs.Common.{false, ◌*◌, ◌^◌, ◌≤◌, ◌<◌, ℕ, ◌+◌, ◌-◌, length, ◌/◌, ◌%◌, Bool, true, nat_eq, nat_lt, List, [], ◌∷◌, ◌++◌, slice_index_or, slice_set, bit_and, bit_or, Fits, w8, w32, w64, Bor, MutBor}
-use Rattle.quantity.specs.Range.{thickness, pressure, steel_factor}
-use Rattle.loads.specs.Sources.{told_load}
-use Rattle.sheet.specs.Kinds.{is_long}
-use Rattle.sheet.specs.Lines.{plate_spacing}
-use Rattle.sheet.specs.Ranges.{HeaderRanges, PlateRanges}
-use Rattle.verdict.specs.Verdict.{verdict_of}
-use Rattle.verdict.specs.Judged.{told_judged, judged_by}
-use Rattle.plating.specs.Rules.{R, plate_modulus, K2, allowance, is_second, plate_pressure, plate_named, plate_rules, plate_finding}
-use Rattle.plating.specs.Shapes.{square_shape, over_shape, excess_shape, shape1, shape2, first_shape, second_shape, shape3}
-use Rattle.plating.specs.Work.{panel_k2, told_worked}
-use Rattle.plating.specs.Bounds.{Panel, greatest_r}
 use Rattle.plating.proofs.worked.Goals.{In_default}
 use Rattle.plating.proofs.worked.Goals as goal
 

@@ -1,6 +1,6 @@
 -- Two answers that meet the promise of `worked`, or of `is_long`, are equal.
 -- Assumes nothing.
-use Rattle.std.specs.Prelude.{ℕ, ◌≡◌, refl}
+use Rattle.std.specs.Prelude.{◌≡◌, refl}
 use Rattle.std.proofs.Common.{sym, ap, ap₂, ◌∙◌}
 use Rattle.loads.specs.declared.Load.{Load}
 use Rattle.loads.specs.laws.Only.{load_only}

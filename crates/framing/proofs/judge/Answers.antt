@@ -1,0 +1,57 @@
+-- `framing::judge` meets its contract.
+use borrow.Author.Rules.{rules}
+use mathlib.Core.Path.{◌≡◌, sym, ap, ◌∙◌}
+use Rattle.loads.specs.Sources.{Named, told_load}
+use Rattle.sheet.specs.Record.{of_member}
+use Rattle.sheet.specs.laws.HeaderLaws.{header_ranges}
+use Rattle.sheet.specs.laws.RecordLaws.{member_ranges}
+use Rattle.verdict.specs.Judged.{Sound}
+use Rattle.verdict.specs.laws.JudgedLaws.{admitted_sound, turned_away, found_given}
+use Rattle.framing.specs.Rules.{member_pressure, member_named, member_verdict, member_finding}
+use Rattle.framing.specs.laws.Laws.{member_pressure_lem}
+use Rattle.std.proofs.Common.{◌*◌, ◌<◌, ◌≤◌, ◌^◌, ℕ, ◌+◌, ◌-◌, length, ◌/◌, ◌%◌, Bool, true, false, nat_eq, nat_lt, List, [], ◌∷◌, ◌++◌, slice_index_or, slice_set, bit_and, bit_or, Fits, w8, w32, w64, Bor, MutBor}
+use Rattle.gauge.specs.Ceil.{ceil_of}
+use Rattle.sheet.specs.Ranges.{HeaderRanges, MemberRanges}
+use Rattle.verdict.specs.Verdict.{verdict_of}
+use Rattle.verdict.specs.Judged.{told_judged, judged_by}
+use Rattle.framing.specs.Rules.{member_rules}
+use Rattle.framing.specs.Shapes.{stressed_shape, shape4, shape5, shape6}
+use Rattle.framing.specs.Work.{told_work, work_of, told_worked}
+use Rattle.framing.specs.Bounds.{Product, Bounded}
+use Rattle.framing.proofs.judge.Goals.{After-member_load-load, In_default}
+use Rattle.framing.proofs.judge.Goals as goal
+
+-- `framing::judge` meets its contract.
+-- Assumes nothing.
+-- where nothing is at fault
+sound : (c : In_default) → let a = c.args in Sound a.h (of_member a.kind a.id a.m)
+sound c = admitted_sound _ _ _ c.admitted_member-admitted.ensures c.in_default.is
+
+-- the load's pressure is the one that the rules go by
+load-pressure : (c : After-member_load-load) → let a = c.args in c.member_load-load.result.pressure.0 ≡ member_pressure a.h a.kind a.m
+load-pressure c =
+    let a = c.args in
+    let named : told_load c.member_load-load.result ≡ member_named a.h a.kind a.m = c.member_load-load.ensures in
+    ap (λ (n : Named). n.pressure) named ∙ member_pressure_lem a.h a.kind a.m
+
+-- src/lib.rt:186:9
+pub returns-in-Refused : goal.returns-in-Refused
+returns-in-Refused c =
+    let a = c.args in
+    turned_away a.h (of_member a.kind a.id a.m) _ c.admitted_member-admitted.ensures (member_finding a.h a.kind a.m) _ c.in-Refused.is
+
+-- src/lib.rt:190:21
+pub member_verdict-requires : goal.member_verdict-requires
+member_verdict-requires c =
+    let a = c.args in
+    let s = sound (goal.at.member_verdict-requires c).In_default in
+    (header_ranges a.h s.header, member_ranges a.kind a.id a.m s.body, load-pressure c)
+
+-- src/lib.rt:181:1
+-- LOOK: κs/given
+pub returns : goal.returns
+returns c =
+    let a = c.args in
+    let judged : c.member_verdict.result ≡ member_verdict a.h a.kind a.m = c.member_verdict.ensures in
+    let named : told_load c.member_load-load.result ≡ member_named a.h a.kind a.m = c.member_load-load.ensures in
+    found_given a.h (of_member a.kind a.id a.m) (sound (goal.at.returns c).In_default) judged (ap (λ (n : Named). n.source) named)

@@ -1,0 +1,36 @@
+-- `framing::rule4` meets its contract: each of its forms is a shape.
+use Prim.Native.Nat.{◌*◌, ◌≤◌, ◌<◌}
+use borrow.Author.Rules.{rules}
+use borrow.Author.Tests.{le-leb, lt-leb, lt-ltb, le-ltb}
+use native.Mathlib.Omega.{arith}
+use native.Mathlib.Nat.{mul-le-mul}
+use Rattle.framing.specs.Shapes.{shape4}
+use Rattle.std.proofs.Common.{◌≡◌, ◌^◌, ℕ, ◌+◌, ◌-◌, length, ◌/◌, ◌%◌, Bool, true, false, nat_eq, nat_lt, List, [], ◌∷◌, ◌++◌, slice_index_or, slice_set, bit_and, bit_or, Fits, w8, w32, w64, Bor, MutBor}
+use Rattle.gauge.specs.Ceil.{ceil_of}
+use Rattle.loads.specs.Sources.{told_load}
+use Rattle.sheet.specs.Record.{of_member}
+use Rattle.sheet.specs.Ranges.{HeaderRanges, MemberRanges}
+use Rattle.verdict.specs.Verdict.{verdict_of}
+use Rattle.verdict.specs.Judged.{told_judged, judged_by}
+use Rattle.framing.specs.Rules.{member_pressure, member_named, member_rules, member_finding}
+use Rattle.framing.specs.Shapes.{stressed_shape, shape5, shape6}
+use Rattle.framing.specs.Work.{told_work, work_of, told_worked}
+use Rattle.framing.specs.Bounds.{Product, Bounded}
+use Rattle.framing.proofs.rule4.Goals as goal
+
+-- src/lib.rt:58:9
+pub returns-then-kind-ge6 : goal.returns-then-kind-ge6
+unfolding shape4
+returns-then-kind-ge6 c = rw (c.squared.ensures, le-leb _ _ c.if-kind-ge6.true)
+
+-- src/lib.rt:61:9
+pub returns-then-l-lt12000 : goal.returns-then-l-lt12000
+unfolding shape4
+returns-then-l-lt12000 c =
+    let short : c.args.length.0 < 12000 = c.if-l-lt12000.true in
+    rw (c.squared-then-l-lt12000.ensures, lt-leb _ _ c.if-kind-ge6.false, lt-ltb _ _ short)
+
+-- src/lib.rt:50:1
+pub returns : goal.returns
+unfolding shape4
+returns c = rw (c.squared-2.ensures, lt-leb _ _ c.if-kind-ge6.false, le-ltb _ _ c.if-l-lt12000.false)
