@@ -1,6 +1,6 @@
 -- The lines of records put one after another: those left, behind the bytes that are there, make what all of them make.
 -- Assumes nothing.
-use Prim.Native.Nat.{ℕ, ◌+◌, ◌-◌, ◌≤◌, ◌<◌}
+use Prim.Native.Nat.{ℕ, ◌+◌, ◌-◌, ◌≤◌}
 use mathlib.Core.Path.{◌≡◌, refl, sym, ap, subst, ◌∙◌}
 use mathlib.Core.Logic.{inl, ⊎_elim}
 use mathlib.Core.Bool.{Bool, true, false, cond}
@@ -14,14 +14,13 @@ use borrow.Rule.Slice.PartMut.{mid_of, put_mid}
 use Rattle.layout.specs.laws.Tail.{mid_tail, put_tail}
 use Rattle.decimal.specs.Put.{put_count, put_on, Puts}
 use Rattle.sheet.specs.declared.Refusal.{Refusal}
-use Rattle.sheet.specs.Refusals.{Answer, given, refused, told}
+use Rattle.sheet.specs.Refusals.{Answer, given, refused}
 use Rattle.filling.specs.Filling.{line_left, lines_left}
 use Rattle.rows.specs.declared.Row.{Row}
 use Rattle.rows.specs.declared.RowEnd.TheVariants as RowEnd
 use Rattle.rows.specs.Rows.{header_row, record_row, told_row, shown}
 use Rattle.checker.specs.Check.{◌then◌}
 use Rattle.sheet_csv.specs.declared.Made.{Made}
-use Rattle.sheet_csv.specs.declared.Made.TheVariants as Made
 use Rattle.sheet_csv.specs.Read.{next_line, records_made, sheet_made}
 use Rattle.sheet_csv.specs.Steps.{draft_size, Held, PutsBehind, Fills}
 use Rattle.sheet_csv.specs.laws.ReadLaws.{sheet_by_row, header_twenty, in_front, nothing_in_front, given_in_front, refused_in_front, records_by_row, record_sixteen, Goes, Stops, row_more, row_last, row_refused}
@@ -113,6 +112,8 @@ module _ (whole : Answer (List ℕ)) (front : List ℕ) (filled : Bool) (s : Lis
 -- what is filled behind the header's bytes is filled from the front
 behind : (x : Answer (List ℕ)) (front : List ℕ) (m : Made) (draft : List ℕ) → Fills x front m draft → Fills (x then λ bs. given (front ++ bs)) [] m draft
 unfolding ◌then◌
+behind (given b) front (Made.Refused x) draft f = elim f [ ]
+behind (refused k p) front (Made.Length end) draft f = elim f [ ]
 behind (given b) front (Made.Length end) draft f = f
 behind (refused k p) front (Made.Refused x) draft f = f
 

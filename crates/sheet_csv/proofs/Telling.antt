@@ -7,19 +7,16 @@ use lib.ListN.{length, take, drop}
 use borrow.Author.Tests.{le-leb, lt-leb}
 use Rattle.sheet.specs.declared.Header.{Header}
 use Rattle.sheet.specs.declared.Refusal.{Refusal}
-use Rattle.sheet.specs.declared.Refusal.TheVariants.{OutputShort}
 use Rattle.sheet.specs.Refusals.{Answer, given, refused, told}
 use Rattle.sheet.specs.laws.RefusalLaws.{given_refused, refused_number, refused_place}
 use Rattle.checker.specs.Check.{◌then◌, demand, Sheet}
 use Rattle.checker.specs.Unjudged.{sound_sheet, sound_header}
 use Rattle.fields.specs.Lines.{Lines}
 use Rattle.sheet_csv.specs.declared.Converted.{Converted}
-use Rattle.sheet_csv.specs.declared.Converted.TheVariants as Converted
 use Rattle.sheet_csv.specs.declared.Made.{Made}
-use Rattle.sheet_csv.specs.declared.Made.TheVariants as Made
-use Rattle.sheet_csv.specs.Read.{sheet_made, sheet_of, told_converted, length_of, output_by, Converts}
+use Rattle.sheet_csv.specs.Read.{sheet_made, sheet_of, length_of, output_by, Converts}
 use Rattle.sheet_csv.specs.Write.{text_of, text_from}
-use Rattle.sheet_csv.specs.Steps.{Held, Fills, fits_in, sound_in}
+use Rattle.sheet_csv.specs.Steps.{Fills, fits_in, sound_in}
 use Rattle.sheet_csv.specs.laws.HeldLaws.{held_sound}
 
 -- a refusal, with every byte as it was lent
@@ -72,6 +69,7 @@ module _ (ls : Lines) (room : ℕ) (draft : List ℕ) where
   lines_refused x f = go (sheet_made ls) f
     where
       go : (y : Answer (List ℕ)) → Fills y [] (Made.Refused x) draft → (y then λ b. sound_in b room) ≡ told x
+      go (given _) e = elim e [ ]
       go (refused k p) e = ap₂ refused (refused_number (sym e)) (refused_place (sym e))
 
   -- lines that make bytes: within the draft, and answered as what it holds
@@ -80,6 +78,7 @@ module _ (ls : Lines) (room : ℕ) (draft : List ℕ) where
   lines_made end f = go (sheet_made ls) f
     where
       go : (y : Answer (List ℕ)) → Fills y [] (Made.Length end) draft → (end ≤ length draft) × (sound_in (take end draft) room ≡ (y then λ b. sound_in b room))
+      go (refused number place) h = elim h [ ]
       go (given b) h = (h.inside, held_sound b end draft h room)
 
 -- ---- a sheet's text

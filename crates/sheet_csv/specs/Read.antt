@@ -1,5 +1,5 @@
 -- A sheet from comma-separated text: the lines in turn, the first faulty one decides; then the table's own refusals on the sheet that they make; then 5.
-use Rattle.std.specs.Prelude.{ℕ, ◌+◌, ◌≡◌, cond, List, [], ◌∷◌, ◌++◌, map, length, drop, leb, ltb}
+use Rattle.std.specs.Prelude.{ℕ, ◌+◌, ◌≡◌, cond, List, [], ◌++◌, map, length, drop, leb, ltb}
 use Rattle.sheet.specs.Refusals.{Answer, given, refused, told}
 use Rattle.fields.specs.Lines.{Lines, none, bad, row, lines_in}
 use Rattle.text.specs.laws.LinesLaws.{value_in}

@@ -10,7 +10,6 @@ use Rattle.checker.specs.Unjudged.{sound_sheet}
 use Rattle.rows.specs.Pack.{fields_of}
 use Rattle.rows.specs.Rows.{zeros}
 use Rattle.sheet_csv.specs.declared.Made.{Made}
-use Rattle.sheet_csv.specs.declared.Made.TheVariants as Made
 use Rattle.sheet_csv.specs.Write.{line, record_cells}
 
 -- ---- reading

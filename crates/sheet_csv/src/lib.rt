@@ -15,7 +15,7 @@ use rows::{Row, RowEnd};
 use sheet::{HeaderRead, MOST, RECORD, Refusal};
 
 // How many bytes were written, or why none were.
-#[derive(Drop)]
+#[derive(Clone, Copy)]
 pub enum Converted {
     Length(usize),
     Refused(Refusal),

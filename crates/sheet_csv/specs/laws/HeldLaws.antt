@@ -1,8 +1,8 @@
 -- Bytes put one after another into a draft that holds more than any sheet has; and what the table says of what it holds.
 -- Assumes nothing.
 use Prim.Native.Nat.{ℕ, ◌+◌, ◌*◌, ◌≤◌, ◌<◌}
-use Rattle.std.specs.Prelude.{◌⊎◌, ◌≡◌, List, [], ◌∷◌, ◌++◌, length, take, drop}
-use Rattle.std.proofs.Common.{inl, inr, ⊎_elim, sym, ap₂, ◌∙◌, append_assoc, arith, length-append, length-take, length-drop, take-append-drop, take_all, take_at, take-take, length-take-le, le-leb}
+use Rattle.std.specs.Prelude.{◌≡◌, List, ◌++◌, length, take, drop}
+use Rattle.std.proofs.Common.{inl, inr, ⊎_elim, sym, ap₂, ◌∙◌, append_assoc, arith, length-append, length-drop, take-append-drop, take_all, take_at, take-take, length-take-le}
 use Rattle.std.proofs.Math.Path.{refl, ap}
 use Rattle.std.proofs.Math.Decide.{dec_le}
 use Rattle.std.proofs.lemmas.List.{take-append-le}

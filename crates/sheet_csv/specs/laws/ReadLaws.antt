@@ -16,14 +16,12 @@ use Rattle.sheet.specs.Refusals.{Answer, given, refused, told}
 use Rattle.sheet.specs.laws.RefusalLaws.{given_refused, given_same, refused_number, refused_place}
 use Rattle.fields.specs.Lines.{Lines, none, bad, row}
 use Rattle.text.specs.declared.LineEnd.{LineEnd}
-use Rattle.text.specs.declared.LineEnd.TheVariants as LineEnd
 use Rattle.text.specs.Line.{Numbers}
 use Rattle.text.specs.laws.LinesLaws.{value_in}
 use Rattle.filling.specs.Filling.{line_left, lines_left}
 use Rattle.filling.specs.laws.RowLaws.{RowLeft, more, last, broken, row_left}
 use Rattle.rows.specs.declared.Row.{Row}
 use Rattle.rows.specs.declared.RowEnd.{RowEnd}
-use Rattle.rows.specs.declared.RowEnd.TheVariants as RowEnd
 use Rattle.rows.specs.Rows.{zeros, kinds, first_of, taken, line_by, firsts_of, owns_of, header_made, records_of, record_made, header_line, record_line, Made, ended_by, row_by, header_row, record_row, Shown, told_end, told_row, shown}
 use Rattle.rows.specs.Pack.{below, powers}
 use Rattle.rows.specs.Forms.{first_count, own_count, record_widths, record_count}

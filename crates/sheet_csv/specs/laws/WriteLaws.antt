@@ -47,6 +47,8 @@ narrow [] = true
 narrow (w ∷ ws) = leb w 29 && narrow ws
 
 fit_small : (ws vs : List ℕ) → narrow ws ≡ true → Fit ws vs → Small vs
+fit_small [] (v ∷ vs) e f = elim f [ ]
+fit_small (w ∷ ws) [] e f = elim f [ ]
 fit_small [] [] e f = nothing
 fit_small (w ∷ ws) (v ∷ vs) e f =
     let h = both _ _ e in

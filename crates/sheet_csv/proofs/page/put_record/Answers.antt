@@ -1,0 +1,32 @@
+use Rattle.std.proofs.Common.{ℕ, ◌≡◌, List, length, sym, ap, ap₂, subst, ◌∙◌, arith}
+use Rattle.decimal.specs.Laid.{Laid}
+use Rattle.decimal.specs.laws.LaidLaws.{laid_none}
+use Rattle.sheet.specs.Refusals.{told_record}
+use Rattle.rows.specs.Pack.{fields_of}
+use Rattle.sheet_csv.specs.Write.{line}
+use Rattle.sheet_csv.specs.Steps.{record_text}
+use Rattle.sheet_csv.specs.laws.WriteLaws.{record_fields_lem, count_few, text_given, text_none, text_most}
+use Rattle.sheet_csv.proofs.page.put_record.Goals as goal
+
+pub put_line-requires : goal.put_line-requires
+put_line-requires c =
+    let few = count_few c.in-Good.r.kind in
+    -- the line that is put is the record's
+    let cells : line (fields_of c.record_count-count.result c.record_numbers-nums.result) ≡ record_text c.args.bytes.now =
+    ap line (ap₂ fields_of c.record_count-count.ensures c.record_numbers-nums.ensures ∙ record_fields_lem c.in-Good.r)
+    ∙ text_given c.args.bytes.now c.in-Good.r (sym (ap told_record c.in-Good.is) ∙ c.read_record-read.ensures) in (
+      omega (arith, c.record_count-count.ensures, few.0),
+      omega (arith, c.record_count-count.ensures, few.1),
+      omega (arith, ap length cells, text_most c.args.bytes.now, c.requires),
+    )
+
+pub returns-in-Refused : goal.returns-in-Refused
+returns-in-Refused c =
+    subst (λ (t : List ℕ). Laid c.args.page.now c.args.at t c.args.at c.args.page.now) (text_none c.args.bytes.now _ _ (sym (ap told_record c.in-Refused.is) ∙ c.read_record-read.ensures)) (laid_none c.args.page.now c.args.at)
+
+pub returns-in-Good : goal.returns-in-Good
+returns-in-Good c =
+    let cells : line (fields_of c.record_count-count.result c.record_numbers-nums.result) ≡ record_text c.args.bytes.now =
+    ap line (ap₂ fields_of c.record_count-count.ensures c.record_numbers-nums.ensures ∙ record_fields_lem c.in-Good.r)
+    ∙ text_given c.args.bytes.now c.in-Good.r (sym (ap told_record c.in-Good.is) ∙ c.read_record-read.ensures) in
+    subst (λ (t : List ℕ). Laid c.args.page.now c.args.at t c.put_line.result c.put_line.new.page) cells c.put_line.ensures
