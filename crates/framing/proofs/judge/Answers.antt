@@ -1,6 +1,5 @@
 -- `framing::judge` meets its contract.
-use borrow.Author.Rules.{rules}
-use mathlib.Core.Path.{◌≡◌, sym, ap, ◌∙◌}
+use mathlib.Core.Path.{◌≡◌, ap, ◌∙◌}
 use Rattle.loads.specs.Sources.{Named, told_load}
 use Rattle.sheet.specs.Record.{of_member}
 use Rattle.sheet.specs.laws.HeaderLaws.{header_ranges}
@@ -9,15 +8,6 @@ use Rattle.verdict.specs.Judged.{Sound}
 use Rattle.verdict.specs.laws.JudgedLaws.{admitted_sound, turned_away, found_given}
 use Rattle.framing.specs.Rules.{member_pressure, member_named, member_verdict, member_finding}
 use Rattle.framing.specs.laws.Laws.{member_pressure_lem}
-use Rattle.std.proofs.Common.{◌*◌, ◌<◌, ◌≤◌, ◌^◌, ℕ, ◌+◌, ◌-◌, length, ◌/◌, ◌%◌, Bool, true, false, nat_eq, nat_lt, List, [], ◌∷◌, ◌++◌, slice_index_or, slice_set, bit_and, bit_or, Fits, w8, w32, w64, Bor, MutBor}
-use Rattle.gauge.specs.Ceil.{ceil_of}
-use Rattle.sheet.specs.Ranges.{HeaderRanges, MemberRanges}
-use Rattle.verdict.specs.Verdict.{verdict_of}
-use Rattle.verdict.specs.Judged.{told_judged, judged_by}
-use Rattle.framing.specs.Rules.{member_rules}
-use Rattle.framing.specs.Shapes.{stressed_shape, shape4, shape5, shape6}
-use Rattle.framing.specs.Work.{told_work, work_of, told_worked}
-use Rattle.framing.specs.Bounds.{Product, Bounded}
 use Rattle.framing.proofs.judge.Goals.{After-member_load-load, In_default}
 use Rattle.framing.proofs.judge.Goals as goal
 

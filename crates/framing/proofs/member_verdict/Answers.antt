@@ -3,27 +3,17 @@ use mathlib.Core.Bool.{not}
 use Prim.Native.Nat.{ℕ, ◌≤◌}
 use mathlib.Core.List.{[], ◌∷◌}
 use mathlib.Core.Path.{◌≡◌, sym, ap, ◌∙◌}
-use borrow.Author.Rules.{rules}
 use Rattle.quantity.specs.Range.{thickness, modulus, shear_area, line_load}
 use Rattle.gauge.specs.Shape.{Says}
 use Rattle.gauge.specs.laws.ShapeLaws.{said}
 use Rattle.loads.specs.Loads.{line_load as lineLoadOf}
 use Rattle.loads.specs.Sources.{NamedLine, told_load, told_line, line_named}
-use Rattle.verdict.specs.Verdict.{Rule, verdict_of, failed_of}
+use Rattle.verdict.specs.Verdict.{failed_of}
 use Rattle.framing.specs.Rules.{member_line, web_rule, bending_rule, shear_rule}
 use Rattle.framing.specs.laws.BoundLaws.{member_line_high}
 use Rattle.framing.specs.Shapes.{shape5, shape6}
 use Rattle.framing.specs.laws.ShapeLaws.{says4, says5, says6}
 use Rattle.verdict.specs.laws.Steps.{Step, step}
-use Rattle.std.proofs.Common.{◌*◌, ◌<◌, ◌^◌, ◌+◌, ◌-◌, length, ◌/◌, ◌%◌, Bool, true, false, nat_eq, nat_lt, List, ◌++◌, slice_index_or, slice_set, bit_and, bit_or, Fits, w8, w32, w64, Bor, MutBor}
-use Rattle.gauge.specs.Ceil.{ceil_of}
-use Rattle.sheet.specs.Record.{of_member}
-use Rattle.sheet.specs.Ranges.{HeaderRanges, MemberRanges}
-use Rattle.verdict.specs.Judged.{told_judged, judged_by}
-use Rattle.framing.specs.Rules.{member_pressure, member_named, member_rules, member_finding}
-use Rattle.framing.specs.Shapes.{stressed_shape, shape4}
-use Rattle.framing.specs.Work.{told_work, work_of, told_worked}
-use Rattle.framing.specs.Bounds.{Product, Bounded}
 use Rattle.framing.proofs.member_verdict.Goals.{After-line_load-q, After-meets, After-meets-2, After-meets-3}
 use Rattle.framing.proofs.member_verdict.Goals as goal
 
@@ -48,14 +38,14 @@ step2 : (c : After-meets-2) → let a = c.args in c.line_load-q.result.load.0 �
 step2 c e =
     let a = c.args in
     let says : Says c.rule5-bending.result modulus.high (bending_rule a.h a.kind a.m).asks =
-      said (c.rule5-bending.ensures ∙ ap (λ (q : ℕ). shape5 a.kind a.m.bending a.m.eta a.m.stress q a.m.span.0) e) (says5 a.kind a.m.bending a.m.eta a.m.stress _ a.m.span.0) in
+    said (c.rule5-bending.ensures ∙ ap (λ (q : ℕ). shape5 a.kind a.m.bending a.m.eta a.m.stress q a.m.span.0) e) (says5 a.kind a.m.bending a.m.eta a.m.stress _ a.m.span.0) in
     step _ (bending_rule a.h a.kind a.m) _ says c.requires.1.modulus_low c.requires.1.modulus_high c.meets-2.ensures
 
 step3 : (c : After-meets-3) → let a = c.args in c.line_load-q.result.load.0 ≡ member_line a.h a.kind a.m → Step c.rule6-shear.result (shear_rule a.h a.kind a.m) [] c.meets-3.result
 step3 c e =
     let a = c.args in
     let says : Says c.rule6-shear.result shear_area.high (shear_rule a.h a.kind a.m).asks =
-      said (c.rule6-shear.ensures ∙ ap (λ (q : ℕ). shape6 a.kind a.m.shear a.m.eta q a.m.span.0) e) (says6 a.kind a.m.shear a.m.eta _ a.m.span.0) in
+    said (c.rule6-shear.ensures ∙ ap (λ (q : ℕ). shape6 a.kind a.m.shear a.m.eta q a.m.span.0) e) (says6 a.kind a.m.shear a.m.eta _ a.m.span.0) in
     step _ (shear_rule a.h a.kind a.m) _ says c.requires.1.area_low c.requires.1.area_high c.meets-3.ensures
 
 -- src/lib.rt:114:9

@@ -1,7 +1,6 @@
 -- `framing::member_work` meets its contract: each number and each shape is that of the member.
 use Prim.Native.Nat.{ℕ, ◌≤◌}
 use mathlib.Core.Path.{◌≡◌, ap, ◌∙◌}
-use borrow.Author.Rules.{rules}
 use Rattle.quantity.specs.Range.{line_load}
 use Rattle.gauge.specs.declared.Shape.{Shape}
 use Rattle.loads.specs.Loads.{line_load as lineLoadOf}
@@ -12,16 +11,6 @@ use Rattle.framing.specs.laws.Laws.{member_pressure_lem}
 use Rattle.framing.specs.laws.BoundLaws.{member_line_high}
 use Rattle.framing.specs.Shapes.{shape5, shape6}
 use Rattle.framing.specs.Work.{Work}
-use Rattle.std.proofs.Common.{◌*◌, ◌<◌, ◌^◌, ◌+◌, ◌-◌, length, ◌/◌, ◌%◌, Bool, true, false, nat_eq, nat_lt, List, [], ◌∷◌, ◌++◌, slice_index_or, slice_set, bit_and, bit_or, Fits, w8, w32, w64, Bor, MutBor}
-use Rattle.gauge.specs.Ceil.{ceil_of}
-use Rattle.sheet.specs.Record.{of_member}
-use Rattle.sheet.specs.Ranges.{HeaderRanges, MemberRanges}
-use Rattle.verdict.specs.Verdict.{verdict_of}
-use Rattle.verdict.specs.Judged.{told_judged, judged_by}
-use Rattle.framing.specs.Rules.{member_named, member_rules, member_finding}
-use Rattle.framing.specs.Shapes.{stressed_shape, shape4}
-use Rattle.framing.specs.Work.{told_work, work_of, told_worked}
-use Rattle.framing.specs.Bounds.{Product, Bounded}
 use Rattle.framing.proofs.member_work.Goals.{After-line_load-borne}
 use Rattle.framing.proofs.member_work.Goals as goal
 

@@ -1,24 +1,9 @@
 -- `framing::rule5` meets its contract: each of its forms is a shape.
-use Prim.Native.Nat.{ℕ, ◌*◌, ◌≤◌}
+use Prim.Native.Nat.{◌*◌}
 use mathlib.Core.Path.{◌≡◌, ◌∙◌}
-use borrow.Author.Rules.{rules}
 use borrow.Author.Tests.{le-leb, lt-leb}
-use native.Mathlib.Omega.{arith}
-use native.Mathlib.Nat.{mul-le-mul}
-use lib.Dec.{lit≤}
 use Rattle.framing.specs.Shapes.{stressed_shape, shape5}
-use Rattle.framing.specs.Bounds.{Bounded, Product}
 use Rattle.framing.proofs.Floors.{floors, above_floors, without_η}
-use Rattle.std.proofs.Common.{◌<◌, ◌^◌, ◌+◌, ◌-◌, length, ◌/◌, ◌%◌, Bool, true, false, nat_eq, nat_lt, List, [], ◌∷◌, ◌++◌, slice_index_or, slice_set, bit_and, bit_or, Fits, w8, w32, w64, Bor, MutBor}
-use Rattle.gauge.specs.Ceil.{ceil_of}
-use Rattle.loads.specs.Sources.{told_load}
-use Rattle.sheet.specs.Record.{of_member}
-use Rattle.sheet.specs.Ranges.{HeaderRanges, MemberRanges}
-use Rattle.verdict.specs.Verdict.{verdict_of}
-use Rattle.verdict.specs.Judged.{told_judged, judged_by}
-use Rattle.framing.specs.Rules.{member_pressure, member_named, member_rules, member_finding}
-use Rattle.framing.specs.Shapes.{shape4, shape6}
-use Rattle.framing.specs.Work.{told_work, work_of, told_worked}
 use Rattle.framing.proofs.rule5.Goals as goal
 
 -- src/lib.rt:74:9

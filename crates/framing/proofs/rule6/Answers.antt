@@ -1,22 +1,11 @@
 -- `framing::rule6` meets its contract: each of its forms is a shape.
 use Prim.Native.Nat.{◌*◌}
 use mathlib.Core.Path.{◌≡◌, ◌∙◌}
-use borrow.Author.Rules.{rules}
 use borrow.Author.Tests.{le-leb, lt-leb}
 use Rattle.gauge.specs.Ceil.{ceil_of}
 use Rattle.gauge.specs.declared.Shape.TheVariants.{Floor}
 use Rattle.framing.specs.Shapes.{shape6}
 use Rattle.framing.proofs.Floors.{floors, above_floors, without_η}
-use Rattle.std.proofs.Common.{◌<◌, ◌≤◌, ◌^◌, ℕ, ◌+◌, ◌-◌, length, ◌/◌, ◌%◌, Bool, true, false, nat_eq, nat_lt, List, [], ◌∷◌, ◌++◌, slice_index_or, slice_set, bit_and, bit_or, Fits, w8, w32, w64, Bor, MutBor}
-use Rattle.loads.specs.Sources.{told_load}
-use Rattle.sheet.specs.Record.{of_member}
-use Rattle.sheet.specs.Ranges.{HeaderRanges, MemberRanges}
-use Rattle.verdict.specs.Verdict.{verdict_of}
-use Rattle.verdict.specs.Judged.{told_judged, judged_by}
-use Rattle.framing.specs.Rules.{member_pressure, member_named, member_rules, member_finding}
-use Rattle.framing.specs.Shapes.{stressed_shape, shape4, shape5}
-use Rattle.framing.specs.Work.{told_work, work_of, told_worked}
-use Rattle.framing.specs.Bounds.{Product, Bounded}
 use Rattle.framing.proofs.rule6.Goals as goal
 
 -- src/lib.rt:89:9

@@ -1,5 +1,4 @@
 -- `framing::worked` meets its contract.
-use borrow.Author.Rules.{rules}
 use mathlib.Core.Path.{◌≡◌, sym, ap, ◌∙◌}
 use Rattle.sheet.specs.Refusals.{given}
 use Rattle.sheet.specs.Record.{of_member}
@@ -8,16 +7,6 @@ use Rattle.sheet.specs.laws.RecordLaws.{member_ranges}
 use Rattle.verdict.specs.Judged.{Sound}
 use Rattle.verdict.specs.laws.JudgedLaws.{admitted_sound, turned_away, sound_given}
 use Rattle.framing.specs.Work.{told_work, work_of}
-use Rattle.std.proofs.Common.{◌*◌, ◌<◌, ◌≤◌, ◌^◌, ℕ, ◌+◌, ◌-◌, length, ◌/◌, ◌%◌, Bool, true, false, nat_eq, nat_lt, List, [], ◌∷◌, ◌++◌, slice_index_or, slice_set, bit_and, bit_or, Fits, w8, w32, w64, Bor, MutBor}
-use Rattle.gauge.specs.Ceil.{ceil_of}
-use Rattle.loads.specs.Sources.{told_load}
-use Rattle.sheet.specs.Ranges.{HeaderRanges, MemberRanges}
-use Rattle.verdict.specs.Verdict.{verdict_of}
-use Rattle.verdict.specs.Judged.{told_judged, judged_by}
-use Rattle.framing.specs.Rules.{member_pressure, member_named, member_rules, member_finding}
-use Rattle.framing.specs.Shapes.{stressed_shape, shape4, shape5, shape6}
-use Rattle.framing.specs.Work.{told_worked}
-use Rattle.framing.specs.Bounds.{Product, Bounded}
 use Rattle.framing.proofs.worked.Goals.{In_default}
 use Rattle.framing.proofs.worked.Goals as goal
 

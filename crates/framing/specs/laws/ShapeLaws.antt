@@ -5,8 +5,7 @@ use Rattle.std.proofs.Common.{ap, ◌∙◌, arith, mul_right_comm, mul-pos, lit
 use Rattle.gauge.specs.Ceil.{ceil_of}
 use Rattle.gauge.specs.Shape.{meets_of, Says}
 use Rattle.gauge.specs.laws.ShapeLaws.{either_says, over_floor, excess}
-use Rattle.gauge.specs.declared.Shape.{Shape}
-use Rattle.gauge.specs.declared.Shape.TheVariants.{Never, Floor, Square}
+use Rattle.gauge.specs.declared.Shape.TheVariants.{Never, Floor}
 use Rattle.quantity.specs.Range.{thickness, modulus, shear_area}
 use Rattle.sheet.specs.Kinds.{is_floor, is_deep}
 use Rattle.framing.specs.Rules.{stressed, is_short, rule4, rule5, rule6}

@@ -66,6 +66,8 @@ kept k x number top has low asks n = record { number = refl; asks = refl; named 
 pub body_put : (h : Header) (kind : ℕ) (b : Body) (v : Verdict) (f : Failing v (body_rules h kind b)) (x : ℕ)
     → AllPut v.rule x ((the_rule f).has ≤ x) (body_rules h kind b) (body_rules h kind (put_body v.rule x b))
 unfolding member_line
+body_put h kind (isPlate p) v (there t (there u (there _ x25))) x = elim x25 [ ]
+body_put h kind (isMember m) v (there t (there u (there _ x26))) x = elim x26 [ ]
 body_put h kind (isPlate p) v (here f e) x = (exchanged _ x _ _ _ _, (exchanged _ x _ _ _ _, (exchanged _ x _ _ _ _, tt)))
 body_put h kind (isPlate p) v (there t (here f e)) x = (exchanged _ x _ _ _ _, (exchanged _ x _ _ _ _, (exchanged _ x _ _ _ _, tt)))
 body_put h kind (isPlate p) v (there t (there u (here f e))) x = (exchanged _ x _ _ _ _, (exchanged _ x _ _ _ _, (exchanged _ x _ _ _ _, tt)))
