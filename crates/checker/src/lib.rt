@@ -19,7 +19,7 @@ use sheet::{Header, HeaderRead, MOST, Outcome, RECORD, RecordRead, Refusal};
 use verdict::{Judged, Verdict};
 
 // One verdict as it stands in the output, with the id of its record.
-#[derive(Drop)]
+#[derive(Clone, Copy)]
 pub struct Entry {
     pub id: u16,
     // 0 is a pass

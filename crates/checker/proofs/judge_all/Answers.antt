@@ -1,0 +1,78 @@
+-- `checker::judge_all` meets its contract. The loop's invariant: what the pass comes to from here on is what it comes to in all.
+use borrow.Author.Rules.{rules}
+use mathlib.Core.Path.{◌≡◌, refl, ap, sym, ◌∙◌}
+use Prim.Native.Nat.{◌≤◌, ◌-◌}
+use native.Mathlib.Omega.{arith}
+use lib.ListN.{length, set, length-set}
+use Rattle.sheet.specs.Refusals.{given}
+use Rattle.checker.specs.Entry.{told_entry}
+use Rattle.checker.specs.laws.EntryLaws.{entry_fit}
+use Rattle.checker.specs.Check.{record_part}
+use Rattle.checker.specs.Passes.{judged_after, pass_over}
+use Rattle.checker.proofs.Pass.{pass_from, writable, pass_start, pass_refused, pass_turn, pass_end}
+use Rattle.std.proofs.Common.{cond, ◌++◌, ◌+◌, ◌*◌, eqb, drop, ℕ, ◌<◌, ◌/◌, ◌%◌, Bool, true, false, nat_lt, List, [], ◌∷◌, slice_index_or, slice_set, bit_and, bit_or, Fits, w8, w32, w64, Bor, MutBor}
+use Rattle.quantity.specs.Range.{modulus}
+use Rattle.layout.specs.Layout.{pack, unpack, Fit}
+use Rattle.layout.specs.Bytes.{written_of}
+use Rattle.sheet.specs.Refusals.{told, told_outcome, told_header, told_record}
+use Rattle.sheet.specs.Header.{header_fault}
+use Rattle.sheet.specs.Writes.{Writes}
+use Rattle.checker.specs.Entry.{verdict_widths, entry_values, entry_at, entry_fault, read_entry, write_entry}
+use Rattle.checker.specs.Check.{header_for, sound_after, entry_with}
+use Rattle.checker.specs.Check.{failing as failingOf}
+use Rattle.checker.specs.Check.{Checks}
+use Rattle.checker.specs.Unjudged.{records_sound, sound_header}
+use Rattle.checker.specs.Passes.{Refuses, Ready, told_passed, number_bytes}
+use Rattle.checker.proofs.judge_all.Goals as goal
+
+-- src/lib.rt:297:5
+pub loop-i-init : goal.loop-i-init
+loop-i-init c =
+    let a = c.args in
+    (search rules, search rules, refl, pass_start a.h a.records.now a.draft.now)
+
+-- src/lib.rt:301:17
+-- LOOK: before
+pub returns-in-Refused : goal.returns-in-Refused
+returns-in-Refused c =
+    let l = c.loop-i in
+    let a = c.args in
+    pass_refused a.h.count a.h a.records.now l.i l.before l.failed l.draft l.invariant.3 _ _ c.loop-i-test.true
+    (sym (ap told_entry c.in-Refused.is) ∙ c.judged_at-judged.ensures)
+
+-- src/lib.rt:305:29
+-- LOOK: before
+pub number_of-requires : goal.number_of-requires
+number_of-requires c =
+    let l = c.loop-i in
+    let a = c.args in
+    entry_fit _ (writable a.h.count a.h a.records.now l.i l.before l.failed l.draft l.invariant.3 c.loop-i-test.true _
+    (sym (ap told_entry c.in-Good.is) ∙ c.judged_at-judged.ensures))
+
+-- src/lib.rt:306:9
+pub overflow_add-failed : goal.overflow_add-failed
+overflow_add-failed c = search rules
+
+-- src/lib.rt:297:5
+-- LOOK: before
+-- LOOK: κs/given
+pub loop-i-preserved : goal.loop-i-preserved
+loop-i-preserved c =
+    let l = c.loop-i in
+    let a = c.args in
+    let e = c.in-Good.e in
+    let judged : given e ≡ judged_after a.h l.i l.before (record_part a.records.now l.i) = sym (ap told_entry c.in-Good.is) ∙ c.judged_at-judged.ensures in (
+      search rules,
+      search rules,
+      simp length-set l.invariant.2,
+      pass_turn a.h.count a.h a.records.now l.i l.before l.failed l.draft l.invariant.3 c.loop-i-test.true e judged _
+          (ap (set l.draft l.i) c.number_of.ensures) (omega (arith, l.invariant.2, c.requires.fits)) c.failing-failed.result c.failing-failed.ensures.0,
+    )
+
+-- src/lib.rt:288:1
+-- LOOK: before
+pub returns : goal.returns
+returns c =
+    let l = c.loop-i in
+    let a = c.args in
+    pass_end a.h.count a.h a.records.now l.i l.before l.failed l.draft l.invariant.3 (omega arith)

@@ -1,0 +1,76 @@
+-- `checker::judged_after` meets its contract.
+use borrow.Author.Rules.{rules}
+use Prim.Native.Nat.{ℕ}
+use mathlib.Core.Path.{◌≡◌, sym, ap, ◌∙◌}
+use Rattle.loads.specs.Sources.{number_of}
+use Rattle.verdict.specs.Judged.{Finding, told_judged}
+use Rattle.checker.specs.Check.{entry_with}
+use Rattle.checker.proofs.Pass.{judged_refused, spare_refused, order_refused, judging_refused, judged_good}
+use Rattle.std.proofs.Common.{cond, ◌++◌, ◌+◌, ◌*◌, ◌≤◌, eqb, length, drop, ◌-◌, ◌<◌, ◌/◌, ◌%◌, Bool, true, false, nat_lt, List, [], ◌∷◌, slice_index_or, slice_set, bit_and, bit_or, Fits, w8, w32, w64, Bor, MutBor}
+use Rattle.quantity.specs.Range.{modulus}
+use Rattle.layout.specs.Layout.{pack, unpack, Fit}
+use Rattle.layout.specs.Bytes.{written_of}
+use Rattle.sheet.specs.Refusals.{given, told, told_outcome, told_header, told_record}
+use Rattle.sheet.specs.Header.{header_fault}
+use Rattle.sheet.specs.Writes.{Writes}
+use Rattle.checker.specs.Entry.{verdict_widths, entry_values, entry_at, entry_fault, told_entry, read_entry, write_entry}
+use Rattle.checker.specs.Check.{header_for, record_part, sound_after}
+use Rattle.checker.specs.Check.{failing as failingOf}
+use Rattle.checker.specs.Check.{Checks}
+use Rattle.checker.specs.Unjudged.{records_sound, sound_header}
+use Rattle.checker.specs.Passes.{Refuses, judged_after, Ready, told_passed, pass_over, number_bytes}
+use Rattle.checker.proofs.judged_after.Goals as goal
+
+-- src/lib.rt:251:35
+-- LOOK: before
+pub why_refused-requires : goal.why_refused-requires
+why_refused-requires c =
+    let a = c.args in
+    spare_refused a.h a.i a.before a.bytes.now c.record_in-raw.result c.record_in-raw.ensures c.if-raw-ne0.true
+
+-- src/lib.rt:251:9
+-- LOOK: before
+pub returns-then-raw-ne0 : goal.returns-then-raw-ne0
+returns-then-raw-ne0 c =
+    let a = c.args in
+    judged_refused a.h a.i a.before a.bytes.now _ _ c.why_refused.ensures
+
+-- src/lib.rt:255:35
+-- LOOK: before
+pub why_refused-requires-then-id-before : goal.why_refused-requires-then-id-before
+why_refused-requires-then-id-before c =
+    let a = c.args in
+    order_refused a.h a.i a.before a.bytes.now c.record_in-raw.result c.record_in-raw.ensures c.if-id-before.true
+
+-- src/lib.rt:255:9
+-- LOOK: before
+pub returns-then-id-before : goal.returns-then-id-before
+returns-then-id-before c =
+    let a = c.args in
+    judged_refused a.h a.i a.before a.bytes.now _ _ c.why_refused-then-id-before.ensures
+
+-- src/lib.rt:259:35
+-- LOOK: before
+pub why_refused-requires-in_default : goal.why_refused-requires-in_default
+why_refused-requires-in_default c =
+    let a = c.args in
+    judging_refused a.h a.i a.before a.bytes.now c.record_in-raw.result c.record_in-raw.ensures c.requires _ _
+    (sym (ap told_judged c.in_default.is) ∙ c.judge-judged.ensures)
+
+-- src/lib.rt:259:9
+-- LOOK: before
+pub returns-in_default : goal.returns-in_default
+returns-in_default c =
+    let a = c.args in
+    judged_refused a.h a.i a.before a.bytes.now _ _ c.why_refused-in_default.ensures
+
+-- src/lib.rt:244:1
+-- LOOK: before
+pub returns : goal.returns
+returns c =
+    let a = c.args in
+    let id = c.record_in-raw.result.values.id in
+    let found : Finding = record { verdict = c.in-Verdict.v; source = number_of c.in-Verdict.source } in
+    let entry : c.entry_with.result ≡ entry_with id found = c.entry_with.ensures ∙ ap (λ (s : ℕ). entry_with id (record { verdict = found.verdict; source = s })) c.number.ensures in
+    judged_good a.h a.i a.before a.bytes.now c.record_in-raw.result c.record_in-raw.ensures c.requires found c.if-raw-ne0.false
+    c.if-id-before.false (sym (ap told_judged c.in-Verdict.is) ∙ c.judge-judged.ensures) c.entry_with.result entry

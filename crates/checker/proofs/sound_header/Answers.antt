@@ -1,0 +1,52 @@
+use Rattle.std.proofs.Common.{ℕ, ◌-◌, ◌≡◌, List, length, length-drop, sym, ap, ◌∙◌, arith}
+use borrow.Rule.Slice.PartMut.{mid_of}
+use Rattle.layout.specs.laws.Tail.{mid_past}
+use Rattle.sheet.specs.declared.Header.{Header}
+use Rattle.sheet.specs.Refusals.{told_header, told_outcome}
+use Rattle.sheet.specs.Header.{header_size}
+use Rattle.checker.specs.Check.{records_part}
+use Rattle.checker.specs.Unjudged.{records_sound}
+use Rattle.checker.specs.laws.FrontLaws.{header_fits}
+use Rattle.checker.proofs.Unjudged.{header_refused_lem, records_refused, all_sound}
+use Rattle.checker.proofs.sound_header.Goals as goal
+
+-- the bytes of all records
+past : (s : List ℕ) (h : Header) (size : ℕ) → size ≡ header_size h → mid_of size (length s - size) s ≡ records_part h s
+past s h size e = mid_past size (header_size h) s e
+
+pub slice_bounds-records_sound-count : goal.slice_bounds-records_sound-count
+slice_bounds-records_sound-count c =
+    let read = sym (ap told_header c.in-Good.is) ∙ c.header_for-read.ensures in
+    omega (arith, c.size.ensures, (header_fits _ _ _ (sym read)).whole)
+
+pub slice_bounds-records_sound-start : goal.slice_bounds-records_sound-start
+slice_bounds-records_sound-start c =
+    let read = sym (ap told_header c.in-Good.is) ∙ c.header_for-read.ensures in
+    omega (arith, c.size.ensures, (header_fits _ _ _ (sym read)).whole)
+
+pub records_sound-found-requires : goal.records_sound-found-requires
+records_sound-found-requires c =
+    let s = c.args.sheet.now in
+    let h = c.in-Good.h in
+    let read = sym (ap told_header c.in-Good.is) ∙ c.header_for-read.ensures in
+    omega (arith, ap length (past s h c.size.result c.size.ensures), length-drop (header_size h) s, (header_fits _ _ _ (sym read)).whole)
+
+pub returns-in-Refused : goal.returns-in-Refused
+returns-in-Refused c = header_refused_lem c.args.sheet.now _ _ (sym (ap told_header c.in-Refused.is) ∙ c.header_for-read.ensures)
+
+-- what is said of the records
+pub returns-in-Refused-found : goal.returns-in-Refused-found
+returns-in-Refused-found c =
+    let s = c.args.sheet.now in
+    let h = c.in-Good.h in
+    let read = sym (ap told_header c.in-Good.is) ∙ c.header_for-read.ensures in
+    records_refused s _ read _ _
+    (sym (ap told_outcome c.in-Refused-found.is) ∙ c.records_sound-found.ensures ∙ ap (λ (b : List ℕ). records_sound b h.count) (past s h c.size.result c.size.ensures))
+
+pub returns-in-Fine : goal.returns-in-Fine
+returns-in-Fine c =
+    let s = c.args.sheet.now in
+    let h = c.in-Good.h in
+    let read = sym (ap told_header c.in-Good.is) ∙ c.header_for-read.ensures in
+    all_sound s _ read
+    (sym (ap told_outcome c.in-Fine.is) ∙ c.records_sound-found.ensures ∙ ap (λ (b : List ℕ). records_sound b h.count) (past s h c.size.result c.size.ensures))
