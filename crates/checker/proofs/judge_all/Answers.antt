@@ -1,28 +1,14 @@
 -- `checker::judge_all` meets its contract. The loop's invariant: what the pass comes to from here on is what it comes to in all.
 use borrow.Author.Rules.{rules}
 use mathlib.Core.Path.{◌≡◌, refl, ap, sym, ◌∙◌}
-use Prim.Native.Nat.{◌≤◌, ◌-◌}
 use native.Mathlib.Omega.{arith}
-use lib.ListN.{length, set, length-set}
+use lib.ListN.{set, length-set}
 use Rattle.sheet.specs.Refusals.{given}
 use Rattle.checker.specs.Entry.{told_entry}
 use Rattle.checker.specs.laws.EntryLaws.{entry_fit}
 use Rattle.checker.specs.Check.{record_part}
-use Rattle.checker.specs.Passes.{judged_after, pass_over}
-use Rattle.checker.proofs.Pass.{pass_from, writable, pass_start, pass_refused, pass_turn, pass_end}
-use Rattle.std.proofs.Common.{cond, ◌++◌, ◌+◌, ◌*◌, eqb, drop, ℕ, ◌<◌, ◌/◌, ◌%◌, Bool, true, false, nat_lt, List, [], ◌∷◌, slice_index_or, slice_set, bit_and, bit_or, Fits, w8, w32, w64, Bor, MutBor}
-use Rattle.quantity.specs.Range.{modulus}
-use Rattle.layout.specs.Layout.{pack, unpack, Fit}
-use Rattle.layout.specs.Bytes.{written_of}
-use Rattle.sheet.specs.Refusals.{told, told_outcome, told_header, told_record}
-use Rattle.sheet.specs.Header.{header_fault}
-use Rattle.sheet.specs.Writes.{Writes}
-use Rattle.checker.specs.Entry.{verdict_widths, entry_values, entry_at, entry_fault, read_entry, write_entry}
-use Rattle.checker.specs.Check.{header_for, sound_after, entry_with}
-use Rattle.checker.specs.Check.{failing as failingOf}
-use Rattle.checker.specs.Check.{Checks}
-use Rattle.checker.specs.Unjudged.{records_sound, sound_header}
-use Rattle.checker.specs.Passes.{Refuses, Ready, told_passed, number_bytes}
+use Rattle.checker.specs.Passes.{judged_after}
+use Rattle.checker.proofs.Pass.{writable, pass_start, pass_refused, pass_turn, pass_end}
 use Rattle.checker.proofs.judge_all.Goals as goal
 
 -- src/lib.rt:297:5

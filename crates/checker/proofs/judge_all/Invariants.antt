@@ -1,17 +1,6 @@
 use Rattle.checker.proofs.Pass.{pass_from}
-use Rattle.std.proofs.Common.{◌-◌, ◌≡◌, cond, ◌++◌, ◌+◌, ◌*◌, ◌≤◌, eqb, length, drop, ℕ, ◌<◌}
-use Rattle.quantity.specs.Range.{modulus}
-use Rattle.layout.specs.Layout.{pack, unpack, Fit}
-use Rattle.layout.specs.Bytes.{written_of}
-use Rattle.sheet.specs.Refusals.{given, told, told_outcome, told_header, told_record}
-use Rattle.sheet.specs.Header.{header_fault}
-use Rattle.sheet.specs.Writes.{Writes}
-use Rattle.checker.specs.Entry.{verdict_widths, entry_values, entry_at, entry_fault, told_entry, read_entry, write_entry}
-use Rattle.checker.specs.Check.{header_for, record_part, sound_after, entry_with}
-use Rattle.checker.specs.Check.{failing as failingOf}
-use Rattle.checker.specs.Check.{Checks}
-use Rattle.checker.specs.Unjudged.{records_sound, sound_header}
-use Rattle.checker.specs.Passes.{Refuses, judged_after, Ready, told_passed, pass_over, number_bytes}
+use Rattle.std.proofs.Common.{◌-◌, ◌≡◌, ◌≤◌, length}
+use Rattle.checker.specs.Passes.{pass_over}
 use Rattle.checker.proofs.judge_all.Given as goal
 
 abbrev pub invariant-loop-i : goal.invariant-loop-i

@@ -1,16 +1,10 @@
 -- `checker::records_sound` meets its contract. The loop's invariant: what the records come to from here on is what they come to in all.
 use borrow.Author.Rules.{rules}
 use mathlib.Core.Path.{◌≡◌, ap, sym, ◌∙◌}
-use Prim.Native.Nat.{◌≤◌, ◌-◌}
 use native.Mathlib.Omega.{arith}
 use Rattle.sheet.specs.Refusals.{given, told_record}
 use Rattle.checker.specs.Check.{record_part, sound_after}
-use Rattle.checker.specs.Unjudged.{records_sound}
-use Rattle.checker.proofs.Unjudged.{sound_from, sound_start, sound_refused, sound_turn, sound_end}
-use Rattle.std.proofs.Common.{◌+◌, ◌*◌, length, ℕ, ◌<◌, ◌/◌, ◌%◌, Bool, true, false, nat_eq, nat_lt, List, [], ◌∷◌, ◌++◌, slice_index_or, slice_set, bit_and, bit_or, Fits, w8, w32, w64, Bor, MutBor}
-use Rattle.sheet.specs.Refusals.{told_outcome, told_header}
-use Rattle.checker.specs.Check.{header_for}
-use Rattle.checker.specs.Unjudged.{sound_header}
+use Rattle.checker.proofs.Unjudged.{sound_start, sound_refused, sound_turn, sound_end}
 use Rattle.checker.proofs.records_sound.Goals as goal
 
 -- src/lib.rt:75:5

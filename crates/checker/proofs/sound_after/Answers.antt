@@ -1,12 +1,7 @@
 -- `checker::sound_after` meets its contract.
-use borrow.Author.Rules.{rules}
 use mathlib.Core.Path.{sym, ap, ◌∙◌}
 use Rattle.sheet.specs.Refusals.{told_record}
 use Rattle.checker.proofs.Faults.{record_refused_lem, record_order, record_good}
-use Rattle.std.proofs.Common.{◌≡◌, ◌+◌, ◌*◌, ◌≤◌, length, ℕ, ◌-◌, ◌<◌, ◌/◌, ◌%◌, Bool, true, false, nat_eq, nat_lt, List, [], ◌∷◌, ◌++◌, slice_index_or, slice_set, bit_and, bit_or, Fits, w8, w32, w64, Bor, MutBor}
-use Rattle.sheet.specs.Refusals.{told_outcome, told_header}
-use Rattle.checker.specs.Check.{header_for, record_part, sound_after}
-use Rattle.checker.specs.Unjudged.{records_sound, sound_header}
 use Rattle.checker.proofs.sound_after.Goals as goal
 
 -- src/lib.rt:51:17

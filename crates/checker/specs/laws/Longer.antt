@@ -1,11 +1,11 @@
 -- A sheet that is longer than any: its first 6421 bytes say all that the answer rests on, so that no more have to be read.
 -- Assumes nothing.
-use Rattle.std.specs.Prelude.{ℕ, ◌+◌, ◌≤◌, ◌<◌, ◌≡◌, refl, List, length, take}
+use Rattle.std.specs.Prelude.{ℕ, ◌≤◌, ◌<◌, ◌≡◌, refl, List, length, take}
 use Rattle.std.proofs.Common.{sym, ap, ◌∙◌, arith, length-take, take_all, take-take, ne_eqb}
 use Rattle.std.proofs.Math.Decide.{dec_lt}
 use Rattle.sheet.specs.declared.Header.{Header}
 use Rattle.sheet.specs.Refusals.{Answer, given, refused}
-use Rattle.sheet.specs.Versions.{longest_sheet, enough}
+use Rattle.sheet.specs.Versions.{enough}
 use Rattle.sheet.specs.laws.VersionLaws.{regular, regular_at}
 use Rattle.sheet.specs.Header.{version_field, version_in}
 use Rattle.sheet.specs.laws.HeaderFront.{read_same}
