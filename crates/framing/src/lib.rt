@@ -129,7 +129,7 @@ fn member_verdict(h: Header, kind: u8, m: Member, load: Load) -> Verdict
 }
 
 // What a member's rules go by, and what they ask of its web, its modulus and its shear area.
-#[derive(Drop)]
+#[derive(Clone, Copy)]
 pub struct MemberWork {
     pub load: Load,
     // q

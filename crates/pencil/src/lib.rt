@@ -38,7 +38,7 @@ pub struct Trail {
 }
 
 // A section: its lines by their templates' numbers, 0 for none, and its own registers.
-#[derive(Drop)]
+#[derive(Clone, Copy)]
 struct Section {
     lines: [u8; 9],
     own: [u64; 32],

@@ -218,7 +218,7 @@ fn plate_verdict(h: Header, kind: u8, p: Plate, load: Load) -> Verdict
 }
 
 // What a plate's rules go by, and what they ask of its thickness.
-#[derive(Drop)]
+#[derive(Clone, Copy)]
 pub struct PlateWork {
     pub load: Load,
     // ZB or ZDB

@@ -12,7 +12,7 @@ use loads::Source;
 use sheet::{Header, Member, Outcome, Plate, Refusal};
 
 // Rule 0 is a pass. Required is 0 on a pass, and where nothing in the gauge will do.
-#[derive(Drop)]
+#[derive(Clone, Copy)]
 pub struct Verdict {
     pub rule: u8,
     pub required: u32,

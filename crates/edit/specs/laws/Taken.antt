@@ -49,32 +49,44 @@ taken_reads i before (p ∷ ps) rs e =
 -- and the other way round
 pub reads_taken : (i before : ℕ) (ps : List (List ℕ)) (rs : List Record) → Reads ps rs → rises id_of before rs ≡ true → records_in i before ps ≡ given rs
 unfolding records_in rises sound_after ◌then◌
+reads_taken i before [] (r ∷ rs) x4 e = elim x4 [ ]
+reads_taken i before (p ∷ ps) [] x4 e = elim x4 [ ]
 reads_taken i before [] [] nothing e = refl
 reads_taken i before (p ∷ ps) (r ∷ rs) (reads f s) e =
     let h = both (ltb before r.id) (rises id_of r.id rs) e in
     rw (record_read_any 0 p r f i, h.0, reads_taken (i + 1) r.id ps rs s h.1)
 
 pub reads_length : (ps : List (List ℕ)) (rs : List Record) → Reads ps rs → length ps ≡ length rs
+reads_length [] (r ∷ rs) x'' = elim x'' [ ]
+reads_length (p ∷ ps) [] x3 = elim x3 [ ]
 reads_length [] [] nothing = refl
 reads_length (p ∷ ps) (r ∷ rs) (reads f s) = ap suc (reads_length ps rs s)
 
 -- parts of both
 pub reads_append : (ps qs : List (List ℕ)) (rs us : List Record) → Reads ps rs → Reads qs us → Reads (ps ++ qs) (rs ++ us)
+reads_append [] qs (r ∷ rs) us x4 t = elim x4 [ ]
+reads_append (p ∷ ps) qs [] us x4 t = elim x4 [ ]
 reads_append [] qs [] us nothing t = t
 reads_append (p ∷ ps) qs (r ∷ rs) us (reads f s) t = reads f (reads_append ps qs rs us s t)
 
 pub reads_take : (k : ℕ) (ps : List (List ℕ)) (rs : List Record) → Reads ps rs → Reads (take k ps) (take k rs)
+reads_take (suc k) [] (r ∷ rs) s = elim s [ ]
+reads_take (suc k) (p ∷ ps) [] s = elim s [ ]
 reads_take zero ps rs s = nothing
 reads_take (suc k) [] [] nothing = nothing
 reads_take (suc k) (p ∷ ps) (r ∷ rs) (reads f s) = reads f (reads_take k ps rs s)
 
 pub reads_drop : (k : ℕ) (ps : List (List ℕ)) (rs : List Record) → Reads ps rs → Reads (drop k ps) (drop k rs)
+reads_drop (suc k) [] (r ∷ rs) s = elim s [ ]
+reads_drop (suc k) (p ∷ ps) [] s = elim s [ ]
 reads_drop zero ps rs s = s
 reads_drop (suc k) [] [] nothing = nothing
 reads_drop (suc k) (p ∷ ps) (r ∷ rs) (reads f s) = reads_drop k ps rs s
 
 -- the ids that stand in the bytes are those of the records
 same_ids : (id : ℕ) (ps : List (List ℕ)) (rs : List Record) → Reads ps rs → SameKeys id_in id_of id ps rs
+same_ids id [] (r ∷ rs) x'' = elim x'' [ ]
+same_ids id (p ∷ ps) [] x3 = elim x3 [ ]
 same_ids id [] [] nothing = none
 same_ids id (p ∷ ps) (r ∷ rs) (reads f s) = next (ap (λ (w : Raw). w.values.id) ((record_read_raw 0 p r).0 f).0) (same_ids id ps rs s)
 

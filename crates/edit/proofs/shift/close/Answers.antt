@@ -1,0 +1,28 @@
+-- `edit::shift::close` meets its contract. At the loop's head the bytes below k are in their new places.
+use borrow.Author.Rules.{rules}
+use mathlib.Core.Path.{◌≡◌, refl}
+use Prim.Native.Nat.{◌-◌, ◌≤◌}
+use native.Mathlib.Omega.{arith}
+use lib.ListN.{length, length-set}
+use Rattle.edit.specs.Steps.{closed}
+use Rattle.edit.proofs.Shifts.{close_none, close_turn}
+use Rattle.std.proofs.Common.{◌+◌, replicate, ℕ, ◌*◌, ◌<◌, ◌/◌, ◌%◌, Bool, true, false, nat_eq, nat_lt, List, [], ◌∷◌, ◌++◌, slice_index_or, slice_set, bit_and, bit_or, Fits, w8, w32, w64, Bor, MutBor}
+use Rattle.edit.specs.Steps.{opened, cleared}
+use Rattle.edit.proofs.shift.close.Goals as goal
+
+-- src/shift.rt:24:5
+pub loop-k-init : goal.loop-k-init
+loop-k-init c = (search rules, search rules, refl, close_none _ _ (omega arith))
+
+-- src/shift.rt:24:5
+pub loop-k-preserved : goal.loop-k-preserved
+loop-k-preserved c =
+    let l = c.loop-k in
+    (search rules, search rules, simp length-set l.invariant.2, rw l.invariant.3 (close_turn _ _ _ (omega arith) (omega arith)))
+
+-- src/shift.rt:19:1
+pub returns : goal.returns
+returns c =
+    let l = c.loop-k in
+    let e : l.k ≡ c.args.end - 16 = omega arith in
+    rw (← e) l.invariant.3

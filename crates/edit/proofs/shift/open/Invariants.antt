@@ -1,0 +1,15 @@
+use borrow.Author.Rules.{rules}
+use mathlib.Core.Path.{refl}
+use native.Mathlib.Omega.{arith}
+use lib.ListN.{length-set}
+use Rattle.edit.proofs.Shifts.{open_none, open_turn}
+use Rattle.std.proofs.Common.{◌-◌, ◌≡◌, ◌+◌, ◌≤◌, length, replicate, ℕ, ◌*◌, ◌<◌}
+use Rattle.edit.specs.Steps.{opened, closed, cleared}
+use Rattle.edit.proofs.shift.open.Given as goal
+
+abbrev pub invariant-loop-k : goal.invariant-loop-k
+invariant-loop-k l = (l.at ≤ l.k) × (l.k ≤ l.end) × (length l.buf ≡ length l.initial.buf) × (l.buf ≡ opened l.initial.buf l.k l.end)
+
+-- proposed from the loop's first test
+abbrev pub decreases-loop-k : goal.decreases-loop-k
+decreases-loop-k l = l.k - l.at
