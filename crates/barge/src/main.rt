@@ -1,12 +1,14 @@
 // The program: a sheet on standard input, checked and reported.
+#![tactic(auto)]
+
 ghost use Rattle.std.specs.Prelude.{◌≡◌, List, ℕ, ◌≤◌, length, take};
 ghost use Rattle.sheet.specs.Versions.{enough};
 ghost use Rattle.report.specs.Page.{Pages};
 
 use console::Read;
-use libc::STDOUT_FILENO;
 use report::Page;
 use sheet::ENOUGH;
+use std::io::Write;
 
 // What is printed of an input, from the bytes that were read of it: all, or as many as the buffer holds, which is one more than the longest sheet has.
 fn answer(buffer: &[u8], got: usize) -> Page
@@ -17,23 +19,23 @@ fn answer(buffer: &[u8], got: usize) -> Page
 }
 
 // The answer goes to standard output; of a text that was handed over for a sheet a word is said too.
-fn tell(sheet: &[u8], got: usize)
+fn tell(out: &mut impl Write, err: &mut impl Write, sheet: &[u8], got: usize)
     requires { (enough ≤ length sheet.now) × (got ≤ length sheet.now) }
 {
     let page = answer(sheet, got);
     let len = page.len;
     let text = page.bytes;
-    io::write_all(STDOUT_FILENO, &text[..len]);
+    let _ = out.write_all(&text[..len]);
     if text[0] == b'r' {
-        console::hint(&sheet[..got]);
+        console::hint(err, &sheet[..got]);
     }
 }
 
-fn main() {
+fn main(rt: HostRuntime) {
     let mut sheet = [0u8; ENOUGH];
-    let read = console::load(&mut sheet);
+    let read = console::load(&mut rt.stdin(), &mut rt.stderr(), &mut sheet);
     match read {
         Read::Failed => {}
-        Read::Got(got) => tell(&sheet, got),
+        Read::Got(got) => tell(&mut rt.stdout(), &mut rt.stderr(), &sheet, got),
     }
 }

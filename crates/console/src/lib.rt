@@ -35,7 +35,7 @@ fn read_full<R: io::Read>(input: &mut R, space: &mut [u8]) -> io::Result<usize>
 }
 
 // As much of the input as the space holds; why not is said.
-pub fn load<R: io::Read>(input: &mut R, err: &impl Print, space: &mut [u8]) -> Read
+pub fn load<R: io::Read>(input: &mut R, err: &mut impl Write, space: &mut [u8]) -> Read
     ensures loaded { Loaded result space.new }
     ensures came { Came (R.remaining input.old) (R.remaining input.new) result space.new }
 {
@@ -50,29 +50,29 @@ pub fn load<R: io::Read>(input: &mut R, err: &impl Print, space: &mut [u8]) -> R
 }
 
 // Bytes on standard error.
-pub fn write(err: &impl Print, what: &[u8]) {
+fn write(err: &mut impl Write, what: &[u8]) {
     let _ = err.write_all(what);
 }
 
 // A number on standard error.
-pub fn write_number(err: &impl Print, n: usize) {
-    let _ = err.print(n);
+fn write_number(err: &mut impl Write, n: usize) {
+    let _ = write!(err, "{n}");
 }
 
 // What every line of a program's own begins with.
-pub fn begin(err: &impl Print) {
+pub fn begin(err: &mut impl Write) {
     write(err, b"barge: ");
 }
 
 // A line on standard error.
-pub fn say(err: &impl Print, what: &[u8]) {
+pub fn say(err: &mut impl Write, what: &[u8]) {
     begin(err);
     write(err, what);
     write(err, b"\n");
 }
 
 // A line that a number ends.
-pub fn say_number(err: &impl Print, what: &[u8], n: usize) {
+pub fn say_number(err: &mut impl Write, what: &[u8], n: usize) {
     begin(err);
     write(err, what);
     write_number(err, n);
@@ -93,7 +93,7 @@ fn words(text: &[u8], numbered: bool) -> usize
 }
 
 // Why something could not be done, in the system's words.
-fn why(err: &impl Print, e: io::Error) {
+fn why(err: &mut impl Write, e: io::Error) {
     let mut text = [0u8; 128];
     let mut rest = &mut text[..];
     let _ = write!(rest, "{e}");
@@ -103,7 +103,7 @@ fn why(err: &impl Print, e: io::Error) {
 }
 
 // What could not be done to which input or output, and why.
-pub fn failed(err: &impl Print, what: &[u8], which: &[u8], e: io::Error) {
+pub fn failed(err: &mut impl Write, what: &[u8], which: &[u8], e: io::Error) {
     begin(err);
     write(err, what);
     write(err, which);
@@ -136,7 +136,7 @@ pub fn looks_like_text(input: &[u8]) -> bool
 }
 
 // A word to whoever hands over a text where a sheet is read.
-pub fn hint(err: &impl Print, input: &[u8]) {
+pub fn hint(err: &mut impl Write, input: &[u8]) {
     if looks_like_text(input) {
         say(
             err,

@@ -5,8 +5,8 @@ ghost use Rattle.sheet_csv.specs.Read.{Converts};
 ghost use Rattle.streams.specs.Texts.{asked, Answers};
 
 use crate::parts;
-use libc::STDOUT_FILENO;
 use sheet_csv::Converted;
+use std::io::Write;
 
 fn converted(what: u32, input: &[u8], out: &mut [u8]) -> Converted
     ensures { Converts (asked what input.now (length out.old)) out.old result out.new }
@@ -29,7 +29,7 @@ fn answer(what: u32, input: &[u8], out: &mut [u8], line: &mut [u8]) -> usize
     parts::put_line(c, line)
 }
 
-pub fn print(head: &[u8; 20], input: &[u8], out: &mut [u8]) -> bool
+pub fn print(to: &mut impl Write, head: &[u8; 20], input: &[u8], out: &mut [u8]) -> bool
     requires { length out.old ≤ 65536 }
 {
     let what = parts::number(head, 0);
@@ -38,7 +38,7 @@ pub fn print(head: &[u8; 20], input: &[u8], out: &mut [u8]) -> bool
     }
     let mut line = [0u8; parts::LINE];
     let end = answer(what, input, out, &mut line);
-    io::write_all(STDOUT_FILENO, &line[..end]);
-    io::write_all(STDOUT_FILENO, out);
+    let _ = to.write_all(&line[..end]);
+    let _ = to.write_all(out);
     true
 }
