@@ -17,6 +17,7 @@ use sheet::ENOUGH;
 use std::env::Env;
 use std::io;
 use std::io::Write;
+use std::process::ExitCode;
 
 // Where the words stand.
 const COMMAND: usize = 1;
@@ -32,18 +33,24 @@ fn records_in(len: usize) -> usize
     (len - 12) / 16
 }
 
-fn write_sheet(out: &mut impl Write, err: &mut impl Write, sheet: &[u8]) {
-    if let Err(e) = out.write_all(sheet) {
-        console::failed(err, b"cannot write ", b"the new sheet", e);
-        return;
+fn write_sheet(out: &mut impl Write, err: &mut impl Write, sheet: &[u8]) -> io::Result<()> {
+    let written = out.write_all(sheet);
+    if let Err(e) = written {
+        console::unwritten(err, b"the new sheet", e);
+        return written;
     }
     let n = records_in(sheet.len());
-    let _ = write!(err, "{n}");
-    let _ = err.write_all(b"\n");
+    let _ = writeln!(err, "{n}");
+    written
 }
 
 // The new sheet, or the refusal, with a word on a text that was handed over for a sheet.
-fn finish(out: &mut impl Write, err: &mut impl Write, sheet: &[u8], e: Edited)
+fn finish(
+    out: &mut impl Write,
+    err: &mut impl Write,
+    sheet: &[u8],
+    e: Edited,
+) -> io::Result<()>
     requires { EditInside e (length sheet.now) }
 {
     match e {
@@ -51,6 +58,7 @@ fn finish(out: &mut impl Write, err: &mut impl Write, sheet: &[u8], e: Edited)
         Edited::Refused(r) => {
             let _ = report::print_refusal(err, r);
             console::hint(err, sheet);
+            Ok(())
         }
     }
 }
@@ -70,52 +78,66 @@ fn remove_in(buffer: &mut [u8], got: usize, id: u32) -> Edited
     edit::remove(buffer, got, id)
 }
 
-fn put(env: &impl Env, input: &mut impl io::Read, out: &mut impl Write, err: &mut impl Write) {
+fn put(
+    env: &impl Env,
+    input: &mut impl io::Read,
+    out: &mut impl Write,
+    err: &mut impl Write,
+) -> io::Result<()> {
     let mut fields = [0u32; 13];
     if !words::record(env, err, FIRST, &mut fields) {
-        return;
+        return Ok(());
     }
     let mut sheet = [0u8; ENOUGH];
     let read = console::load(input, err, &mut sheet);
     match read {
-        Read::Failed => {}
+        Read::Failed => Ok(()),
         Read::Got(got) => {
             let e = put_in(&mut sheet, got, fields);
-            finish(out, err, &sheet, e);
+            finish(out, err, &sheet, e)
         }
     }
 }
 
-fn remove(env: &impl Env, input: &mut impl io::Read, out: &mut impl Write, err: &mut impl Write) {
+fn remove(
+    env: &impl Env,
+    input: &mut impl io::Read,
+    out: &mut impl Write,
+    err: &mut impl Write,
+) -> io::Result<()> {
     let given = words::given(env, FIRST);
     if given != 1 {
         console::say_number(err, b"remove takes one id, and here are ", given);
-        return;
+        return Ok(());
     }
     let mut id = [0u32; 1];
     if !words::take(env, err, FIRST, 1, &mut id) {
-        return;
+        return Ok(());
     }
     let mut sheet = [0u8; ENOUGH];
     let read = console::load(input, err, &mut sheet);
     match read {
-        Read::Failed => {}
+        Read::Failed => Ok(()),
         Read::Got(got) => {
             let e = remove_in(&mut sheet, got, id[0]);
-            finish(out, err, &sheet, e);
+            finish(out, err, &sheet, e)
         }
     }
 }
 
 // By the first letter of the command.
-fn main(rt: HostRuntime) {
+fn main(rt: HostRuntime) -> ExitCode {
+    let mut input = rt.stdin();
+    let mut out = rt.stdout();
+    let mut err = rt.stderr();
     let mut word = [0u8; 8];
     let _ = rt.arg(COMMAND, &mut word);
     if word[0] == b'p' {
-        put(&rt, &mut rt.stdin(), &mut rt.stdout(), &mut rt.stderr());
+        console::status(put(&rt, &mut input, &mut out, &mut err))
     } else if word[0] == b'r' {
-        remove(&rt, &mut rt.stdin(), &mut rt.stdout(), &mut rt.stderr());
+        console::status(remove(&rt, &mut input, &mut out, &mut err))
     } else {
-        console::say(&mut rt.stderr(), b"the command is put or remove");
+        console::say(&mut err, b"the command is put or remove");
+        ExitCode::SUCCESS
     }
 }

@@ -15,7 +15,9 @@ use console::Read;
 use decimal::Number;
 use sheet::{ENOUGH, Header, HeaderRead, Record, RecordRead};
 use std::env::{Env, FillError};
+use std::io;
 use std::io::Write;
+use std::process::ExitCode;
 
 // Where the word stands.
 const ID: usize = 1;
@@ -118,26 +120,27 @@ fn print_record(
     i: u16,
     asked: u32,
     begun: bool,
-) -> bool
+) -> io::Result<bool>
     requires { 16 * i + 16 ≤ length records.now }
 {
     let piece = piece_of(h, records, i, asked, begun);
     let len = piece.len;
     let bytes = piece.bytes;
-    let _ = out.write_all(&bytes[..len]);
-    piece.begun
+    out.write_all(&bytes[..len])?;
+    Ok(piece.begun)
 }
 
-fn print_trails(out: &mut impl Write, h: Header, records: &[u8], asked: u32)
+fn print_trails(out: &mut impl Write, h: Header, records: &[u8], asked: u32) -> io::Result<()>
     requires { 16 * h.count ≤ length records.now }
 {
     let n = h.count;
     let mut begun = false;
     let mut i: u16 = 0;
     while i < n {
-        begun = print_record(out, h, records, i, asked, begun);
+        begun = print_record(out, h, records, i, asked, begun)?;
         i += 1;
     }
+    Ok(())
 }
 
 // The id that is asked for, 0 where there is no word; a word that is no number asks for an id that no member has.
@@ -161,11 +164,11 @@ fn asked_id(env: &impl Env) -> u32 {
 }
 
 // A sheet that is not turned away.
-fn explain(env: &impl Env, out: &mut impl Write, h: Header, sheet: &[u8])
+fn explain(env: &impl Env, out: &mut impl Write, h: Header, sheet: &[u8]) -> io::Result<()>
     requires { sheet_size h ≡ length sheet.now }
 {
     let size = h.size();
-    print_trails(out, h, &sheet[size..], asked_id(env));
+    print_trails(out, h, &sheet[size..], asked_id(env))
 }
 
 // The trails, or the refusal, with a word on a text that was handed over for a sheet.
@@ -175,24 +178,27 @@ fn tell(
     err: &mut impl Write,
     sheet: &[u8],
     got: usize,
-)
+) -> io::Result<()>
     requires { (enough ≤ length sheet.now) × (got ≤ length sheet.now) }
 {
     let read = header_of(sheet, got);
     match read {
         HeaderRead::Good(h) => explain(env, out, h, &sheet[..got]),
         HeaderRead::Refused(r) => {
-            let _ = report::print_refusal(out, r);
+            let written = report::print_refusal(out, r);
             console::hint(err, sheet);
+            written
         }
     }
 }
 
-fn main(rt: HostRuntime) {
+fn main(rt: HostRuntime) -> ExitCode {
     let mut sheet = [0u8; ENOUGH];
     let read = console::load(&mut rt.stdin(), &mut rt.stderr(), &mut sheet);
     match read {
-        Read::Failed => {}
-        Read::Got(got) => tell(&rt, &mut rt.stdout(), &mut rt.stderr(), &sheet, got),
+        Read::Failed => ExitCode::SUCCESS,
+        Read::Got(got) => {
+            console::status(tell(&rt, &mut rt.stdout(), &mut rt.stderr(), &sheet, got))
+        }
     }
 }

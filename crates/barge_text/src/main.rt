@@ -20,6 +20,7 @@ use sheet_csv::Converted;
 use std::env::Env;
 use std::io;
 use std::io::Write;
+use std::process::ExitCode;
 
 // Where the word stands.
 const COMMAND: usize = 1;
@@ -44,10 +45,12 @@ struct Reply {
     line: u32,
 }
 
-fn print(out: &mut impl Write, err: &mut impl Write, bytes: &[u8]) {
-    if let Err(e) = out.write_all(bytes) {
-        console::failed(err, b"cannot write ", b"standard output", e);
+fn print(out: &mut impl Write, err: &mut impl Write, bytes: &[u8]) -> io::Result<()> {
+    let written = out.write_all(bytes);
+    if let Err(e) = written {
+        console::unwritten(err, b"standard output", e);
     }
+    written
 }
 
 // The line that a refusal names, which 14 and 15 do; else 0.
@@ -115,46 +118,64 @@ fn text_of(buffer: &[u8], got: usize, out: &mut [u8]) -> Converted
 }
 
 // What was made of the input goes to standard output, or the refusal to standard error.
-fn deliver(out: &mut impl Write, err: &mut impl Write, c: Converted, made: &[u8])
+fn deliver(
+    out: &mut impl Write,
+    err: &mut impl Write,
+    c: Converted,
+    made: &[u8],
+) -> io::Result<()>
     requires { MadeInside c (length made.now) }
 {
     match c {
         Converted::Length(n) => print(out, err, &made[..n]),
         Converted::Refused(r) => {
             let _ = report::print_refusal(err, r);
+            Ok(())
         }
     }
 }
 
-fn make_sheet(out: &mut impl Write, err: &mut impl Write, text: &[u8]) {
+fn make_sheet(out: &mut impl Write, err: &mut impl Write, text: &[u8]) -> io::Result<()> {
     let mut sheet = [0u8; sheet::LONGEST];
     let c = sheet_csv::read_table(text, &mut sheet);
-    deliver(out, err, c, &sheet);
+    let written = deliver(out, err, c, &sheet);
     show::line(err, text, line_at_fault(c));
+    written
 }
 
-fn make_text(out: &mut impl Write, err: &mut impl Write, buffer: &[u8], got: usize)
+fn make_text(
+    out: &mut impl Write,
+    err: &mut impl Write,
+    buffer: &[u8],
+    got: usize,
+) -> io::Result<()>
     requires { (enough ≤ length buffer.now) × (got ≤ length buffer.now) }
 {
     let mut text = [0u8; sheet_csv::LONGEST];
     let c = text_of(buffer, got, &mut text);
-    deliver(out, err, c, &text);
+    deliver(out, err, c, &text)
 }
 
-fn check(out: &mut impl Write, err: &mut impl Write, text: &[u8]) {
+fn check(out: &mut impl Write, err: &mut impl Write, text: &[u8]) -> io::Result<()> {
     let r = answer(text);
     let page = r.page;
     let len = page.len;
     let bytes = page.bytes;
-    print(out, err, &bytes[..len]);
+    let written = print(out, err, &bytes[..len]);
     show::line(err, text, r.line);
+    written
 }
 
-fn take(out: &mut impl Write, err: &mut impl Write, text: &[u8], checks: bool) {
+fn take(
+    out: &mut impl Write,
+    err: &mut impl Write,
+    text: &[u8],
+    checks: bool,
+) -> io::Result<()> {
     if checks {
-        check(out, err, text);
+        check(out, err, text)
     } else {
-        make_sheet(out, err, text);
+        make_sheet(out, err, text)
     }
 }
 
@@ -166,11 +187,17 @@ fn too_long(err: &mut impl Write) {
     );
 }
 
-fn from_text(out: &mut impl Write, err: &mut impl Write, text: &[u8], checks: bool) {
+fn from_text(
+    out: &mut impl Write,
+    err: &mut impl Write,
+    text: &[u8],
+    checks: bool,
+) -> io::Result<()> {
     if LONGEST < text.len() {
         too_long(err);
+        Ok(())
     } else {
-        take(out, err, text, checks);
+        take(out, err, text, checks)
     }
 }
 
@@ -179,20 +206,24 @@ fn take_text(
     out: &mut impl Write,
     err: &mut impl Write,
     checks: bool,
-) {
+) -> io::Result<()> {
     let mut space = [0u8; TEXT_READ];
     let read = console::load(input, err, &mut space);
     match read {
-        Read::Failed => {}
+        Read::Failed => Ok(()),
         Read::Got(got) => from_text(out, err, &space[..got], checks),
     }
 }
 
-fn take_sheet(input: &mut impl io::Read, out: &mut impl Write, err: &mut impl Write) {
+fn take_sheet(
+    input: &mut impl io::Read,
+    out: &mut impl Write,
+    err: &mut impl Write,
+) -> io::Result<()> {
     let mut space = [0u8; sheet::ENOUGH];
     let read = console::load(input, err, &mut space);
     match read {
-        Read::Failed => {}
+        Read::Failed => Ok(()),
         Read::Got(got) => make_text(out, err, &space, got),
     }
 }
@@ -213,15 +244,19 @@ fn command(env: &impl Env) -> Task {
     Task::Check
 }
 
-fn main(rt: HostRuntime) {
+fn main(rt: HostRuntime) -> ExitCode {
     let mut input = rt.stdin();
     let mut out = rt.stdout();
     let mut err = rt.stderr();
     let task = command(&rt);
-    match task {
+    let written = match task {
         Task::Sheet => take_text(&mut input, &mut out, &mut err, false),
         Task::Csv => take_sheet(&mut input, &mut out, &mut err),
         Task::Check => take_text(&mut input, &mut out, &mut err, true),
-        Task::None => console::say(&mut err, b"the command is sheet, csv or check"),
-    }
+        Task::None => {
+            console::say(&mut err, b"the command is sheet, csv or check");
+            Ok(())
+        }
+    };
+    console::status(written)
 }

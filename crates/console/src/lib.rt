@@ -8,7 +8,8 @@ ghost use Rattle.std.specs.Io.KnownBytes.{Consumes, IsAtEnd};
 ghost use Rattle.console.specs.Console.{Loaded, Came, begins_text, looks_like_text};
 
 use std::io;
-use std::io::Write;
+use std::io::{ErrorKind, Write};
+use std::process::ExitCode;
 
 // How many bytes were read, or that it could not be done.
 #[derive(Drop)]
@@ -110,6 +111,32 @@ pub fn failed(err: &mut impl Write, what: &[u8], which: &[u8], e: io::Error) {
     write(err, b": ");
     why(err, e);
     write(err, b"\n");
+}
+
+// Whether whoever read an output has gone.
+fn gone(e: io::Error) -> bool {
+    e.kind() == ErrorKind::BrokenPipe
+}
+
+// What could not be written, and why; nothing where whoever read the output has gone, since nobody is to be told then.
+pub fn unwritten(err: &mut impl Write, which: &[u8], e: io::Error) {
+    if !gone(e) {
+        failed(err, b"cannot write ", which, e);
+    }
+}
+
+// The status that a program ends with: 0, and 141, which a shell gives a program that the system ends so, where whoever read its output has gone.
+pub fn status(written: io::Result<()>) -> ExitCode {
+    match written {
+        Ok(()) => ExitCode::SUCCESS,
+        Err(e) => {
+            if gone(e) {
+                ExitCode::from(141)
+            } else {
+                ExitCode::SUCCESS
+            }
+        }
+    }
 }
 
 // Whether a text may begin with a byte: a digit, a quote, or the first byte of a byte-order mark.

@@ -12,7 +12,9 @@ mod vectors;
 ghost use Rattle.std.specs.Prelude.{◌≡◌, ◌≤◌, length};
 
 use std::env::Env;
+use std::io;
 use std::io::{Read, Write};
+use std::process::ExitCode;
 
 // The longest input, and the largest output.
 const LONGEST: usize = 65536;
@@ -65,7 +67,7 @@ fn answered(
     head: &[u8; 20],
     input: &[u8],
     out: &mut [u8],
-) -> bool
+) -> io::Result<bool>
     requires { length out.old ≤ 65536 }
 {
     match stream {
@@ -73,7 +75,7 @@ fn answered(
         Stream::Edits => edits::print(from, to, head, out),
         Stream::Texts => texts::print(to, head, input, out),
         Stream::Vectors => vectors::print(to, head, input, out),
-        Stream::None => false,
+        Stream::None => Ok(false),
     }
 }
 
@@ -85,14 +87,14 @@ fn read_case(
     head: &[u8; 20],
     input: &mut [u8],
     out: &mut [u8],
-) -> bool
+) -> io::Result<bool>
     requires { length out.old ≤ 65536 }
 {
     if parts::fill(from, input) < input.len() {
-        return false;
+        return Ok(false);
     }
     if parts::fill(from, out) < out.len() {
-        return false;
+        return Ok(false);
     }
     answered(from, to, stream, head, input, out)
 }
@@ -106,19 +108,19 @@ fn case(
     head: &[u8; 20],
     input: &mut [u8],
     out: &mut [u8],
-) -> bool
+) -> io::Result<bool>
     requires { (65536 ≤ length input.old) × (65536 ≤ length out.old) }
 {
     if got < head_bytes(stream) {
-        return false;
+        return Ok(false);
     }
     let len = parts::number(head, 1) as usize;
     let size = parts::number(head, 2) as usize;
     if LONGEST < len {
-        return false;
+        return Ok(false);
     }
     if LONGEST < size {
-        return false;
+        return Ok(false);
     }
     read_case(from, to, stream, head, &mut input[0..len], &mut out[0..size])
 }
@@ -130,22 +132,22 @@ fn turn(
     stream: Stream,
     input: &mut [u8],
     out: &mut [u8],
-) -> bool
+) -> io::Result<bool>
     requires { (65536 ≤ length input.old) × (65536 ≤ length out.old) }
 {
     let mut head = [0u8; 20];
     let got = read_head(from, stream, &mut head);
     if got == 0 {
-        return false;
+        return Ok(false);
     }
-    if case(from, to, stream, got, &head, input, out) {
-        return true;
+    if case(from, to, stream, got, &head, input, out)? {
+        return Ok(true);
     }
-    let _ = to.write_all(b"broken\n");
-    false
+    to.write_all(b"broken\n")?;
+    Ok(false)
 }
 
-fn main(rt: HostRuntime) {
+fn main(rt: HostRuntime) -> ExitCode {
     let mut from = rt.stdin();
     let mut to = rt.stdout();
     let mut err = rt.stderr();
@@ -154,11 +156,14 @@ fn main(rt: HostRuntime) {
     let stream = asked(&rt);
     if let Stream::None = stream {
         let _ = err.write_all(b"streams: the word is sheets, edits, texts or vectors\n");
-        return;
+        return ExitCode::SUCCESS;
     }
     for _ in 0..4294967296usize {
-        if !turn(&mut from, &mut to, stream, &mut input, &mut out) {
-            return;
+        match turn(&mut from, &mut to, stream, &mut input, &mut out) {
+            Ok(true) => {}
+            Ok(false) => return ExitCode::SUCCESS,
+            Err(e) => return console::status(Err(e)),
         }
     }
+    ExitCode::SUCCESS
 }

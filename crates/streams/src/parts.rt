@@ -6,6 +6,7 @@ ghost use Rattle.streams.specs.Parts.{number_at, fields_in, line_for, ShortLine}
 
 use report::Told;
 use sheet_csv::Converted;
+use std::io;
 use std::io::{Read, Write};
 
 // A refusal's longest line; a length's has fewer bytes.
@@ -76,11 +77,11 @@ pub fn put_line(c: Converted, line: &mut [u8]) -> usize
 }
 
 // The line, and the bytes that it speaks of.
-pub fn print(out: &mut impl Write, c: Converted, bytes: &[u8])
+pub fn print(out: &mut impl Write, c: Converted, bytes: &[u8]) -> io::Result<()>
     requires { ShortLine (told_converted c) }
 {
     let mut line = [0u8; LINE];
     let end = put_line(c, &mut line);
-    let _ = out.write_all(&line[..end]);
-    let _ = out.write_all(bytes);
+    out.write_all(&line[..end])?;
+    out.write_all(bytes)
 }

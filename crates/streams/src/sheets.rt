@@ -4,6 +4,7 @@ ghost use Rattle.report.specs.Page.{longest};
 ghost use Rattle.streams.specs.Sheets.{Apart};
 
 use report::Told;
+use std::io;
 use std::io::Write;
 
 // What `barge` prints of a sheet, and an empty line.
@@ -21,9 +22,9 @@ fn put_apart(sheet: &[u8], text: &mut [u8]) -> usize
     }
 }
 
-pub fn print(out: &mut impl Write, sheet: &[u8]) -> bool {
+pub fn print(out: &mut impl Write, sheet: &[u8]) -> io::Result<bool> {
     let mut text = [0u8; 6409];
     let end = put_apart(sheet, &mut text);
-    let _ = out.write_all(&text[..end]);
-    true
+    out.write_all(&text[..end])?;
+    Ok(true)
 }
