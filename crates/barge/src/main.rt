@@ -1,8 +1,10 @@
 // The program: a sheet on standard input, checked and reported.
 #![tactic(auto)]
 
-ghost use Rattle.std.specs.Prelude.{◌≡◌, List, ℕ, ◌≤◌, length, take};
+ghost use Rattle.std.specs.Prelude.{◌≡◌, List, ℕ, ◌≤◌, length, take, true, OnOk, IfOk, IfSome};
+ghost use Rattle.std.specs.Io.KnownBytes.{Appends};
 ghost use Rattle.sheet.specs.Versions.{enough};
+ghost use Rattle.report.specs.Text.{text_of};
 ghost use Rattle.report.specs.Page.{Pages};
 
 use console::Read;
@@ -20,14 +22,10 @@ fn answer(buffer: &[u8], got: usize) -> Page
     report::page_of(&buffer[..got])
 }
 
-// The answer goes to standard output; of a text that was handed over for a sheet a word is said too.
-fn tell(
-    out: &mut impl Write,
-    err: &mut impl Write,
-    sheet: &[u8],
-    got: usize,
-) -> io::Result<()>
+// The answer goes to the output; of a text that was handed over for a sheet a word is said too.
+fn tell<W: Write>(out: &mut W, err: &mut impl Write, sheet: &[u8], got: usize) -> io::Result<()>
     requires { (enough ≤ length sheet.now) × (got ≤ length sheet.now) }
+    ensures { OnOk result ((input : List ℕ) → take got sheet.now ≡ take (length sheet.now) input → Appends (W.contents out.old) (W.contents out.new) (text_of input)) }
 {
     let page = answer(sheet, got);
     let len = page.len;
@@ -39,13 +37,21 @@ fn tell(
     written
 }
 
-fn main(rt: HostRuntime) -> ExitCode {
+// Whether the input could be read. Of one whose bytes are known, the text of the answer to that sheet is written, and nothing else.
+fn run<R: io::Read, W: Write>(input: &mut R, out: &mut W, err: &mut impl Write) -> io::Result<bool>
+    ensures { IfOk result (λ done. done ≡ true → IfSome (R.remaining input.old) (λ bytes. Appends (W.contents out.old) (W.contents out.new) (text_of bytes))) }
+{
     let mut sheet = [0u8; ENOUGH];
-    let read = console::load(&mut rt.stdin(), &mut rt.stderr(), &mut sheet);
+    let read = console::load(input, err, &mut sheet);
     match read {
-        Read::Failed => ExitCode::SUCCESS,
+        Read::Failed => Ok(false),
         Read::Got(got) => {
-            console::status(tell(&mut rt.stdout(), &mut rt.stderr(), &sheet, got))
+            tell(out, err, &sheet, got)?;
+            Ok(true)
         }
     }
+}
+
+fn main(rt: HostRuntime) -> ExitCode {
+    console::status(run(&mut rt.stdin(), &mut rt.stdout(), &mut rt.stderr()))
 }

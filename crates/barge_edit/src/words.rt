@@ -115,16 +115,14 @@ fn take_fields(
 }
 
 // The numbers of a record, from the word `first` on.
-pub fn record(
-    env: &impl Env,
-    err: &mut impl Write,
-    first: usize,
-    fields: &mut [u32],
-) -> bool
+pub fn record(env: &impl Env, err: &mut impl Write, first: usize, fields: &mut [u32]) -> bool
     requires { (13 ≤ length fields.old) × (first < 65000) }
 {
     if given(env, first) == 0 {
-        console::say(err, b"a plate takes 11 numbers and a member 13, and here are 0");
+        console::say(
+            err,
+            b"a plate takes 11 numbers and a member 13, and here are 0",
+        );
         return false;
     }
     let kind = number(env, first);

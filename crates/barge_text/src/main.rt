@@ -118,12 +118,7 @@ fn text_of(buffer: &[u8], got: usize, out: &mut [u8]) -> Converted
 }
 
 // What was made of the input goes to standard output, or the refusal to standard error.
-fn deliver(
-    out: &mut impl Write,
-    err: &mut impl Write,
-    c: Converted,
-    made: &[u8],
-) -> io::Result<()>
+fn deliver(out: &mut impl Write, err: &mut impl Write, c: Converted, made: &[u8]) -> io::Result<()>
     requires { MadeInside c (length made.now) }
 {
     match c {
@@ -166,12 +161,7 @@ fn check(out: &mut impl Write, err: &mut impl Write, text: &[u8]) -> io::Result<
     written
 }
 
-fn take(
-    out: &mut impl Write,
-    err: &mut impl Write,
-    text: &[u8],
-    checks: bool,
-) -> io::Result<()> {
+fn take(out: &mut impl Write, err: &mut impl Write, text: &[u8], checks: bool) -> io::Result<()> {
     if checks {
         check(out, err, text)
     } else {

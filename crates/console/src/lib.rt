@@ -126,9 +126,9 @@ pub fn unwritten(err: &mut impl Write, which: &[u8], e: io::Error) {
 }
 
 // The status that a program ends with: 0, and 141, which a shell gives a program that the system ends so, where whoever read its output has gone.
-pub fn status(written: io::Result<()>) -> ExitCode {
+pub fn status<T: Drop>(written: io::Result<T>) -> ExitCode {
     match written {
-        Ok(()) => ExitCode::SUCCESS,
+        Ok(_) => ExitCode::SUCCESS,
         Err(e) => {
             if gone(e) {
                 ExitCode::from(141)

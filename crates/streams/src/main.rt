@@ -122,7 +122,14 @@ fn case(
     if LONGEST < size {
         return Ok(false);
     }
-    read_case(from, to, stream, head, &mut input[0..len], &mut out[0..size])
+    read_case(
+        from,
+        to,
+        stream,
+        head,
+        &mut input[0..len],
+        &mut out[0..size],
+    )
 }
 
 // One case of the stream, or false at its end.
@@ -161,8 +168,7 @@ fn main(rt: HostRuntime) -> ExitCode {
     for _ in 0..4294967296usize {
         match turn(&mut from, &mut to, stream, &mut input, &mut out) {
             Ok(true) => {}
-            Ok(false) => return ExitCode::SUCCESS,
-            Err(e) => return console::status(Err(e)),
+            ended => return console::status(ended),
         }
     }
     ExitCode::SUCCESS

@@ -30,12 +30,7 @@ fn answer(what: u32, input: &[u8], out: &mut [u8], line: &mut [u8]) -> usize
     parts::put_line(c, line)
 }
 
-pub fn print(
-    to: &mut impl Write,
-    head: &[u8; 20],
-    input: &[u8],
-    out: &mut [u8],
-) -> io::Result<bool>
+pub fn print(to: &mut impl Write, head: &[u8; 20], input: &[u8], out: &mut [u8]) -> io::Result<bool>
     requires { length out.old ≤ 65536 }
 {
     let what = parts::number(head, 0);
