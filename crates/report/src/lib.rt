@@ -1,5 +1,7 @@
 // What the programs print of a sheet, as text: a line with id, rule, required and source for each record, then one with n and the failures; of a
 // sheet that is turned away the refusal's number and place.
+#![tactic(auto)]
+
 ghost use Rattle.std.specs.Prelude.{[], ◌∷◌, ◌++◌, ◌+◌, ◌*◌, ◌≤◌, length, OnOk};
 ghost use Rattle.std.specs.Io.KnownBytes.{Appends};
 ghost use Rattle.decimal.specs.Decimal.{decimal_of};

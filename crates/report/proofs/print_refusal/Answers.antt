@@ -1,5 +1,5 @@
 -- `report::print_refusal` meets its contract: the line has room, and is what is written.
-use Rattle.std.proofs.Common.{◌≡◌, ℕ, ◌≤◌, List, length, take, replicate, sym, subst, arith, length-take-le, OnOk}
+use Rattle.std.proofs.Common.{◌≡◌, ℕ, ◌≤◌, List, length, replicate, sym, subst, arith, length-take-le, OnOk}
 use Rattle.std.specs.Io.KnownBytes.{Appends}
 use Rattle.decimal.specs.Laid.{Laid}
 use Rattle.decimal.specs.laws.LaidLaws.{laid_inside, laid_taken}

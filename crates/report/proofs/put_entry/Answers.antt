@@ -1,5 +1,4 @@
 -- `report::put_entry` meets its contract.
-use borrow.Author.Rules.{rules}
 use mathlib.Core.Path.{◌≡◌, sym, ap, ◌∙◌}
 use mathlib.Core.List.{List, [], ◌∷◌, ◌++◌, append_assoc}
 use Prim.Native.Nat.{ℕ}
@@ -10,12 +9,6 @@ use Rattle.decimal.specs.Line.{line_of}
 use Rattle.decimal.specs.laws.LineLaws.{line_one, line_more}
 use Rattle.decimal.specs.laws.LaidLaws.{first_fits, second_fits, laid_both}
 use Rattle.report.specs.Text.{line}
-use Rattle.std.proofs.Common.{◌+◌, ◌*◌, ◌≤◌, length, OnOk, ◌-◌, ◌<◌, ◌/◌, ◌%◌, Bool, true, false, nat_eq, nat_lt, slice_index_or, slice_set, bit_and, bit_or, Fits, w8, w32, w64, Bor, MutBor}
-use Rattle.std.specs.Io.KnownBytes.{Appends}
-use Rattle.decimal.specs.Laid.{Laid}
-use Rattle.report.specs.Text.{text_of}
-use Rattle.report.specs.Page.{longest_line, Tells, Pages}
-use Rattle.report.specs.Pieces.{verdict_text, verdicts_text, refusal_text, checked_text, Roomy, TellsRefusal}
 use Rattle.report.proofs.put_entry.Goals as goal
 
 -- `report::put_entry` meets its contract.

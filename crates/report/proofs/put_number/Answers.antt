@@ -1,5 +1,4 @@
 -- `report::put_number` meets its contract.
-use borrow.Author.Rules.{rules}
 use Prim.Native.Nat.{◌+◌, ◌-◌}
 use mathlib.Core.List.{◌++◌}
 use native.Mathlib.Omega.{arith}
@@ -8,13 +7,6 @@ use borrow.Rule.Slice.PartMut.{put_mid}
 use Rattle.decimal.specs.Decimal.{decimal_of}
 use Rattle.decimal.specs.Laid.{Laid}
 use Rattle.decimal.specs.laws.LaidLaws.{laid_put}
-use Rattle.std.proofs.Common.{[], ◌∷◌, ◌*◌, ◌≤◌, OnOk, ◌≡◌, ℕ, ◌<◌, ◌/◌, ◌%◌, Bool, true, false, nat_eq, nat_lt, List, slice_index_or, slice_set, bit_and, bit_or, Fits, w8, w32, w64, Bor, MutBor}
-use Rattle.std.specs.Io.KnownBytes.{Appends}
-use Rattle.decimal.specs.Line.{line_of}
-use Rattle.checker.specs.Entry.{entry_values}
-use Rattle.report.specs.Text.{line, text_of}
-use Rattle.report.specs.Page.{longest_line, Tells, Pages}
-use Rattle.report.specs.Pieces.{verdict_text, verdicts_text, refusal_text, checked_text, Roomy, TellsRefusal}
 use Rattle.report.proofs.put_number.Goals.{After-write_number}
 use Rattle.report.proofs.put_number.Goals as goal
 

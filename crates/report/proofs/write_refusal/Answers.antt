@@ -1,5 +1,5 @@
 -- `report::write_refusal` meets its contract: the line stands in front of 22 zeros.
-use Rattle.std.proofs.Common.{◌≡◌, ℕ, ◌≤◌, List, length, take, replicate, sym, subst, arith, length-take-le}
+use Rattle.std.proofs.Common.{◌≡◌, ℕ, ◌≤◌, List, length, replicate, sym, subst, arith, length-take-le}
 use Rattle.decimal.specs.Laid.{Laid}
 use Rattle.decimal.specs.laws.LaidLaws.{laid_inside, laid_taken}
 use Rattle.report.specs.Page.{Tells}
