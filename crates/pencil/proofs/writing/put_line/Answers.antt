@@ -27,11 +27,13 @@ slice_bounds-fill-count c = (piece_at c.args.t c.if-k-ge-COUNT.false).order
 
 -- src/writing.rt:21:19
 pub slice_bounds-fill-start : goal.slice_bounds-fill-start
-slice_bounds-fill-start c = search rules
+unfolding texts templates decimal_of digits_in
+slice_bounds-fill-start c = (piece_at c.args.t c.if-k-ge-COUNT.false).order
 
 -- src/writing.rt:21:19
 pub slice_bounds-fill-end : goal.slice_bounds-fill-end
-slice_bounds-fill-end c = search rules
+unfolding texts templates decimal_of digits_in
+slice_bounds-fill-end c = (piece_at c.args.t c.if-k-ge-COUNT.false).high
 
 -- src/writing.rt:10:1
 -- LOOK: κs/given
