@@ -1,6 +1,8 @@
 // The drawing office's program: puts a record into the sheet on standard input, or takes one out, and writes the new sheet to standard output. How many
 // records it has then goes to standard error; so does a refusal, and whatever else is wrong, with nothing on standard output. Its words: put and the record's
 // numbers, or remove and the id.
+#![tactic(auto)]
+
 mod words;
 
 ghost use Rattle.std.specs.Prelude.{◌≡◌, ◌≤◌, length};
@@ -11,8 +13,11 @@ ghost use Rattle.barge_edit.specs.Office.{record_count, EditInside, OfFile};
 use console::Read;
 use decimal::Number;
 use edit::Edited;
-use libc::{STDERR_FILENO, STDOUT_FILENO};
 use sheet::ENOUGH;
+use std::env::Env;
+use std::io;
+use std::io::Write;
+use std::process::ExitCode;
 
 // Where the words stand.
 const COMMAND: usize = 1;
@@ -28,24 +33,27 @@ fn records_in(len: usize) -> usize
     (len - 12) / 16
 }
 
-fn write_sheet(sheet: &[u8]) {
-    if !io::write_all(STDOUT_FILENO, sheet) {
-        console::failed(b"cannot write ", b"the new sheet");
-        return;
+fn write_sheet(out: &mut impl Write, err: &mut impl Write, sheet: &[u8]) -> io::Result<()> {
+    let written = out.write_all(sheet);
+    if let Err(e) = written {
+        console::unwritten(err, b"the new sheet", e);
+        return written;
     }
-    io::print_decimal(STDERR_FILENO, records_in(sheet.len()) as u64);
-    io::write_all(STDERR_FILENO, b"\n");
+    let n = records_in(sheet.len());
+    let _ = writeln!(err, "{n}");
+    written
 }
 
 // The new sheet, or the refusal, with a word on a text that was handed over for a sheet.
-fn finish(sheet: &[u8], e: Edited)
+fn finish(out: &mut impl Write, err: &mut impl Write, sheet: &[u8], e: Edited) -> io::Result<()>
     requires { EditInside e (length sheet.now) }
 {
     match e {
-        Edited::Length(len) => write_sheet(&sheet[..len]),
+        Edited::Length(len) => write_sheet(out, err, &sheet[..len]),
         Edited::Refused(r) => {
-            report::print_refusal(STDERR_FILENO, r);
-            console::hint(sheet);
+            let _ = report::print_refusal(err, r);
+            console::hint(err, sheet);
+            Ok(())
         }
     }
 }
@@ -65,52 +73,66 @@ fn remove_in(buffer: &mut [u8], got: usize, id: u32) -> Edited
     edit::remove(buffer, got, id)
 }
 
-fn put() {
+fn put(
+    env: &impl Env,
+    input: &mut impl io::Read,
+    out: &mut impl Write,
+    err: &mut impl Write,
+) -> io::Result<()> {
     let mut fields = [0u32; 13];
-    if !words::record(FIRST, &mut fields) {
-        return;
+    if !words::record(env, err, FIRST, &mut fields) {
+        return Ok(());
     }
     let mut sheet = [0u8; ENOUGH];
-    let read = console::load(&mut sheet);
+    let read = console::load(input, err, &mut sheet);
     match read {
-        Read::Failed => {}
+        Read::Failed => Ok(()),
         Read::Got(got) => {
             let e = put_in(&mut sheet, got, fields);
-            finish(&sheet, e);
+            finish(out, err, &sheet, e)
         }
     }
 }
 
-fn remove() {
-    let given = words::given(FIRST);
+fn remove(
+    env: &impl Env,
+    input: &mut impl io::Read,
+    out: &mut impl Write,
+    err: &mut impl Write,
+) -> io::Result<()> {
+    let given = words::given(env, FIRST);
     if given != 1 {
-        console::say_number(b"remove takes one id, and here are ", given);
-        return;
+        console::say_number(err, b"remove takes one id, and here are ", given);
+        return Ok(());
     }
     let mut id = [0u32; 1];
-    if !words::take(FIRST, 1, &mut id) {
-        return;
+    if !words::take(env, err, FIRST, 1, &mut id) {
+        return Ok(());
     }
     let mut sheet = [0u8; ENOUGH];
-    let read = console::load(&mut sheet);
+    let read = console::load(input, err, &mut sheet);
     match read {
-        Read::Failed => {}
+        Read::Failed => Ok(()),
         Read::Got(got) => {
             let e = remove_in(&mut sheet, got, id[0]);
-            finish(&sheet, e);
+            finish(out, err, &sheet, e)
         }
     }
 }
 
 // By the first letter of the command.
-fn main() {
+fn main(rt: HostRuntime) -> ExitCode {
+    let mut input = rt.stdin();
+    let mut out = rt.stdout();
+    let mut err = rt.stderr();
     let mut word = [0u8; 8];
-    os::arg(COMMAND, &mut word);
+    let _ = rt.arg(COMMAND, &mut word);
     if word[0] == b'p' {
-        put();
+        console::status(put(&rt, &mut input, &mut out, &mut err))
     } else if word[0] == b'r' {
-        remove();
+        console::status(remove(&rt, &mut input, &mut out, &mut err))
     } else {
-        console::say(b"the command is put or remove");
+        console::say(&mut err, b"the command is put or remove");
+        ExitCode::SUCCESS
     }
 }

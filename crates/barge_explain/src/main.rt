@@ -1,5 +1,7 @@
 // The surveyor's program: which letters are which, and then, each behind an empty line, the trail of each member of the sheet on standard input, or of the one
 // whose id is the first word. Of a sheet that is turned away it prints the refusal, and where no member has the id nothing.
+#![tactic(auto)]
+
 ghost use Rattle.std.specs.Prelude.{◌≡◌, List, [], ◌∷◌, ◌||◌, ℕ, ◌+◌, ◌*◌, ◌≤◌, length, take, eqb};
 ghost use Rattle.sheet.specs.Refusals.{told_header, told_record};
 ghost use Rattle.checker.specs.Check.{record_of, sheet_size};
@@ -11,8 +13,11 @@ ghost use Rattle.barge_explain.specs.Explain.{Sized, lead_pieces, piece_of, Prin
 
 use console::Read;
 use decimal::Number;
-use libc::STDOUT_FILENO;
 use sheet::{ENOUGH, Header, HeaderRead, Record, RecordRead};
+use std::env::{Env, FillError};
+use std::io;
+use std::io::Write;
+use std::process::ExitCode;
 
 // Where the word stands.
 const ID: usize = 1;
@@ -108,38 +113,44 @@ fn piece_of(h: Header, records: &[u8], i: u16, asked: u32, begun: bool) -> Piece
 }
 
 // Prints it; whether anything has been printed.
-fn print_record(h: Header, records: &[u8], i: u16, asked: u32, begun: bool) -> bool
+fn print_record(
+    out: &mut impl Write,
+    h: Header,
+    records: &[u8],
+    i: u16,
+    asked: u32,
+    begun: bool,
+) -> io::Result<bool>
     requires { 16 * i + 16 ≤ length records.now }
 {
     let piece = piece_of(h, records, i, asked, begun);
     let len = piece.len;
     let bytes = piece.bytes;
-    io::write_all(STDOUT_FILENO, &bytes[..len]);
-    piece.begun
+    out.write_all(&bytes[..len])?;
+    Ok(piece.begun)
 }
 
-fn print_trails(h: Header, records: &[u8], asked: u32)
+fn print_trails(out: &mut impl Write, h: Header, records: &[u8], asked: u32) -> io::Result<()>
     requires { 16 * h.count ≤ length records.now }
 {
     let n = h.count;
     let mut begun = false;
     let mut i: u16 = 0;
     while i < n {
-        begun = print_record(h, records, i, asked, begun);
+        begun = print_record(out, h, records, i, asked, begun)?;
         i += 1;
     }
+    Ok(())
 }
 
 // The id that is asked for, 0 where there is no word; a word that is no number asks for an id that no member has.
-fn asked_id() -> u32 {
-    if os::arg_count() <= ID {
-        return 0;
-    }
-    let mut space = io::buffer();
-    let end = os::arg(ID, &mut space);
-    if os::errno() != 0 {
-        return u32::MAX;
-    }
+fn asked_id(env: &impl Env) -> u32 {
+    let mut space = [0u8; 4096];
+    let end = match env.arg(ID, &mut space) {
+        Ok(end) => end,
+        Err(FillError::NotPresent) => return 0,
+        Err(FillError::TooLong) => return u32::MAX,
+    };
     let n = decimal::read_number(&space[..end]);
     match n {
         Number::Value(v) => {
@@ -153,32 +164,41 @@ fn asked_id() -> u32 {
 }
 
 // A sheet that is not turned away.
-fn explain(h: Header, sheet: &[u8])
+fn explain(env: &impl Env, out: &mut impl Write, h: Header, sheet: &[u8]) -> io::Result<()>
     requires { sheet_size h ≡ length sheet.now }
 {
     let size = h.size();
-    print_trails(h, &sheet[size..], asked_id());
+    print_trails(out, h, &sheet[size..], asked_id(env))
 }
 
 // The trails, or the refusal, with a word on a text that was handed over for a sheet.
-fn tell(sheet: &[u8], got: usize)
+fn tell(
+    env: &impl Env,
+    out: &mut impl Write,
+    err: &mut impl Write,
+    sheet: &[u8],
+    got: usize,
+) -> io::Result<()>
     requires { (enough ≤ length sheet.now) × (got ≤ length sheet.now) }
 {
     let read = header_of(sheet, got);
     match read {
-        HeaderRead::Good(h) => explain(h, &sheet[..got]),
+        HeaderRead::Good(h) => explain(env, out, h, &sheet[..got]),
         HeaderRead::Refused(r) => {
-            report::print_refusal(STDOUT_FILENO, r);
-            console::hint(sheet);
+            let written = report::print_refusal(out, r);
+            console::hint(err, sheet);
+            written
         }
     }
 }
 
-fn main() {
+fn main(rt: HostRuntime) -> ExitCode {
     let mut sheet = [0u8; ENOUGH];
-    let read = console::load(&mut sheet);
+    let read = console::load(&mut rt.stdin(), &mut rt.stderr(), &mut sheet);
     match read {
-        Read::Failed => {}
-        Read::Got(got) => tell(&sheet, got),
+        Read::Failed => ExitCode::SUCCESS,
+        Read::Got(got) => {
+            console::status(tell(&rt, &mut rt.stdout(), &mut rt.stderr(), &sheet, got))
+        }
     }
 }

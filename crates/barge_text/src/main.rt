@@ -1,6 +1,8 @@
 // The drawing office's converter. Its word says what standard input is turned into: `sheet` a text into the sheet that it is, `csv` a sheet into its text,
 // `check` a text into what `barge` prints of that sheet. A refusal of the first two goes to standard error, with nothing on standard output, and of a text
 // that is turned away by a line the line goes there too. So does whatever else is wrong.
+#![tactic(auto)]
+
 mod show;
 
 ghost use Rattle.std.specs.Prelude.{◌≡◌, List, ℕ, ◌≤◌, length, take};
@@ -12,10 +14,13 @@ ghost use Rattle.sheet_csv.specs.Write.{text_from};
 ghost use Rattle.barge_text.specs.Convert.{MadeInside, line_in, printed_by, Shows, Replies};
 
 use console::Read;
-use libc::{STDERR_FILENO, STDOUT_FILENO};
 use report::{Page, Told};
 use sheet::Refusal;
 use sheet_csv::Converted;
+use std::env::Env;
+use std::io;
+use std::io::Write;
+use std::process::ExitCode;
 
 // Where the word stands.
 const COMMAND: usize = 1;
@@ -40,10 +45,12 @@ struct Reply {
     line: u32,
 }
 
-fn print(bytes: &[u8]) {
-    if !io::write_all(STDOUT_FILENO, bytes) {
-        console::failed(b"cannot write ", b"standard output");
+fn print(out: &mut impl Write, err: &mut impl Write, bytes: &[u8]) -> io::Result<()> {
+    let written = out.write_all(bytes);
+    if let Err(e) = written {
+        console::unwritten(err, b"standard output", e);
     }
+    written
 }
 
 // The line that a refusal names, which 14 and 15 do; else 0.
@@ -111,84 +118,110 @@ fn text_of(buffer: &[u8], got: usize, out: &mut [u8]) -> Converted
 }
 
 // What was made of the input goes to standard output, or the refusal to standard error.
-fn deliver(c: Converted, made: &[u8])
+fn deliver(out: &mut impl Write, err: &mut impl Write, c: Converted, made: &[u8]) -> io::Result<()>
     requires { MadeInside c (length made.now) }
 {
     match c {
-        Converted::Length(n) => print(&made[..n]),
-        Converted::Refused(r) => report::print_refusal(STDERR_FILENO, r),
+        Converted::Length(n) => print(out, err, &made[..n]),
+        Converted::Refused(r) => {
+            let _ = report::print_refusal(err, r);
+            Ok(())
+        }
     }
 }
 
-fn make_sheet(text: &[u8]) {
+fn make_sheet(out: &mut impl Write, err: &mut impl Write, text: &[u8]) -> io::Result<()> {
     let mut sheet = [0u8; sheet::LONGEST];
     let c = sheet_csv::read_table(text, &mut sheet);
-    deliver(c, &sheet);
-    show::line(text, line_at_fault(c));
+    let written = deliver(out, err, c, &sheet);
+    show::line(err, text, line_at_fault(c));
+    written
 }
 
-fn make_text(buffer: &[u8], got: usize)
+fn make_text(
+    out: &mut impl Write,
+    err: &mut impl Write,
+    buffer: &[u8],
+    got: usize,
+) -> io::Result<()>
     requires { (enough ≤ length buffer.now) × (got ≤ length buffer.now) }
 {
     let mut text = [0u8; sheet_csv::LONGEST];
     let c = text_of(buffer, got, &mut text);
-    deliver(c, &text);
+    deliver(out, err, c, &text)
 }
 
-fn check(text: &[u8]) {
+fn check(out: &mut impl Write, err: &mut impl Write, text: &[u8]) -> io::Result<()> {
     let r = answer(text);
     let page = r.page;
     let len = page.len;
     let bytes = page.bytes;
-    print(&bytes[..len]);
-    show::line(text, r.line);
+    let written = print(out, err, &bytes[..len]);
+    show::line(err, text, r.line);
+    written
 }
 
-fn take(text: &[u8], checks: bool) {
+fn take(out: &mut impl Write, err: &mut impl Write, text: &[u8], checks: bool) -> io::Result<()> {
     if checks {
-        check(text);
+        check(out, err, text)
     } else {
-        make_sheet(text);
+        make_sheet(out, err, text)
     }
 }
 
-fn too_long() {
-    console::begin();
-    io::write_all(STDERR_FILENO, b"the text has more than ");
-    io::print_decimal(STDERR_FILENO, LONGEST as u64);
-    io::write_all(STDERR_FILENO, b" bytes, and no sheet's text has so many\n");
+fn too_long(err: &mut impl Write) {
+    console::begin(err);
+    let _ = writeln!(
+        err,
+        "the text has more than {LONGEST} bytes, and no sheet's text has so many"
+    );
 }
 
-fn from_text(text: &[u8], checks: bool) {
+fn from_text(
+    out: &mut impl Write,
+    err: &mut impl Write,
+    text: &[u8],
+    checks: bool,
+) -> io::Result<()> {
     if LONGEST < text.len() {
-        too_long();
+        too_long(err);
+        Ok(())
     } else {
-        take(text, checks);
+        take(out, err, text, checks)
     }
 }
 
-fn take_text(checks: bool) {
+fn take_text(
+    input: &mut impl io::Read,
+    out: &mut impl Write,
+    err: &mut impl Write,
+    checks: bool,
+) -> io::Result<()> {
     let mut space = [0u8; TEXT_READ];
-    let read = console::load(&mut space);
+    let read = console::load(input, err, &mut space);
     match read {
-        Read::Failed => {}
-        Read::Got(got) => from_text(&space[..got], checks),
+        Read::Failed => Ok(()),
+        Read::Got(got) => from_text(out, err, &space[..got], checks),
     }
 }
 
-fn take_sheet() {
+fn take_sheet(
+    input: &mut impl io::Read,
+    out: &mut impl Write,
+    err: &mut impl Write,
+) -> io::Result<()> {
     let mut space = [0u8; sheet::ENOUGH];
-    let read = console::load(&mut space);
+    let read = console::load(input, err, &mut space);
     match read {
-        Read::Failed => {}
-        Read::Got(got) => make_text(&space, got),
+        Read::Failed => Ok(()),
+        Read::Got(got) => make_text(out, err, &space, got),
     }
 }
 
 // By its first two letters.
-fn command() -> Task {
+fn command(env: &impl Env) -> Task {
     let mut word = [0u8; 8];
-    os::arg(COMMAND, &mut word);
+    let _ = env.arg(COMMAND, &mut word);
     if word[0] == b's' {
         return Task::Sheet;
     }
@@ -201,12 +234,19 @@ fn command() -> Task {
     Task::Check
 }
 
-fn main() {
-    let task = command();
-    match task {
-        Task::Sheet => take_text(false),
-        Task::Csv => take_sheet(),
-        Task::Check => take_text(true),
-        Task::None => console::say(b"the command is sheet, csv or check"),
-    }
+fn main(rt: HostRuntime) -> ExitCode {
+    let mut input = rt.stdin();
+    let mut out = rt.stdout();
+    let mut err = rt.stderr();
+    let task = command(&rt);
+    let written = match task {
+        Task::Sheet => take_text(&mut input, &mut out, &mut err, false),
+        Task::Csv => take_sheet(&mut input, &mut out, &mut err),
+        Task::Check => take_text(&mut input, &mut out, &mut err, true),
+        Task::None => {
+            console::say(&mut err, b"the command is sheet, csv or check");
+            Ok(())
+        }
+    };
+    console::status(written)
 }

@@ -4,7 +4,7 @@ ghost use Rattle.decimal.specs.Laid.{Laid};
 ghost use Rattle.fields.specs.Marks.{feeds};
 ghost use Rattle.barge_text.specs.Shown.{ends_here, IsLine, is_printed, hex_digit, shown_byte, shown};
 
-use libc::STDERR_FILENO;
+use std::io::Write;
 
 // So many bytes of a line are shown, each in four at most.
 const MOST: usize = 120;
@@ -100,40 +100,38 @@ fn put_bytes(line: &[u8], out: &mut [u8]) -> usize
     at
 }
 
-fn print_bytes(line: &[u8])
+fn print_bytes(err: &mut impl Write, line: &[u8])
     requires { length line.now ≤ 120 }
 {
     let mut out = [0u8; SPACE];
     let end = put_bytes(line, &mut out);
-    io::write_all(STDERR_FILENO, &out[..end]);
+    let _ = err.write_all(&out[..end]);
 }
 
 // The first bytes of a line, and whether there are more.
-fn print_line(line: &[u8]) {
+fn print_line(err: &mut impl Write, line: &[u8]) {
     if MOST < line.len() {
-        print_bytes(&line[..MOST]);
-        io::write_all(STDERR_FILENO, b" ...");
+        print_bytes(err, &line[..MOST]);
+        let _ = err.write_all(b" ...");
     } else {
-        print_bytes(line);
+        print_bytes(err, line);
     }
 }
 
-fn print_first(text: &[u8]) {
+fn print_first(err: &mut impl Write, text: &[u8]) {
     let len = line_length(text);
-    print_line(&text[..len]);
+    print_line(err, &text[..len]);
 }
 
 // The line with this number, the first being 1; 0 is none, and shows nothing.
-pub fn line(text: &[u8], number: u32) {
+pub fn line(err: &mut impl Write, text: &[u8], number: u32) {
     if number == 0 {
         return;
     }
-    io::write_all(STDERR_FILENO, b"line ");
-    io::print_decimal(STDERR_FILENO, number as u64);
-    io::write_all(STDERR_FILENO, b": ");
+    let _ = write!(err, "line {number}: ");
     let at = text::line_start(text, number);
     if at < text.len() {
-        print_first(&text[at..]);
+        print_first(err, &text[at..]);
     }
-    io::write_all(STDERR_FILENO, b"\n");
+    let _ = err.write_all(b"\n");
 }

@@ -1,5 +1,6 @@
 -- What is known of an input that was read, and when it looks like a text.
-use Rattle.std.specs.Prelude.{ℕ, ◌≤◌, Bool, true, false, cond, List, [], ◌∷◌, ltb, eqb, length}
+use Rattle.std.specs.Prelude.{ℕ, ◌≤◌, ◌<◌, Bool, true, false, cond, List, [], ◌∷◌, ltb, eqb, length, take, Option}
+use Rattle.std.specs.Io.KnownBytes.{Consumes, IsAtEnd}
 use Rattle.console.specs.declared.Read.{Read}
 use Rattle.console.specs.declared.Read.TheVariants.{Got, Failed}
 
@@ -7,6 +8,11 @@ use Rattle.console.specs.declared.Read.TheVariants.{Got, Failed}
 abbrev pub Loaded : Read → List ℕ → Type 0
 Loaded (Got n) space = n ≤ length space
 Loaded Failed space = Unit {0}
+
+-- of an input whose bytes are known: what was read are its first bytes, and where the space has room for more nothing is left of it
+abbrev pub Came : Option (List ℕ) → Option (List ℕ) → Read → List ℕ → Type 0
+Came old new (Got n) space = Consumes old new (take n space) × (n < length space → IsAtEnd new)
+Came old new Failed space = Unit {0}
 
 -- a quote, 34, a digit, 48 to 57, or the first byte of a byte-order mark, 239
 abbrev pub begins_text : ℕ → Bool

@@ -1,8 +1,15 @@
-// What the programs share: standard input, of which a read that fails is not taken for the end, and what is said on standard error.
-ghost use Rattle.std.specs.Prelude.{◌≡◌};
-ghost use Rattle.console.specs.Console.{Loaded, begins_text, looks_like_text};
+// What the programs share: standard input, of which a read that fails is not taken for the end, and what is said on standard error. Both are given: `input` is
+// where the bytes come from, and `err` where lines are said. Where a line cannot be said there is nobody to tell, and the program goes on.
+#![tactic(auto)]
 
-use libc::{STDERR_FILENO, STDIN_FILENO};
+ghost use Rattle.std.specs.Prelude.{◌≡◌, ◌≤◌, ◌<◌, length, take, IfOk};
+ghost use Rattle.std.specs.Io.{ReadsAtMost};
+ghost use Rattle.std.specs.Io.KnownBytes.{Consumes, IsAtEnd};
+ghost use Rattle.console.specs.Console.{Loaded, Came, begins_text, looks_like_text};
+
+use std::io;
+use std::io::{ErrorKind, Write};
+use std::process::ExitCode;
 
 // How many bytes were read, or that it could not be done.
 #[derive(Drop)]
@@ -11,49 +18,125 @@ pub enum Read {
     Failed,
 }
 
-// Whether nothing comes any more: a read that fails looks like the end to `read_full`.
-fn ended() -> bool {
-    let mut one = [0u8; 1];
-    libc::read(STDIN_FILENO, &mut one) == 0
+// Reads until the space is full or nothing comes any more.
+fn read_full<R: io::Read>(input: &mut R, space: &mut [u8]) -> io::Result<usize>
+    ensures bound { ReadsAtMost result space.new }
+    ensures bytes { IfOk result (λ n. Consumes (R.remaining input.old) (R.remaining input.new) (take n space.new)) }
+    ensures end { IfOk result (λ n. n < length space.new → IsAtEnd (R.remaining input.new)) }
+{
+    let mut got = 0;
+    while got < space.len() {
+        let n = input.read(&mut space[got..])?;
+        if n == 0 {
+            return Ok(got);
+        }
+        got += n;
+    }
+    Ok(got)
 }
 
-// As much of standard input as the space holds; why not is said.
-pub fn load(space: &mut [u8]) -> Read
-    ensures { Loaded result space.new }
+// As much of the input as the space holds; why not is said.
+pub fn load<R: io::Read>(input: &mut R, err: &mut impl Write, space: &mut [u8]) -> Read
+    ensures loaded { Loaded result space.new }
+    ensures came { Came (R.remaining input.old) (R.remaining input.new) result space.new }
 {
-    let got = io::read_full(STDIN_FILENO, space);
-    if got < space.len() && !ended() {
-        failed(b"cannot read ", b"the input");
-        return Read::Failed;
+    let read = read_full(input, space);
+    match read {
+        Ok(got) => Read::Got(got),
+        Err(e) => {
+            failed(err, b"cannot read ", b"the input", e);
+            Read::Failed
+        }
     }
-    Read::Got(got)
+}
+
+// Bytes on standard error.
+fn write(err: &mut impl Write, what: &[u8]) {
+    let _ = err.write_all(what);
+}
+
+// A number on standard error.
+fn write_number(err: &mut impl Write, n: usize) {
+    let _ = write!(err, "{n}");
 }
 
 // What every line of a program's own begins with.
-pub fn begin() {
-    io::write_all(STDERR_FILENO, b"barge: ");
+pub fn begin(err: &mut impl Write) {
+    write(err, b"barge: ");
 }
 
 // A line on standard error.
-pub fn say(what: &[u8]) {
-    begin();
-    io::write_all(STDERR_FILENO, what);
-    io::write_all(STDERR_FILENO, b"\n");
+pub fn say(err: &mut impl Write, what: &[u8]) {
+    begin(err);
+    write(err, what);
+    write(err, b"\n");
 }
 
 // A line that a number ends.
-pub fn say_number(what: &[u8], n: usize) {
-    begin();
-    io::write_all(STDERR_FILENO, what);
-    io::print_decimal(STDERR_FILENO, n as u64);
-    io::write_all(STDERR_FILENO, b"\n");
+pub fn say_number(err: &mut impl Write, what: &[u8], n: usize) {
+    begin(err);
+    write(err, what);
+    write_number(err, n);
+    write(err, b"\n");
 }
 
-// What could not be done to which input or output, and why; to be called before anything else is.
-pub fn failed(what: &[u8], which: &[u8]) {
-    begin();
-    io::write_all(STDERR_FILENO, what);
-    os::fail(which);
+// How many bytes of what is said of an error are the system's words: the number that std puts behind them, in parentheses, is left out.
+fn words(text: &[u8], numbered: bool) -> usize
+    ensures { result ≤ length text.now }
+{
+    if !numbered {
+        return text.len();
+    }
+    match text.iter().rposition(|b| *b == b'(') {
+        Some(at) => at.saturating_sub(1),
+        None => text.len(),
+    }
+}
+
+// Why something could not be done, in the system's words.
+fn why(err: &mut impl Write, e: io::Error) {
+    let mut text = [0u8; 128];
+    let mut rest = &mut text[..];
+    let _ = write!(rest, "{e}");
+    let written = 128usize.saturating_sub(rest.len());
+    let end = words(&text[..written], e.raw_os_error().is_some());
+    write(err, &text[..end]);
+}
+
+// What could not be done to which input or output, and why.
+pub fn failed(err: &mut impl Write, what: &[u8], which: &[u8], e: io::Error) {
+    begin(err);
+    write(err, what);
+    write(err, which);
+    write(err, b": ");
+    why(err, e);
+    write(err, b"\n");
+}
+
+// Whether whoever read an output has gone.
+fn gone(e: io::Error) -> bool {
+    e.kind() == ErrorKind::BrokenPipe
+}
+
+// What could not be written, and why; nothing where whoever read the output has gone, since nobody is to be told then.
+pub fn unwritten(err: &mut impl Write, which: &[u8], e: io::Error) {
+    if !gone(e) {
+        failed(err, b"cannot write ", which, e);
+    }
+}
+
+// The status that a program ends with: 0, and 141, which a shell gives a program that the system ends so, where whoever read its output has gone.
+pub fn status<T: Drop>(written: io::Result<T>) -> ExitCode {
+    match written {
+        Ok(_) => ExitCode::SUCCESS,
+        Err(e) => {
+            if gone(e) {
+                ExitCode::from(141)
+            } else {
+                ExitCode::SUCCESS
+            }
+        }
+    }
 }
 
 // Whether a text may begin with a byte: a digit, a quote, or the first byte of a byte-order mark.
@@ -80,8 +163,11 @@ pub fn looks_like_text(input: &[u8]) -> bool
 }
 
 // A word to whoever hands over a text where a sheet is read.
-pub fn hint(input: &[u8]) {
+pub fn hint(err: &mut impl Write, input: &[u8]) {
     if looks_like_text(input) {
-        say(b"this looks like text: ./barge reads a file as text where its name ends in .csv");
+        say(
+            err,
+            b"this looks like text: ./barge reads a file as text where its name ends in .csv",
+        );
     }
 }

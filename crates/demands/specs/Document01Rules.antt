@@ -22,13 +22,13 @@ sea D0 H z = cond (leb z D0) (98100 * (D0 - z) + 50031 * H) (max (50150 * H) 300
 abbrev pub pB : (zL z : ℕ) → ℕ
 pB zL z = 98100 * (zL + 100 - z)
 
--- relief p_m = max(0, 14715D0 − 50031H)
-abbrev pub p_m : (D0 H : ℕ) → ℕ
-p_m D0 H = 14715 * D0 - 50031 * H
+-- relief pM = max(0, 14715D0 − 50031H)
+abbrev pub pM : (D0 H : ℕ) → ℕ
+pM D0 H = 14715 * D0 - 50031 * H
 
 -- bottom plate: sea, or with ballast max(sea, pB−pM)
 unfoldable pub on_bottom : (D0 H z : ℕ) → Bool → (zL : ℕ) → ℕ
-on_bottom D0 H z ballast zL = cond ballast (max (sea D0 H z) (pB zL z - p_m D0 H)) (sea D0 H z)
+on_bottom D0 H z ballast zL = cond ballast (max (sea D0 H z) (pB zL z - pM D0 H)) (sea D0 H z)
 
 -- inner bottom: cargo × 1000, or with ballast max(that, pB)
 unfoldable pub on_inner : (cargo z : ℕ) → Bool → (zL : ℕ) → ℕ

@@ -27,11 +27,11 @@ sea D0 H z = cond (leb z D0) (water (D0 - z) + waves H) (crest H + wind H)
 abbrev pub ballast : ℕ → ℕ → ℕ
 ballast zL z = water (zL + 100 - z)
 
--- p_m = max(0, 14715D0 − 50031H)
+-- pM = max(0, 14715D0 − 50031H)
 abbrev pub relief : ℕ → ℕ → ℕ
 relief D0 H = 14715 * D0 - waves H
 
--- bottom plate: sea, or with ballast max(sea, pB − p_m); sea is never negative, so the cut-off changes no maximum
+-- bottom plate: sea, or with ballast max(sea, pB − pM); sea is never negative, so the cut-off changes no maximum
 unfoldable pub bottom_pressure : ℕ → ℕ → ℕ → Bool → ℕ → ℕ
 bottom_pressure D0 H z isBallast zL = cond isBallast (max (sea D0 H z) (ballast zL z - relief D0 H)) (sea D0 H z)
 

@@ -44,7 +44,7 @@ deep_named D0 H two_runs = record { pressure = deep_pressure D0 H two_runs; sour
 abbrev pub with_ballast : Bool → ℕ → List Named
 with_ballast isBallast P = cond isBallast (tank_named P ∷ []) []
 
--- those on a bottom plate: the sea, and with ballast pB − p_m, or 0 where that is negative; the sea is never negative and has the lower number, so that
+-- those on a bottom plate: the sea, and with ballast pB − pM, or 0 where that is negative; the sea is never negative and has the lower number, so that
 -- the cut-off decides nothing
 abbrev pub on_bottom : ℕ → ℕ → ℕ → Bool → ℕ → List Named
 on_bottom D0 H z isBallast zL = sea_named D0 H z ∷ with_ballast isBallast (ballast zL z - relief D0 H)

@@ -270,11 +270,11 @@ less_none a b between x y z = record {
   says = λ f r. (at r x ≡ a.value r) × (at r y ≡ b.value r) × (at r x < at r y) × (at r z ≡ 0);
 }
 
--- pB − p_m = 127530000 − 676890 = 126853110
+-- pB − pM = 127530000 − 676890 = 126853110
 abbrev pub net_is : (x y z : ℕ) → Phrase
 net_is x y z = record { words = bytes " = " ++ number x ++ bytes " − " ++ number y ++ bytes " = " ++ number z; says = λ f r. at r x ≡ at r y + at r z }
 
--- pB − p_m: 9810000 < 14715000, so 0
+-- pB − pM: 9810000 < 14715000, so 0
 abbrev pub net_none : (x y z : ℕ) → Phrase
 net_none x y z = record { words = bytes ": " ++ number x ++ bytes " < " ++ number y ++ bytes ", so 0"; says = λ f r. (at r x < at r y) × (at r z ≡ 0) }
 

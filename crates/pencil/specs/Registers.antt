@@ -140,7 +140,7 @@ wind = 38
 abbrev pub above : ℕ
 above = 39
 
--- pB, 14715D0, p_m and pB − p_m
+-- pB, 14715D0, pM and pB − pM
 abbrev pub tank : ℕ
 tank = 41
 

@@ -294,10 +294,10 @@ templates =
     ∷ (plain "  " ∷ sourced 1 reg.above ∷ plain ", sea above the draught: Ch 2 Sec 3 [3.7.1] b, Table 3.7.1\n    pE = max(5.9n; 3) + pWD, n = 0.85H\n    " ∷ max_is (times (num 50150) (of H)) (num 3000000) (plain " + pWD; 50150 is 5.9·0.85 in mPa for each cm\n    " ∷ above_is z D0 ∷ plain "; " ∷ given H ∷ plain " cm: " ∷ []) reg.swell reg.crest ∷ plain "\n    pWD = " ∷ [])
     ∷ (plain "0.25 in kN/m², " ∷ calm_is reg.crest 250000 reg.above ∷ plain "\n" ∷ [])
     ∷ (plain "0.4n, " ∷ storm_is (times (num 3400) (of H)) reg.crest reg.wind reg.above ∷ plain "\n" ∷ [])
-    -- 13: ballast on the bottom; 14, 15: p_m, and cut off; 16, 17: pB − p_m, and cut off
-    ∷ (plain "  " ∷ sourced 2 reg.net ∷ plain ", ballast less the least sea: Ch 2 Sec 3 [3.10.2] b, Ch 4 Table 2.6.1\n    pB − p_m, pB = 9.81(ZL − z + 1), p_m = 9.81(0.15T − 0.6n) ≥ 0, n = 0.85H\n    pB is " ∷ value_is tank_water (words_of (plain ": " ∷ given zL ∷ plain " cm, " ∷ given z ∷ plain " cm: " ∷ [])) reg.tank ∷ plain "\n    p_m is " ∷ [])
-    ∷ (less_is least_draught wave_height (words_of (plain ": " ∷ given D0 ∷ plain " cm, " ∷ given H ∷ plain " cm: " ∷ [])) reg.lift reg.waves reg.relief ∷ plain "\n    pB − p_m" ∷ [])
-    ∷ (less_none least_draught wave_height (words_of (plain ": " ∷ given D0 ∷ plain " cm, " ∷ given H ∷ plain " cm: " ∷ [])) reg.lift reg.waves reg.relief ∷ plain "\n    pB − p_m" ∷ [])
+    -- 13: ballast on the bottom; 14, 15: pM, and cut off; 16, 17: pB − pM, and cut off
+    ∷ (plain "  " ∷ sourced 2 reg.net ∷ plain ", ballast less the least sea: Ch 2 Sec 3 [3.10.2] b, Ch 4 Table 2.6.1\n    pB − pM, pB = 9.81(ZL − z + 1), pM = 9.81(0.15T − 0.6n) ≥ 0, n = 0.85H\n    pB is " ∷ value_is tank_water (words_of (plain ": " ∷ given zL ∷ plain " cm, " ∷ given z ∷ plain " cm: " ∷ [])) reg.tank ∷ plain "\n    pM is " ∷ [])
+    ∷ (less_is least_draught wave_height (words_of (plain ": " ∷ given D0 ∷ plain " cm, " ∷ given H ∷ plain " cm: " ∷ [])) reg.lift reg.waves reg.relief ∷ plain "\n    pB − pM" ∷ [])
+    ∷ (less_none least_draught wave_height (words_of (plain ": " ∷ given D0 ∷ plain " cm, " ∷ given H ∷ plain " cm: " ∷ [])) reg.lift reg.waves reg.relief ∷ plain "\n    pB − pM" ∷ [])
     ∷ (net_is reg.tank reg.relief reg.net ∷ plain "\n" ∷ [])
     ∷ (net_none reg.tank reg.relief reg.net ∷ plain "\n" ∷ [])
     -- 18, 19: cargo, and ballast on the inner bottom

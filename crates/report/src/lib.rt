@@ -1,6 +1,9 @@
 // What the programs print of a sheet, as text: a line with id, rule, required and source for each record, then one with n and the failures; of a
 // sheet that is turned away the refusal's number and place.
-ghost use Rattle.std.specs.Prelude.{[], ◌∷◌, ◌++◌, ◌+◌, ◌*◌, ◌≤◌, length};
+#![tactic(auto)]
+
+ghost use Rattle.std.specs.Prelude.{[], ◌∷◌, ◌++◌, ◌+◌, ◌*◌, ◌≤◌, length, OnOk};
+ghost use Rattle.std.specs.Io.KnownBytes.{Appends};
 ghost use Rattle.decimal.specs.Decimal.{decimal_of};
 ghost use Rattle.decimal.specs.Laid.{Laid};
 ghost use Rattle.decimal.specs.Line.{line_of};
@@ -11,6 +14,8 @@ ghost use Rattle.report.specs.Pieces.{verdict_text, verdicts_text, refusal_text,
 
 use checker::{Checked, Entry, EntryRead};
 use sheet::{MOST, Refusal};
+use std::io;
+use std::io::Write;
 
 // Room for the text of the longest sheet: for each verdict a line of 16 bytes, and one of 8.
 pub const LONGEST: usize = 16 * (MOST as usize) + 8;
@@ -150,9 +155,11 @@ pub fn write_refusal(r: Refusal, text: &mut [u8]) -> Told
     tell(&bytes[..len], text)
 }
 
-// The same written to a descriptor.
-pub fn print_refusal(fd: i32, r: Refusal) {
+// The same written to where it is read.
+pub fn print_refusal<W: Write>(to: &mut W, r: Refusal) -> io::Result<()>
+    ensures { OnOk result (Appends (W.contents to.old) (W.contents to.new) (refusal_text r)) }
+{
     let mut line = [0u8; REFUSAL];
     let end = put_refusal(&mut line, r);
-    io::write_all(fd, &line[..end]);
+    to.write_all(&line[..end])
 }

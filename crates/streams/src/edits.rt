@@ -7,8 +7,9 @@ ghost use Rattle.streams.specs.Edits.{asked_edit, IsDone};
 
 use crate::parts;
 use edit::Edited;
-use libc::STDIN_FILENO;
 use sheet_csv::Converted;
+use std::io;
+use std::io::{Read, Write};
 
 // What is printed of an edit, and the length that the next one finds.
 #[derive(Drop)]
@@ -52,36 +53,46 @@ fn done_by(len: usize, e: Edited) -> Done
 }
 
 // The edit that comes next.
-fn one_edit(buf: &mut [u8], len: usize) -> Next
+fn one_edit(
+    input: &mut impl Read,
+    out: &mut impl Write,
+    buf: &mut [u8],
+    len: usize,
+) -> io::Result<Next>
     requires { length buf.old ≤ 65536 }
 {
     let mut form = [0u8; 56];
-    let got = io::read_full(STDIN_FILENO, &mut form);
+    let got = parts::fill(input, &mut form);
     if got < 56 {
-        return Next::Broken;
+        return Ok(Next::Broken);
     }
     if 1 < parts::number(&form, 0) {
-        return Next::Broken;
+        return Ok(Next::Broken);
     }
     let e = edited(buf, len, &form);
     let d = done_by(len, e);
     let answer = d.answer;
-    parts::print(answer, buf);
-    Next::Length(d.len)
+    parts::print(out, answer, buf)?;
+    Ok(Next::Length(d.len))
 }
 
 // So many edits, or false where they do not come whole.
-pub fn print(head: &[u8; 20], buf: &mut [u8]) -> bool
+pub fn print(
+    input: &mut impl Read,
+    out: &mut impl Write,
+    head: &[u8; 20],
+    buf: &mut [u8],
+) -> io::Result<bool>
     requires { length buf.old ≤ 65536 }
 {
     let mut at = parts::number(head, 3) as usize;
     let count = parts::number(head, 4) as usize;
     for _ in 0..count {
-        let next = one_edit(buf, at);
+        let next = one_edit(input, out, buf, at)?;
         match next {
             Next::Length(n) => at = n,
-            Next::Broken => return false,
+            Next::Broken => return Ok(false),
         }
     }
-    true
+    Ok(true)
 }

@@ -4,12 +4,28 @@ ghost use Rattle.decimal.specs.Laid.{Laid};
 ghost use Rattle.sheet_csv.specs.Read.{told_converted};
 ghost use Rattle.streams.specs.Parts.{number_at, fields_in, line_for, ShortLine};
 
-use libc::STDOUT_FILENO;
 use report::Told;
 use sheet_csv::Converted;
+use std::io;
+use std::io::{Read, Write};
 
 // A refusal's longest line; a length's has fewer bytes.
 pub const LINE: usize = 22;
+
+// Reads until the space is full, and returns how many bytes came: a read that fails is taken for the end.
+pub fn fill(input: &mut impl Read, space: &mut [u8]) -> usize
+    ensures { result ≤ length space.new }
+{
+    let mut got = 0;
+    while got < space.len() {
+        let n = input.read(&mut space[got..]).unwrap_or(0);
+        if n == 0 {
+            break;
+        }
+        got += n;
+    }
+    got
+}
 
 // Number i of a head or a form.
 pub fn number(form: &[u8], i: usize) -> u32
@@ -61,11 +77,11 @@ pub fn put_line(c: Converted, line: &mut [u8]) -> usize
 }
 
 // The line, and the bytes that it speaks of.
-pub fn print(c: Converted, bytes: &[u8])
+pub fn print(out: &mut impl Write, c: Converted, bytes: &[u8]) -> io::Result<()>
     requires { ShortLine (told_converted c) }
 {
     let mut line = [0u8; LINE];
     let end = put_line(c, &mut line);
-    io::write_all(STDOUT_FILENO, &line[..end]);
-    io::write_all(STDOUT_FILENO, bytes);
+    out.write_all(&line[..end])?;
+    out.write_all(bytes)
 }

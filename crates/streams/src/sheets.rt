@@ -3,8 +3,9 @@ ghost use Rattle.std.specs.Prelude.{◌<◌, length};
 ghost use Rattle.report.specs.Page.{longest};
 ghost use Rattle.streams.specs.Sheets.{Apart};
 
-use libc::STDOUT_FILENO;
 use report::Told;
+use std::io;
+use std::io::Write;
 
 // What `barge` prints of a sheet, and an empty line.
 fn put_apart(sheet: &[u8], text: &mut [u8]) -> usize
@@ -21,9 +22,9 @@ fn put_apart(sheet: &[u8], text: &mut [u8]) -> usize
     }
 }
 
-pub fn print(sheet: &[u8]) -> bool {
+pub fn print(out: &mut impl Write, sheet: &[u8]) -> io::Result<bool> {
     let mut text = [0u8; 6409];
     let end = put_apart(sheet, &mut text);
-    io::write_all(STDOUT_FILENO, &text[..end]);
-    true
+    out.write_all(&text[..end])?;
+    Ok(true)
 }

@@ -5,8 +5,9 @@ ghost use Rattle.sheet_csv.specs.Read.{Converts};
 ghost use Rattle.streams.specs.Texts.{asked, Answers};
 
 use crate::parts;
-use libc::STDOUT_FILENO;
 use sheet_csv::Converted;
+use std::io;
+use std::io::Write;
 
 fn converted(what: u32, input: &[u8], out: &mut [u8]) -> Converted
     ensures { Converts (asked what input.now (length out.old)) out.old result out.new }
@@ -29,16 +30,16 @@ fn answer(what: u32, input: &[u8], out: &mut [u8], line: &mut [u8]) -> usize
     parts::put_line(c, line)
 }
 
-pub fn print(head: &[u8; 20], input: &[u8], out: &mut [u8]) -> bool
+pub fn print(to: &mut impl Write, head: &[u8; 20], input: &[u8], out: &mut [u8]) -> io::Result<bool>
     requires { length out.old ≤ 65536 }
 {
     let what = parts::number(head, 0);
     if 2 < what {
-        return false;
+        return Ok(false);
     }
     let mut line = [0u8; parts::LINE];
     let end = answer(what, input, out, &mut line);
-    io::write_all(STDOUT_FILENO, &line[..end]);
-    io::write_all(STDOUT_FILENO, out);
-    true
+    to.write_all(&line[..end])?;
+    to.write_all(out)?;
+    Ok(true)
 }

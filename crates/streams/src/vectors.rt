@@ -2,62 +2,68 @@
 // read a header and a record; 2 and 3 write those whose fields stand in a form, as in an edit that puts. Of each it prints a line, the answer as one number
 // and thirteen fields, of a header ten and three that are 0, and behind what is written the output as it then stands.
 use crate::parts;
-use libc::STDOUT_FILENO;
+use std::io;
+use std::io::Write;
 
-fn print_field(n: u32) {
-    io::write_all(STDOUT_FILENO, b" ");
-    io::print_decimal(STDOUT_FILENO, n as u64);
+fn print_field(to: &mut impl Write, n: u32) -> io::Result<()> {
+    write!(to, " {n}")
 }
 
-fn print_line(answer: u64, fields: [u32; 13]) {
-    io::print_decimal(STDOUT_FILENO, answer);
+fn print_line(to: &mut impl Write, answer: u64, fields: [u32; 13]) -> io::Result<()> {
+    write!(to, "{answer}")?;
     let mut i: usize = 0;
     while i < 13 {
-        print_field(fields[i]);
+        print_field(to, fields[i])?;
         i += 1;
     }
-    io::write_all(STDOUT_FILENO, b"\n");
+    to.write_all(b"\n")
 }
 
-fn read(what: u32, bytes: &[u8]) {
+fn read(to: &mut impl Write, what: u32, bytes: &[u8]) -> io::Result<()> {
     if what == 0 {
         let mut h = [0u32; 10];
         let answer = yard::yard_read_header(bytes, &mut h);
         print_line(
+            to,
             answer,
             [
                 h[0], h[1], h[2], h[3], h[4], h[5], h[6], h[7], h[8], h[9], 0, 0, 0,
             ],
-        );
+        )
     } else {
         let mut f = [0u32; 13];
         let answer = yard::yard_read_record(bytes, &mut f);
-        print_line(answer, f);
+        print_line(to, answer, f)
     }
 }
 
-fn write(what: u32, f: [u32; 13], out: &mut [u8]) {
+fn write(to: &mut impl Write, what: u32, f: [u32; 13], out: &mut [u8]) -> io::Result<()> {
     if what == 2 {
         let h = [f[0], f[1], f[2], f[3], f[4], f[5], f[6], f[7], f[8], f[9]];
-        print_line(yard::yard_write_header(&h, out), f);
+        print_line(to, yard::yard_write_header(&h, out), f)
     } else {
-        print_line(yard::yard_write_record(&f, out), f);
+        print_line(to, yard::yard_write_record(&f, out), f)
     }
 }
 
-pub fn print(head: &[u8; 20], input: &[u8], out: &mut [u8]) -> bool {
+pub fn print(
+    to: &mut impl Write,
+    head: &[u8; 20],
+    input: &[u8],
+    out: &mut [u8],
+) -> io::Result<bool> {
     let what = parts::number(head, 0);
     if 3 < what {
-        return false;
+        return Ok(false);
     }
     if what < 2 {
-        read(what, input);
-        return true;
+        read(to, what, input)?;
+        return Ok(true);
     }
     if input.len() < 56 {
-        return false;
+        return Ok(false);
     }
-    write(what, parts::fields(input), out);
-    io::write_all(STDOUT_FILENO, out);
-    true
+    write(to, what, parts::fields(input), out)?;
+    to.write_all(out)?;
+    Ok(true)
 }

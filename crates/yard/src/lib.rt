@@ -1,5 +1,7 @@
 // The checker, the header, the records, the verdicts, the edits and the text of a sheet for programs in C or Rust: an answer crosses as one number, the
-// fields as numbers in layout order. include/praithong.h declares these functions.
+// fields as numbers in layout order. `yard_c` is the static library of these functions, which include/praithong.h declares.
+#![tactic(auto)]
+
 ghost use Rattle.std.specs.Prelude.{◌≡◌, length};
 ghost use Rattle.checker.specs.Check.{told_checked};
 ghost use Rattle.checker.specs.Entry.{entry_values, read_entry};
@@ -52,8 +54,7 @@ fn packed_checked(c: Checked) -> u64
     }
 }
 
-#[unsafe(no_mangle)]
-pub extern "C" fn yard_check(sheet: &[u8], out: &mut [u8]) -> u64
+pub fn yard_check(sheet: &[u8], out: &mut [u8]) -> u64
     ensures { Checks sheet.now out.old result out.new }
 {
     packed_checked(checker::check(sheet, out))
@@ -68,8 +69,7 @@ fn entry_numbers(e: Entry) -> [u32; 4]
     [id, rule, e.required, source]
 }
 
-#[unsafe(no_mangle)]
-pub extern "C" fn yard_read_verdict(bytes: &[u8], fields: &mut [u32; 4]) -> u64
+pub fn yard_read_verdict(bytes: &[u8], fields: &mut [u32; 4]) -> u64
     ensures { Reads (numbered entry_values (read_entry bytes.now)) fields.old result fields.new }
 {
     let read = checker::read_verdict(bytes);
@@ -82,8 +82,7 @@ pub extern "C" fn yard_read_verdict(bytes: &[u8], fields: &mut [u32; 4]) -> u64
     }
 }
 
-#[unsafe(no_mangle)]
-pub extern "C" fn yard_read_header(bytes: &[u8], fields: &mut [u32; 10]) -> u64
+pub fn yard_read_header(bytes: &[u8], fields: &mut [u32; 10]) -> u64
     ensures { Reads (numbered header_numbers (read_header bytes.now)) fields.old result fields.new }
 {
     let read = header::read_header(bytes);
@@ -96,8 +95,7 @@ pub extern "C" fn yard_read_header(bytes: &[u8], fields: &mut [u32; 10]) -> u64
     }
 }
 
-#[unsafe(no_mangle)]
-pub extern "C" fn yard_read_record(bytes: &[u8], fields: &mut [u32; 13]) -> u64
+pub fn yard_read_record(bytes: &[u8], fields: &mut [u32; 13]) -> u64
     ensures { Reads (numbered record_numbers (read_record 0 bytes.now)) fields.old result fields.new }
 {
     let read = record::read_record(bytes);
@@ -110,8 +108,7 @@ pub extern "C" fn yard_read_record(bytes: &[u8], fields: &mut [u32; 13]) -> u64
     }
 }
 
-#[unsafe(no_mangle)]
-pub extern "C" fn yard_write_header(fields: &[u32; 10], out: &mut [u8]) -> u64
+pub fn yard_write_header(fields: &[u32; 10], out: &mut [u8]) -> u64
     ensures { Wrote (write_header_numbers fields.now out.old) result out.new }
 {
     let least = numbers::header_size(*fields);
@@ -125,8 +122,7 @@ pub extern "C" fn yard_write_header(fields: &[u32; 10], out: &mut [u8]) -> u64
     }
 }
 
-#[unsafe(no_mangle)]
-pub extern "C" fn yard_write_record(fields: &[u32; 13], out: &mut [u8]) -> u64
+pub fn yard_write_record(fields: &[u32; 13], out: &mut [u8]) -> u64
     ensures { Wrote (write_record_numbers fields.now out.old) result out.new }
 {
     if out.len() < 16 {
@@ -148,15 +144,13 @@ fn packed_edited(e: Edited) -> u64
     }
 }
 
-#[unsafe(no_mangle)]
-pub extern "C" fn yard_put(buf: &mut [u8], len: usize, fields: &[u32; 13]) -> u64
+pub fn yard_put(buf: &mut [u8], len: usize, fields: &[u32; 13]) -> u64
     ensures { EditsPacked (put_numbers_in buf.old len fields.now) buf.old result buf.new }
 {
     packed_edited(edit::put_numbers(buf, len, *fields))
 }
 
-#[unsafe(no_mangle)]
-pub extern "C" fn yard_remove(buf: &mut [u8], len: usize, id: u32) -> u64
+pub fn yard_remove(buf: &mut [u8], len: usize, id: u32) -> u64
     ensures { EditsPacked (remove_in buf.old len id) buf.old result buf.new }
 {
     packed_edited(edit::remove(buf, len, id))
@@ -171,15 +165,13 @@ fn packed_converted(c: Converted) -> u64
     }
 }
 
-#[unsafe(no_mangle)]
-pub extern "C" fn yard_read_text(text: &[u8], out: &mut [u8]) -> u64
+pub fn yard_read_text(text: &[u8], out: &mut [u8]) -> u64
     ensures { ConvertsPacked (sheet_from text.now (length out.old)) out.old result out.new }
 {
     packed_converted(sheet_csv::read_sheet(text, out))
 }
 
-#[unsafe(no_mangle)]
-pub extern "C" fn yard_write_text(sheet: &[u8], out: &mut [u8]) -> u64
+pub fn yard_write_text(sheet: &[u8], out: &mut [u8]) -> u64
     ensures { ConvertsPacked (text_from sheet.now (length out.old)) out.old result out.new }
 {
     packed_converted(sheet_csv::write_text(sheet, out))

@@ -13,7 +13,7 @@ use Rattle.report.specs.Text.{line, refused_word, printed, text_by, text_of}
 use Rattle.report.specs.Pieces.{refusal_text}
 use Rattle.sheet_csv.specs.declared.Converted.{Converted}
 use Rattle.sheet_csv.specs.declared.Converted.TheVariants.{Length, Refused as notConverted}
-use Rattle.sheet_csv.specs.Read.{told_converted, length_of, output_by, Converts}
+use Rattle.sheet_csv.specs.Read.{length_of, output_by, Converts}
 use Rattle.sheet_csv.specs.Table.{table_from}
 use Rattle.sheet_csv.specs.Write.{text_from}
 use Rattle.barge_text.specs.Convert.{MadeInside, printed_text, printed_by}

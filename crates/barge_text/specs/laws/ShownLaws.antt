@@ -1,7 +1,7 @@
 -- A line that is shown, byte by byte: how long it is, and that all of it prints.
 -- Assumes nothing.
 use Rattle.std.specs.Prelude.{ℕ, suc, ◌+◌, ◌*◌, ◌/◌, ◌%◌, ◌≤◌, ◌<◌, ◌≡◌, refl, Bool, true, false, cond, List, [], ◌∷◌, ◌++◌, length, get_or, take, drop}
-use Rattle.std.proofs.Common.{sym, ap, ◌∙◌, true≢false, append_assoc, append-nil, arith, add-one, length-append, drop_of_length-le, take-suc, drop-cons, lt-ltb, le-ltb}
+use Rattle.std.proofs.Common.{sym, ap, ◌∙◌, append_assoc, append-nil, arith, add-one, length-append, drop_of_length-le, take-suc, drop-cons, lt-ltb, le-ltb}
 use Rattle.std.proofs.Math.Decide.{dec_lt}
 use Rattle.barge_text.specs.Shown.{ends_here, line_of, is_printed, hex_digit, shown_byte, shown}
 

@@ -76,6 +76,7 @@ records_fault p (row fs ls) n q e = go (by (answer false p fs) _ n q e) (λ f. r
 
 fault_records : (p : ℕ) (ls : Lines) (n q : ℕ) → FirstFaulty false p ls n q → records_made p ls ≡ refused n q
 unfolding records_made ◌then◌
+fault_records p none n q x' = elim x' [ ]
 fault_records p bad n q F.quotes = refl
 fault_records p (row fs ls) n q (F.line j) = stays (answer false p fs) _ n p ((line_exactly false p fs n p).1 (j, refl))
 fault_records p (row fs ls) n q (F.later j f) =
@@ -99,6 +100,7 @@ sheet_fault (row fs ls) n q e some = go (by (answer true 1 fs) _ n q e)
 
 pub fault_sheet : (ls : Lines) (n q : ℕ) → FirstFaulty true 1 ls n q → sheet_made ls ≡ refused n q
 unfolding sheet_made ◌then◌
+fault_sheet none n q x' = elim x' [ ]
 fault_sheet bad n q F.quotes = refl
 fault_sheet (row fs ls) n q (F.line j) = stays (answer true 1 fs) _ n 1 ((line_exactly true 1 fs n 1).1 (j, refl))
 fault_sheet (row fs ls) n q (F.later j f) =

@@ -33,6 +33,8 @@ use Rattle.csv_laws.specs.laws.Spelled.{number_back}
 -- what fits a layout is below its limits, and the other way round
 pub fit_below : (ws vs : List ℕ) → Fit ws vs → below (powers ws) vs ≡ true
 unfolding below
+fit_below [] (v ∷ vs) f = elim f [ ]
+fit_below (w ∷ ws) [] f = elim f [ ]
 fit_below [] [] f = refl
 fit_below (w ∷ ws) (v ∷ vs) f = rw (lt-ltb v (2 ^ w) f.0) (fit_below ws vs f.1)
 

@@ -3,7 +3,7 @@
 use Rattle.std.specs.Prelude.{ℕ, ◌≡◌, refl, Bool, false, List, [], ◌∷◌}
 use Rattle.gauge.specs.Ceil.{ceil_of}
 use Rattle.gauge.specs.Least.{first_from, least_in, number_of}
-use Rattle.demands.specs.Document01Rules.{sea, p_m, on_bottom, on_inner, on_deep, q, R, K2, rule1, rule2, rule3, rule4, rule5, rule6}
+use Rattle.demands.specs.Document01Rules.{sea, pM, on_bottom, on_inner, on_deep, q, R, K2, rule1, rule2, rule3, rule4, rule5, rule6}
 
 -- what a rule requires of T, W or A, 0 where nothing will do
 abbrev least_t : (ℕ → Bool) → ℕ
@@ -32,7 +32,7 @@ abbrev computed : List (List ℕ)
 computed =
     (sea 250 60 0 ∷ sea 250 60 250 ∷ sea 250 60 251 ∷ [])
     ∷ (sea 250 0 250 ∷ sea 250 0 251 ∷ sea 250 120 251 ∷ [])
-    ∷ (p_m 250 60 ∷ p_m 100 120 ∷ [])
+    ∷ (pM 250 60 ∷ pM 100 120 ∷ [])
     ∷ plate_of 2 (on_bottom 250 60 0 false 0) 0
     ∷ (K2 250 50 ∷ plate_of 1 (on_bottom 250 60 0 false 0) (K2 250 50))
     ∷ (K2 10 60 ∷ [])

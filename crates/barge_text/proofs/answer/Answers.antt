@@ -1,0 +1,18 @@
+-- `barge_text::answer` meets its contract.
+use mathlib.Core.Path.{ap, ◌∙◌}
+use lib.ListN.{replicate}
+use Rattle.sheet.specs.Versions.{longest_sheet}
+use Rattle.barge_text.specs.Convert.{line_in}
+use Rattle.barge_text.specs.laws.ConvertLaws.{made_printed}
+use Rattle.barge_text.proofs.answer.Goals as goal
+
+pub returns : goal.returns
+returns c =
+    let s = c.args.text.now in
+    record {
+      page = record {
+        inside = c.page_by-page.ensures.inside;
+        text = c.page_by-page.ensures.text ∙ made_printed s (replicate longest_sheet 0) c.read_table-c.result c.read_table-c.new.out c.read_table-c.ensures;
+      };
+      line = c.line_at_fault-line.ensures ∙ ap line_in c.read_table-c.ensures.answer;
+    }

@@ -1,0 +1,26 @@
+-- What was read of an input whose bytes are known.
+-- Assumes nothing.
+use Rattle.std.specs.Prelude.{ℕ, ◌≤◌, ◌<◌, ◌≡◌, List, ◌++◌, length, take, Option, None, Some}
+use Rattle.std.proofs.Common.{sym, ap, ◌∙◌, arith, append-nil, take_all, take_at, length-take-le}
+use Rattle.std.proofs.Math.Decide.{dec_lt}
+use Rattle.console.specs.declared.Read.TheVariants.{Got}
+use Rattle.console.specs.Console.{Came}
+
+-- it is the input, or as much of it as the space holds
+pub came_front : (input : List ℕ) (new : Option (List ℕ)) (n : ℕ) (space : List ℕ) → n ≤ length space → Came (Some input) new (Got n) space → take n space ≡ take (length space) input
+came_front input None n space l c = absurd c.0
+came_front input (Some rest) n space l c = go (dec_lt n (length space))
+  where
+    read : List ℕ
+    read = take n space
+
+    size : length read ≡ n
+    size = length-take-le n space l
+
+    go : Dec (n < length space) → take n space ≡ take (length space) input
+    go (yes h) =
+        let all : input ≡ take n space = c.0 ∙ ap (λ (t : List ℕ). take n space ++ t) (c.1 h) ∙ append-nil (take n space) in
+        sym (ap (take (length space)) all ∙ take_all (length space) (take n space) (omega (arith, size, l)))
+    go (no h) =
+        let full : length (take n space) ≡ length space = omega (arith, size, l) in
+        sym (ap (take (length space)) c.0 ∙ take_at (take n space) rest (length space) full)

@@ -1,0 +1,30 @@
+-- `pencil::bearing::load_numbers` meets its contract.
+use borrow.Author.Rules.{rules}
+use Prim.Native.Nat.{◌+◌, ◌*◌, ◌≤◌, max}
+use mathlib.Core.Path.{◌≡◌}
+use native.Mathlib.Omega.{arith}
+use native.Mathlib.Nat.{max-le}
+use lib.Dec.{lit<, eqb}
+use Rattle.gauge.specs.laws.CeilLaws.{ceil_most}
+use Rattle.loads.specs.laws.Bounds.{either}
+use Rattle.pencil.specs.Numbers.{load_numbers}
+use Rattle.std.proofs.Common.{ℕ, ◌-◌, ◌<◌, length, ◌/◌, ◌%◌, Bool, true, false, nat_eq, nat_lt, List, [], ◌∷◌, ◌++◌, slice_index_or, slice_set, bit_and, bit_or, Fits, w8, w32, w64, Bor, MutBor}
+use Rattle.loads.specs.Loads.{wind}
+use Rattle.pencil.specs.Trail.{Tells, head_of}
+use Rattle.pencil.proofs.bearing.load_numbers.Goals.{After-ceil_div-half}
+use Rattle.pencil.proofs.bearing.load_numbers.Goals as goal
+
+half : (c : After-ceil_div-half) → c.ceil_div-half.result ≤ 564075 * 65535
+half c =
+    let d : c.args.draught.0 ≤ 65535 = omega arith in
+    rw c.ceil_div-half.ensures (ceil_most _ 10 _ (lit< tt) (omega arith))
+
+-- src/bearing.rt:55:9
+pub overflow_add-result-4 : goal.overflow_add-result-4
+overflow_add-result-4 c = omega (arith, half c)
+
+-- src/bearing.rt:21:1
+pub returns : goal.returns
+unfolding load_numbers
+returns c =
+    rw (c.ceil_div-half.ensures, c.cut-net.ensures, c.cut-relief.ensures, c.cut-tank.ensures, c.wind_of-wind.ensures, c.greater-crest.ensures, c.cut-still.ensures)

@@ -1,0 +1,35 @@
+-- `pencil::plate_explained` meets its contract: what is given is the work of the member, and a refusal is the same refusal.
+use borrow.Author.Rules.{rules}
+use mathlib.Core.Path.{sym, ap, ◌∙◌}
+use Rattle.sheet.specs.Record.{of_plate}
+use Rattle.sheet.specs.laws.RefusalLaws.{given_same}
+use Rattle.verdict.specs.laws.JudgedLaws.{given_sound, sound_given, refused_same}
+use Rattle.plating.specs.Work.{work_of, told_worked}
+use Rattle.pencil.specs.Trail.{plate_trail, plate_explained}
+use Rattle.std.proofs.Common.{◌≡◌, ℕ, ◌+◌, ◌-◌, ◌*◌, ◌<◌, ◌≤◌, length, ◌/◌, ◌%◌, Bool, true, false, nat_eq, nat_lt, List, [], ◌∷◌, ◌++◌, slice_index_or, slice_set, bit_and, bit_or, Fits, w8, w32, w64, Bor, MutBor}
+use Rattle.sheet.specs.Refusals.{number_of as refusalNumber}
+use Rattle.sheet.specs.Refusals.{place_of}
+use Rattle.plating.specs.Work.{told_work as toldPlate}
+use Rattle.framing.specs.Work.{told_work as toldMember}
+use Rattle.pencil.specs.Templates.{head_words}
+use Rattle.pencil.specs.Trail.{Shows, member_trail, refusal, member_explained, explained, Trails}
+use Rattle.pencil.proofs.plate_explained.Goals as goal
+
+-- src/lib.rt:217:1
+pub returns-in-Refused : goal.returns-in-Refused
+unfolding plate_explained
+returns-in-Refused c =
+    let a = c.args in
+    let e = sym c.worked-worked.ensures ∙ ap told_worked c.in-Refused.is in
+    rw (refused_same a.h (of_plate a.kind a.id a.p) (work_of a.h a.kind a.p) (plate_trail a.h a.kind a.id a.p (work_of a.h a.kind a.p)) _ _ e) c.refused.ensures
+
+-- src/lib.rt:217:1
+-- LOOK: κs/given
+pub returns-in-Work : goal.returns-in-Work
+unfolding plate_explained
+returns-in-Work c =
+    let a = c.args in
+    let e = sym c.worked-worked.ensures ∙ ap told_worked c.in-Work.is in
+    let sound = given_sound a.h (of_plate a.kind a.id a.p) (work_of a.h a.kind a.p) _ e in
+    let same = given_same (sym (sound_given a.h (of_plate a.kind a.id a.p) (work_of a.h a.kind a.p) sound) ∙ e) in
+    rw (sound_given a.h (of_plate a.kind a.id a.p) (plate_trail a.h a.kind a.id a.p (work_of a.h a.kind a.p)) sound, same) c.plate_work.ensures
