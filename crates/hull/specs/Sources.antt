@@ -1,5 +1,5 @@
 -- The loads that bear on a record, and the pressure that its rules go by.
-use Rattle.std.specs.Prelude.{ℕ, List, [], ◌∷◌}
+use Rattle.std.specs.Prelude.{ℕ, List}
 use Rattle.loads.specs.Sources.{Named}
 use Rattle.sheet.specs.declared.Header.{Header}
 use Rattle.sheet.specs.declared.Record.{Record}

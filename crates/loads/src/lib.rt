@@ -178,7 +178,7 @@ pub fn deep(draught: Span, wave: Span, two_runs: bool) -> Load
     load_of(still_water(draught, two_runs) + WAVE * h, Source::SeaBelow)
 }
 
-// P.S / 1,000,000, rounded up. The whole parts are taken out first, so that no product is past 64 bits.
+// P·S / 1,000,000, rounded up. The whole parts are taken out first, so that no product is past 64 bits.
 pub fn line_load(load: Load, s: Spacing) -> Line
     ensures { told_line result ≡ line_named (told_load load) s.0 }
 {

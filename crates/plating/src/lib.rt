@@ -28,14 +28,14 @@ const LIMIT: u64 = 210000;
 // The greatest K2.
 const K2_HIGH: u64 = 26000;
 
-// typeof.a.T² ≥ n.
+// a·T² ≥ n.
 fn square(a: u64, n: u64) -> Shape
     ensures { result ≡ square_shape a n }
 {
     gauge::squared(1, 0, n, a)
 }
 
-// typeof.a.T² ≥ b·c, where b·c may be past 64 bits: it is formed only where the thickest plate of the gauge meets the rule.
+// a·T² ≥ b·c, where b·c may be past 64 bits: it is formed only where the thickest plate of the gauge meets the rule.
 fn square_over(a: u64, b: u64, c: u64) -> Shape
     requires { (0 < a) × (0 < b) × (a * (thickness.high * thickness.high) < 2 ^ 64) }
     ensures { result ≡ over_shape a b c }
@@ -47,7 +47,7 @@ fn square_over(a: u64, b: u64, c: u64) -> Shape
     square(a, b * c)
 }
 
-// X = 100T − short, X ≥ 0 and typeof.a.X² ≥ n.
+// X = 100T − short, X ≥ 0 and a·X² ≥ n.
 fn excess(short: u32, a: u64, n: u64) -> Shape
     ensures { result ≡ excess_shape short a n }
 {

@@ -1,6 +1,6 @@
 -- An edit of a file: how many records are printed, its new sheet is in the buffer, and what was read of it turns it away as the whole would be.
 -- Assumes nothing.
-use Rattle.std.specs.Prelude.{ℕ, ◌+◌, ◌*◌, ◌≤◌, ◌≡◌, Bool, true, false, cond, List, length, take, ltb}
+use Rattle.std.specs.Prelude.{ℕ, ◌≤◌, ◌≡◌, Bool, true, false, cond, List, length, take, ltb}
 use Rattle.std.proofs.Common.{sym, ap₂, ◌∙◌, arith, take_all, take-take, le-leb}
 use Rattle.std.proofs.Math.Path.{ap}
 use Rattle.sheet.specs.declared.Header.{Header}

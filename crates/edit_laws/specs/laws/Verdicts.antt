@@ -48,6 +48,7 @@ with_room s x y t e l =
 
 pub read_of : (s : List ℕ) (k m : ℕ) (rs : List Record) → Reads (parts_from s k m) rs → (i : ℕ) → i < m → (q : Record) × At id_of rs i q × (read_record 0 (record_part s (k + i)) ≡ given q)
 unfolding parts_from
+read_of s k (suc m) [] a i l = elim a [ ]
 read_of s k zero rs a i l = absurd (omega arith)
 read_of s k (suc m) (r ∷ rs) (reads f a) zero l = let e : k ≡ k + 0 = omega arith in (r, refl, ap (λ (j : ℕ). read_record 0 (record_part s j)) (sym e) ∙ f)
 read_of s k (suc m) (r ∷ rs) (reads f a) (suc i) l =
@@ -57,6 +58,8 @@ read_of s k (suc m) (r ∷ rs) (reads f a) (suc i) l =
 
 pub at_read : (s : List ℕ) (k m : ℕ) (rs : List Record) → Reads (parts_from s k m) rs → (i : ℕ) (q : Record) → At id_of rs i q → (i < m) × (read_record 0 (record_part s (k + i)) ≡ given q)
 unfolding parts_from
+at_read s k zero (r ∷ rs) x4 i q b = elim x4 [ ]
+at_read s k (suc m) [] x4 i q b = elim x4 [ ]
 at_read s k zero [] nothing i q b = absurd b
 at_read s k (suc m) (r ∷ rs) (reads f a) zero q b = let e : k ≡ k + 0 = omega arith in (omega arith, ap (λ (j : ℕ). read_record 0 (record_part s j)) (sym e) ∙ f ∙ ap given b)
 at_read s k (suc m) (r ∷ rs) (reads f a) (suc i) q b =

@@ -1,11 +1,6 @@
 -- `layout::write_half` meets its contract.
-use borrow.Author.Rules.{rules}
 use mathlib.Core.Path.{sym, ◌∙◌}
 use Rattle.layout.specs.laws.BytesLaws.{write_few, write_all_lem}
-use Rattle.std.proofs.Common.{◌≡◌, cond, ◌≤◌, ◌<◌, length, take, drop, ◌++◌, reverse, ℕ, ◌+◌, ◌-◌, ◌*◌, ◌/◌, ◌%◌, Bool, true, false, nat_eq, nat_lt, List, [], ◌∷◌, slice_index_or, slice_set, bit_and, bit_or, Fits, w8, w32, w64, Bor, MutBor}
-use Rattle.quantity.specs.Range.{from}
-use Rattle.layout.specs.Layout.{pack, unpack, bytes, Fit}
-use Rattle.layout.specs.Bytes.{short_of, long_of, read_of, written_of}
 use Rattle.layout.proofs.write_half.Goals as goal
 
 -- src/lib.rt:101:1

@@ -1,14 +1,9 @@
 -- `layout::write_long` meets its contract: a word and what follows it are the number's bytes together.
-use borrow.Author.Rules.{rules}
 use native.Mathlib.Omega.{arith}
 use mathlib.Core.Path.{sym, ◌∙◌}
 use Rattle.layout.specs.Bytes.{long_of}
 use Rattle.layout.specs.laws.BytesLaws.{write_few, write_all_lem}
 use Rattle.layout.proofs.Parts.{put_law}
-use Rattle.std.proofs.Common.{◌≡◌, cond, ◌≤◌, ◌<◌, length, take, drop, ◌++◌, reverse, ℕ, ◌+◌, ◌-◌, ◌*◌, ◌/◌, ◌%◌, Bool, true, false, nat_eq, nat_lt, List, [], ◌∷◌, slice_index_or, slice_set, bit_and, bit_or, Fits, w8, w32, w64, Bor, MutBor}
-use Rattle.quantity.specs.Range.{from}
-use Rattle.layout.specs.Layout.{pack, unpack, bytes, Fit}
-use Rattle.layout.specs.Bytes.{short_of, read_of, written_of}
 use Rattle.layout.proofs.write_long.Goals as goal
 
 -- src/lib.rt:157:1

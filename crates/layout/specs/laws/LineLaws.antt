@@ -1,7 +1,7 @@
 -- The laws of lines, over any list of them.
 -- Assumes nothing.
-use Rattle.std.specs.Prelude.{ℕ, zero, suc, ◌+◌, ◌^◌, ◌<◌, ◌≤◌, ◌≡◌, refl, Bool, true, false, cond, ◌&&◌, ◌||◌, List, [], ◌∷◌, length, ltb}
-use Rattle.std.proofs.Common.{ap, ◌∙◌, arith, leb-true, ltb-true}
+use Rattle.std.specs.Prelude.{ℕ, zero, suc, ◌+◌, ◌^◌, ◌<◌, ◌≤◌, ◌≡◌, refl, Bool, true, false, cond, ◌||◌, List, [], ◌∷◌, length, ltb}
+use Rattle.std.proofs.Common.{ap, ◌∙◌, arith, ltb-true}
 use Rattle.truth.specs.laws.Tests.{both, clash}
 use Rattle.quantity.specs.Range.{Range, within}
 use Rattle.quantity.specs.laws.RangeLaws.{low_high}

@@ -1,16 +1,10 @@
 -- `numbers::header_from` meets its contract.
 use mathlib.Core.Path.{◌≡◌, sym, ap, ◌∙◌}
-use borrow.Author.Rules.{rules}
 use Rattle.sheet.specs.declared.Outcome.{Outcome}
 use Rattle.sheet.specs.Refusals.{told_outcome}
 use Rattle.numbers.specs.From.{header_from}
 use Rattle.numbers.proofs.Places.{carrying}
 use Rattle.numbers.proofs.Taken.{header_by_held}
-use Rattle.std.proofs.Common.{cond, eqb, ℕ, ◌+◌, ◌-◌, ◌*◌, ◌<◌, ◌≤◌, length, ◌/◌, ◌%◌, Bool, true, false, nat_lt, List, [], ◌∷◌, ◌++◌, slice_index_or, slice_set, bit_and, bit_or, Fits, w8, w32, w64, Bor, MutBor}
-use Rattle.sheet.specs.Refusals.{number_of, place_of, told_header, told_record}
-use Rattle.numbers.specs.Fields.{own_numbers, header_numbers, plate_numbers, member_numbers, record_numbers}
-use Rattle.numbers.specs.From.{named_size, record_from}
-use Rattle.numbers.specs.Held.{earlier_of, own_held, header_held, header_apart, plate_held, member_held, record_held, plate_apart, record_apart}
 use Rattle.numbers.proofs.header_from.Goals.{After-earlier-fault}
 use Rattle.numbers.proofs.header_from.Goals as goal
 

@@ -1,5 +1,3 @@
-use Rattle.std.proofs.Common.{◌≡◌, ℕ, ◌+◌, ◌-◌, ◌*◌, ◌<◌, ◌≤◌, length}
-use Rattle.root.specs.Root.{IsRoot}
 use Rattle.root.proofs.+root.Given as goal
 
 -- proposed from what the function passes where it calls itself
