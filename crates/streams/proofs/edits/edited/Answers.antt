@@ -1,5 +1,4 @@
 -- `streams::edits::edited` meets its contract.
-use borrow.Author.Rules.{rules}
 use Prim.Native.Nat.{ℕ}
 use mathlib.Core.Path.{◌≡◌, sym, ap, subst, ◌∙◌}
 use mathlib.Core.List.{List}
@@ -8,8 +7,6 @@ use Rattle.sheet.specs.Refusals.{Answer}
 use Rattle.edit.specs.Edit.{After, put_numbers_in, remove_in, Edits}
 use Rattle.streams.specs.Parts.{number_at, fields_in}
 use Rattle.streams.specs.Edits.{asked_edit}
-use Rattle.std.proofs.Common.{◌≤◌, length, ◌+◌, ◌-◌, ◌*◌, ◌<◌, ◌/◌, ◌%◌, Bool, true, false, nat_eq, nat_lt, [], ◌∷◌, ◌++◌, slice_index_or, slice_set, bit_and, bit_or, Fits, w8, w32, w64, Bor, MutBor}
-use Rattle.streams.specs.Edits.{IsDone}
 use Rattle.streams.proofs.edits.edited.Goals as goal
 
 -- the edit by the form's first number

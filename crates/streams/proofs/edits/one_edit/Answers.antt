@@ -1,5 +1,4 @@
 -- `streams::edits::one_edit` is safe and ends: the sheet that an edit leaves is in the buffer, so that its length has room on the line.
-use borrow.Author.Rules.{rules}
 use Prim.Native.Nat.{ℕ, ◌≤◌}
 use mathlib.Core.Path.{◌≡◌, refl, sym, subst, ◌∙◌}
 use mathlib.Core.Bool.{Bool, true, false, cond}
@@ -12,9 +11,6 @@ use Rattle.edit.specs.Edit.{After, put_numbers_in, remove_in, size_by}
 use Rattle.edit.specs.laws.Within.{numbers_within, remove_within}
 use Rattle.streams.specs.Parts.{number_at, fields_in, ShortLine}
 use Rattle.streams.specs.Edits.{asked_edit}
-use Rattle.std.proofs.Common.{◌+◌, ◌-◌, ◌*◌, ◌<◌, ◌/◌, ◌%◌, nat_eq, nat_lt, [], ◌∷◌, ◌++◌, slice_index_or, slice_set, bit_and, bit_or, Fits, w8, w32, w64, Bor, MutBor}
-use Rattle.edit.specs.Edit.{Edits}
-use Rattle.streams.specs.Edits.{IsDone}
 use Rattle.streams.proofs.edits.one_edit.Goals as goal
 
 -- `streams::edits::one_edit` is safe and ends: the sheet that an edit leaves is in the buffer, so that its length has room on the line.

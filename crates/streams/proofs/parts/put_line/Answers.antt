@@ -1,6 +1,5 @@
 -- `streams::parts::put_line` meets its contract.
-use borrow.Author.Rules.{rules}
-use Prim.Native.Nat.{ℕ, ◌+◌, ◌≤◌}
+use Prim.Native.Nat.{ℕ, ◌≤◌}
 use mathlib.Core.Path.{◌≡◌, refl, sym, ap, subst, ◌∙◌}
 use mathlib.Core.List.{List, [], ◌∷◌, ◌++◌}
 use native.Mathlib.Omega.{arith}
@@ -19,8 +18,6 @@ use Rattle.report.specs.Pieces.{refusal_text}
 use Rattle.sheet_csv.specs.declared.Converted.{Converted}
 use Rattle.sheet_csv.specs.Read.{told_converted}
 use Rattle.streams.specs.Parts.{line_for, ShortLine}
-use Rattle.std.proofs.Common.{◌*◌, ◌<◌, ◌-◌, ◌/◌, ◌%◌, Bool, true, false, nat_eq, nat_lt, slice_index_or, slice_set, bit_and, bit_or, Fits, w8, w32, w64, Bor, MutBor}
-use Rattle.streams.specs.Parts.{number_at, fields_in}
 use Rattle.streams.proofs.parts.put_line.Goals.{After-write_refusal-told, In-Length}
 use Rattle.streams.proofs.parts.put_line.Goals as goal
 

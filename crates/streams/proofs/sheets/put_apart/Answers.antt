@@ -1,15 +1,14 @@
 -- `streams::sheets::put_apart` meets its contract: the text is told, and there is room behind it.
-use Rattle.std.proofs.Common.{◌≡◌, ℕ, ◌+◌, ◌<◌, ◌≤◌, List, [], ◌∷◌, ◌++◌, length, take, drop, sym, ap, ◌∙◌, arith, add-one, take_at}
+use Rattle.std.proofs.Common.{◌≡◌, ℕ, ◌<◌, List, [], ◌∷◌, ◌++◌, length, take, drop, sym, ap, ◌∙◌, arith, add-one, take_at}
 use lib.ListN.{set, length-set}
 use lib.Seq.{take-suc-set}
 use Rattle.sheet.specs.Refusals.{given}
 use Rattle.sheet.specs.laws.RefusalLaws.{given_same, given_refused}
 use Rattle.report.specs.declared.Told.{Told}
-use Rattle.report.specs.declared.Told.TheVariants.{Length, Refused as notTold}
+use Rattle.report.specs.declared.Told.TheVariants.{Length}
 use Rattle.report.specs.Text.{text_of}
 use Rattle.report.specs.Page.{longest, told_length, Tells}
 use Rattle.report.specs.laws.Longest.{text_most, answer_told}
-use Rattle.streams.specs.Sheets.{Apart}
 use Rattle.streams.proofs.sheets.put_apart.Goals as goal
 
 -- the text stands in front, and its length is told

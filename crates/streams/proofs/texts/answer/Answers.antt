@@ -1,7 +1,6 @@
 -- `streams::texts::answer` meets its contract: what is written is in the output, so that its length has room on the line.
-use borrow.Author.Rules.{rules}
 use Prim.Native.Nat.{ℕ, ◌≤◌}
-use mathlib.Core.Path.{◌≡◌, sym, ap, subst, ◌∙◌}
+use mathlib.Core.Path.{◌≡◌, ap, ◌∙◌}
 use mathlib.Core.List.{List}
 use native.Mathlib.Omega.{arith}
 use lib.ListN.{length, drop, length-append}
@@ -9,10 +8,6 @@ use Rattle.sheet.specs.Refusals.{Answer, given, refused}
 use Rattle.decimal.specs.laws.LaidLaws.{laid_inside, laid_taken}
 use Rattle.sheet_csv.specs.Read.{told_converted, length_of, output_by}
 use Rattle.streams.specs.Parts.{line_for, ShortLine}
-use Rattle.streams.specs.Texts.{asked}
-use Rattle.std.proofs.Common.{◌+◌, ◌-◌, ◌*◌, ◌<◌, ◌/◌, ◌%◌, Bool, true, false, nat_eq, nat_lt, [], ◌∷◌, ◌++◌, slice_index_or, slice_set, bit_and, bit_or, Fits, w8, w32, w64, Bor, MutBor}
-use Rattle.sheet_csv.specs.Read.{Converts}
-use Rattle.streams.specs.Texts.{Answers}
 use Rattle.streams.proofs.texts.answer.Goals as goal
 
 -- what stands in front of the output has no more bytes than it

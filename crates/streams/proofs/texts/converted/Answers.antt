@@ -1,7 +1,6 @@
 -- `streams::texts::converted` meets its contract.
-use borrow.Author.Rules.{rules}
 use Prim.Native.Nat.{ℕ}
-use mathlib.Core.Path.{◌≡◌, sym, subst}
+use mathlib.Core.Path.{◌≡◌, subst}
 use mathlib.Core.List.{List}
 use lib.ListN.{length}
 use borrow.Author.Tests.{eq-eqb, ne_eqb}
@@ -10,8 +9,6 @@ use Rattle.sheet_csv.specs.Read.{sheet_from, Converts}
 use Rattle.sheet_csv.specs.Table.{table_from}
 use Rattle.sheet_csv.specs.Write.{text_from}
 use Rattle.streams.specs.Texts.{asked}
-use Rattle.std.proofs.Common.{◌≤◌, ◌+◌, ◌-◌, ◌*◌, ◌<◌, ◌/◌, ◌%◌, Bool, true, false, nat_eq, nat_lt, [], ◌∷◌, ◌++◌, slice_index_or, slice_set, bit_and, bit_or, Fits, w8, w32, w64, Bor, MutBor}
-use Rattle.streams.specs.Texts.{Answers}
 use Rattle.streams.proofs.texts.converted.Goals as goal
 
 -- what is asked by the case's first number
