@@ -28,7 +28,6 @@ use Rattle.wording.specs.Writes.{text_of}
 use Rattle.pencil.specs.declared.Section.{Section}
 use Rattle.pencil.specs.declared.Work.{Work}
 use Rattle.pencil.specs.declared.Trail.{Trail}
-use Rattle.pencil.specs.Glossary.{Facts}
 use Rattle.pencil.specs.Templates.{text, Holds}
 use Rattle.pencil.specs.Numbers.{product, is_never, rule_numbers, no_more, with_ratio, load_numbers}
 

@@ -1,5 +1,4 @@
 -- `edit::put_new` meets its contract.
-use borrow.Author.Rules.{rules}
 use mathlib.Core.Path.{◌≡◌, sym, ap, ◌∙◌}
 use Prim.Native.Nat.{◌+◌, ◌≤◌, ◌<◌}
 use native.Mathlib.Omega.{arith}
@@ -11,12 +10,6 @@ use Rattle.sheet.specs.laws.VersionLaws.{regular}
 use Rattle.checker.specs.Check.{sheet_size}
 use Rattle.edit.specs.Edit.{highest, counting, inserting}
 use Rattle.edit.proofs.Answers.{no_room, room_for_one, at_highest, below_highest, size, its_header, place_most, put_full, put_inserted}
-use Rattle.std.proofs.Common.{false, ◌*◌, ℕ, ◌-◌, ◌/◌, ◌%◌, Bool, true, nat_eq, nat_lt, List, [], ◌∷◌, ◌++◌, slice_index_or, slice_set, bit_and, bit_or, w8, w32, w64, Bor, MutBor}
-use Rattle.sheet.specs.Refusals.{told_header}
-use Rattle.sheet.specs.Record.{record_fault}
-use Rattle.checker.specs.Check.{records_part}
-use Rattle.edit.specs.Edit.{header_of, start, replacing, removing, put_in, put_numbers_in, remove_in, Edits}
-use Rattle.edit.specs.Steps.{place_in, has_in, Known, Fits, Stands}
 use Rattle.edit.proofs.put_new.Goals.{After-header_fault-found, In-Fine, Start}
 use Rattle.edit.proofs.put_new.Goals as goal
 

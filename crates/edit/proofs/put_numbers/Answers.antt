@@ -1,16 +1,10 @@
 -- `edit::put_numbers` meets its contract.
-use borrow.Author.Rules.{rules}
 use mathlib.Core.Path.{sym, ap, subst, ◌∙◌}
 use Rattle.sheet.specs.Refusals.{Answer, told_header, told_record}
 use Rattle.numbers.specs.laws.Back.{record_numbers_same}
 use Rattle.edit.specs.Edit.{After, Edits}
 use Rattle.edit.specs.Steps.{Known}
 use Rattle.edit.proofs.Answers.{known, numbers_turned, numbers_refused, numbers_taken}
-use Rattle.std.proofs.Common.{◌≡◌, false, ◌+◌, ◌*◌, ◌≤◌, length, ℕ, ◌-◌, ◌<◌, ◌/◌, ◌%◌, Bool, true, nat_eq, nat_lt, List, [], ◌∷◌, ◌++◌, slice_index_or, slice_set, bit_and, bit_or, w8, w32, w64, Bor, MutBor}
-use Rattle.sheet.specs.Record.{record_fault}
-use Rattle.checker.specs.Check.{records_part}
-use Rattle.edit.specs.Edit.{header_of, start, counting, replacing, inserting, removing, put_in, put_numbers_in, remove_in}
-use Rattle.edit.specs.Steps.{place_in, has_in, Fits, Stands}
 use Rattle.edit.proofs.put_numbers.Goals.{In-Good}
 use Rattle.edit.proofs.put_numbers.Goals as goal
 

@@ -1,5 +1,4 @@
 -- `edit::put_sound` meets its contract.
-use borrow.Author.Rules.{rules}
 use mathlib.Core.Path.{◌≡◌, sym, ap, ◌∙◌}
 use mathlib.Core.List.{List}
 use Prim.Native.Nat.{ℕ, ◌-◌, ◌*◌, ◌≤◌}
@@ -12,11 +11,6 @@ use Rattle.checker.specs.Check.{sheet_size, records_part}
 use Rattle.edit.specs.Edit.{replacing}
 use Rattle.edit.specs.Steps.{place_in, has_in}
 use Rattle.edit.proofs.Answers.{size, place_within, put_replaced}
-use Rattle.std.proofs.Common.{false, ◌+◌, ◌<◌, ◌/◌, ◌%◌, Bool, true, nat_eq, nat_lt, [], ◌∷◌, ◌++◌, slice_index_or, slice_set, bit_and, bit_or, w8, w32, w64, Bor, MutBor}
-use Rattle.sheet.specs.Refusals.{told_header}
-use Rattle.sheet.specs.Record.{record_fault}
-use Rattle.edit.specs.Edit.{header_of, start, counting, inserting, removing, put_in, put_numbers_in, remove_in, Edits}
-use Rattle.edit.specs.Steps.{Known, Fits, Stands}
 use Rattle.edit.proofs.put_sound.Goals.{After-has_at, After-size-size, Start}
 use Rattle.edit.proofs.put_sound.Goals as goal
 

@@ -1,5 +1,4 @@
 -- `edit::remove_sound` meets its contract.
-use borrow.Author.Rules.{rules}
 use mathlib.Core.Path.{◌≡◌, sym, ap, ◌∙◌}
 use Prim.Native.Nat.{ℕ, ◌-◌, ◌*◌, ◌≤◌, ◌<◌}
 use mathlib.Core.List.{List}
@@ -15,11 +14,6 @@ use Rattle.edit.specs.Edit.{highest, removing}
 use Rattle.edit.specs.laws.HeaderCount.{counting_sound}
 use Rattle.edit.specs.Steps.{place_in, has_in}
 use Rattle.edit.proofs.Answers.{size, its_header, place_within, remove_none, remove_done}
-use Rattle.std.proofs.Common.{false, ◌+◌, ◌/◌, ◌%◌, Bool, nat_eq, nat_lt, [], ◌∷◌, ◌++◌, slice_index_or, slice_set, bit_and, bit_or, w8, w32, w64, Bor, MutBor}
-use Rattle.sheet.specs.Refusals.{told_header}
-use Rattle.sheet.specs.Record.{record_fault}
-use Rattle.edit.specs.Edit.{header_of, start, counting, replacing, inserting, put_in, put_numbers_in, remove_in, Edits}
-use Rattle.edit.specs.Steps.{Known, Fits, Stands}
 use Rattle.edit.proofs.remove_sound.Goals.{After-has_at, After-size-size, Start, Then-has_at}
 use Rattle.edit.proofs.remove_sound.Goals as goal
 

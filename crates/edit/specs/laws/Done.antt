@@ -1,7 +1,7 @@
 -- The cases in which an edit of a sheet that is not turned away is done, and that the sheet is in the buffer then.
 -- Assumes nothing.
 use Prim.Native.Nat.{ℕ, ◌+◌, ◌-◌, ◌*◌, ◌≤◌, ◌<◌}
-use Rattle.std.specs.Prelude.{◌≡◌, Bool, true, false, cond, ◌&&◌, List, length, leb, ltb}
+use Rattle.std.specs.Prelude.{◌≡◌, Bool, true, false, cond, List, length, leb, ltb}
 use Rattle.std.proofs.Math.Path.{refl, sym, ap}
 use Rattle.std.proofs.Common.{◌∙◌, leb-true, ltb-true}
 use Rattle.truth.specs.laws.Tests.{both}

@@ -1,6 +1,6 @@
 -- A sheet in a buffer that is not turned away: its length, its header, and its records by their bytes.
 -- Assumes nothing.
-use Rattle.std.specs.Prelude.{ℕ, zero, suc, ◌+◌, ◌*◌, ◌≤◌, ◌≡◌, refl, Bool, true, false, ◌&&◌, List, [], ◌∷◌, ◌++◌, length, take, drop, leb, ltb}
+use Rattle.std.specs.Prelude.{ℕ, zero, suc, ◌+◌, ◌*◌, ◌≤◌, ◌≡◌, refl, true, false, List, [], ◌∷◌, ◌++◌, length, take, drop, leb, ltb}
 use Rattle.std.proofs.Common.{sym, ap, subst, ◌∙◌, arith, length-take-le, leb-true, lt-ltb}
 use Rattle.truth.specs.laws.Tests.{both}
 use Rattle.layout.specs.laws.BytesLaws.{drop_take}

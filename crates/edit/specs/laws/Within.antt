@@ -1,14 +1,14 @@
 -- The sheet that an edit leaves is in the buffer.
 -- Assumes nothing.
-use Rattle.std.specs.Prelude.{ℕ, ◌≤◌, ◌≡◌, refl, List, length, leb}
+use Rattle.std.specs.Prelude.{ℕ, ◌≤◌, ◌≡◌, refl, List, length}
 use Rattle.std.proofs.Math.Path.{ap}
-use Rattle.std.proofs.Common.{◌∙◌, arith, leb-true}
+use Rattle.std.proofs.Common.{◌∙◌, arith}
 use Rattle.sheet.specs.declared.Record.{Record}
 use Rattle.sheet.specs.Refusals.{Answer, given, refused}
 use Rattle.sheet.specs.laws.RefusalLaws.{given_same, given_refused}
 use Rattle.numbers.specs.From.{record_from}
-use Rattle.checker.specs.Check.{demand, Sheet}
-use Rattle.checker.specs.laws.ThenLaws.{then_given, demand_given}
+use Rattle.checker.specs.Check.{Sheet}
+use Rattle.checker.specs.laws.ThenLaws.{then_given}
 use Rattle.edit.specs.declared.Edited.TheVariants.{Length}
 use Rattle.edit.specs.Edit.{sheet_at, header_of, After, put_in, put_numbers_in, remove_in, size_by, Edits}
 use Rattle.edit.specs.laws.Taken.{taken_at}

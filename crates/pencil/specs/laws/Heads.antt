@@ -1,6 +1,6 @@
 -- Which member it is and its loads: each line holds.
 -- Assumes nothing.
-use Rattle.std.specs.Prelude.{ℕ, ◌+◌, ◌-◌, ◌*◌, ◌≤◌, ◌<◌, max, Bool, ◌≡◌, ltb, eqb}
+use Rattle.std.specs.Prelude.{ℕ, ◌+◌, ◌-◌, ◌*◌, ◌≤◌, ◌<◌, Bool, ◌≡◌, ltb, eqb}
 use Rattle.std.proofs.Math.Bool.{true, false, cond}
 use Rattle.std.proofs.Math.Path.{refl, ap, subst}
 use Rattle.std.proofs.Common.{sym, ◌∙◌, lit<}
@@ -12,9 +12,8 @@ use Rattle.loads.specs.Loads.{sea, crest, wind, ballast, relief, deep_pressure}
 use Rattle.loads.specs.Sources.{Named, sea_named, tank_named, cargo_named, deep_named, with_ballast, Among, first, later, Decides}
 use Rattle.pencil.specs.Registers.{Registers}
 use Rattle.pencil.specs.Glossary.{Facts}
-use Rattle.pencil.specs.Templates.{templates, says, Holds}
+use Rattle.pencil.specs.Templates.{templates, says}
 use Rattle.pencil.specs.Numbers.{load_numbers}
-use Rattle.pencil.specs.Trail.{head_of}
 use Rattle.pencil.specs.laws.Divided.{divided, ceil_up}
 
 module _ (f : Facts) (kind g1 g2 cargo D0 g5 source g7 H g9 g10 g11 g12 g13 g14 g15 P g17 g18 g19 g20 zL g22 g23 g24 g25 z g27 g28 g29 g30 g31 : ℕ) where

@@ -1,16 +1,15 @@
 -- The rules of a member: each line of their sections holds.
 -- Assumes nothing.
-use Rattle.std.specs.Prelude.{ℕ, ◌+◌, ◌-◌, ◌*◌, ◌/◌, ◌%◌, ◌≤◌, ◌<◌, Bool, cond, ◌≡◌, List, [], ◌∷◌, leb, ltb}
+use Rattle.std.specs.Prelude.{ℕ, ◌+◌, ◌-◌, ◌*◌, ◌/◌, ◌≤◌, ◌<◌, Bool, cond, ◌≡◌, List, [], ◌∷◌, ltb}
 use Rattle.std.proofs.Math.Bool.{true, false}
 use Rattle.std.proofs.Math.Path.{refl, sym}
-use Rattle.std.proofs.Common.{ap, subst, ◌∙◌, mul-pos, div-one, lit<}
+use Rattle.std.proofs.Common.{ap, ◌∙◌, div-one, lit<}
 use native.Mathlib.Omega.{arith}
 use Rattle.std.proofs.Math.Nat.{mul-le-mul}
 use mir.Val.{bool_byte}
 use borrow.Author.Tests.{ltb-true, ltb-false}
 use Rattle.quantity.specs.Range.{thickness, modulus, shear_area}
 use Rattle.root.specs.laws.RootLaws.{root_is}
-use Rattle.gauge.specs.declared.Shape.{Shape}
 use Rattle.gauge.specs.declared.Shape.TheVariants.{Never, Floor, Square}
 use Rattle.gauge.specs.Ceil.{ceil_of}
 use Rattle.gauge.specs.laws.CeilLaws.{ceil_most, ceil_covers}
@@ -22,7 +21,7 @@ use Rattle.sheet.specs.declared.Header.{Header}
 use Rattle.sheet.specs.declared.Member.{Member}
 use Rattle.sheet.specs.Ranges.{HeaderRanges, MemberRanges}
 use Rattle.verdict.specs.Verdict.{Rule}
-use Rattle.framing.specs.Rules.{is_short, rule4, member_pressure, member_named, member_line, web_rule, bending_rule, shear_rule, member_verdict}
+use Rattle.framing.specs.Rules.{is_short, member_pressure, member_named, member_line, web_rule, bending_rule, shear_rule, member_verdict}
 use Rattle.framing.specs.Shapes.{shape4, shape5, shape6}
 use Rattle.framing.specs.laws.ShapeLaws.{says4, says5, says6}
 use Rattle.framing.specs.laws.BoundLaws.{member_line_high}
@@ -31,7 +30,7 @@ use Rattle.framing.specs.Work.{work_of}
 use Rattle.pencil.specs.Glossary.{Facts}
 use Rattle.pencil.specs.Templates.{templates, says, Holds}
 use Rattle.pencil.specs.Numbers.{product, no_more, with_ratio, rule_numbers, is_never}
-use Rattle.pencil.specs.Trail.{Told, both, spread, member_given, member_first, member_second, member_third, verdict_line, ruled}
+use Rattle.pencil.specs.Trail.{Told, both, spread, member_given, member_first, member_second, member_third, ruled}
 use Rattle.pencil.specs.laws.Divided.{divided_as, ceil_as, product_fits}
 use Rattle.pencil.specs.laws.Steps.{result_holds, floor_holds, square_holds}
 use Rattle.pencil.specs.laws.Rules.{over_root, up_root, verdict_holds}

@@ -1,14 +1,14 @@
 -- The rules of a plate: each line of their sections holds.
 -- Assumes nothing.
-use Prim.Native.Nat.{ℕ, ◌+◌, ◌-◌, ◌*◌, ◌/◌, ◌%◌, ◌≤◌, ◌<◌}
+use Prim.Native.Nat.{ℕ, ◌+◌, ◌-◌, ◌*◌, ◌/◌, ◌≤◌, ◌<◌}
 use Rattle.std.specs.Prelude.{Bool, cond, ◌≡◌, ltb}
 use Rattle.std.proofs.Math.Bool.{true, false}
 use Rattle.std.proofs.Math.Path.{refl, sym, ap}
-use Rattle.std.proofs.Common.{subst, ◌∙◌, arith, mul-le-mul, mul-pos, le-div_iff_mul-le, mul_comm, lit<}
+use Rattle.std.proofs.Common.{◌∙◌, arith, mul-le-mul, mul-pos, le-div_iff_mul-le, mul_comm, lit<}
 use mathlib.Core.List.{List}
 use mir.Val.{bool_byte}
 use Rattle.std.proofs.Math.Dec.{leb}
-use borrow.Author.Tests.{lt-ltb, ltb-true, ltb-false}
+use borrow.Author.Tests.{ltb-true, ltb-false}
 use Rattle.quantity.specs.Range.{thickness}
 use Rattle.root.specs.laws.RootLaws.{root_is}
 use Rattle.gauge.specs.declared.Shape.{Shape}
@@ -21,7 +21,6 @@ use Rattle.loads.specs.laws.Bounds.{bottom_bound, inner_bound}
 use Rattle.sheet.specs.declared.Header.{Header}
 use Rattle.sheet.specs.declared.Plate.{Plate}
 use Rattle.sheet.specs.Ranges.{HeaderRanges, PlateRanges}
-use Rattle.sheet.specs.Kinds.{is_long}
 use Rattle.verdict.specs.Verdict.{Rule}
 use Rattle.plating.specs.Rules.{R, K2, plate_modulus, plate_pressure, plate_named, plate_loads, is_second, asked1, asked2, asked3, plate_verdict}
 use Rattle.plating.specs.Shapes.{shape1, shape2, shape3, first_shape, second_shape}

@@ -1,24 +1,18 @@
 -- The lines of a rule hold, whatever its numbers: up to the right side, the root and the rounding; the last step and the result by the shape.
 -- Assumes nothing.
-use Rattle.std.specs.Prelude.{ℕ, ◌+◌, ◌-◌, ◌*◌, ◌/◌, ◌%◌, ◌≤◌, ◌<◌, Bool, true, false, cond, ◌≡◌, refl, List, eqb}
-use Rattle.std.proofs.Common.{sym, ap, subst, ◌∙◌, arith, mul-le-mul_left, mul-one, mod-eq_of_lt, lit<, eqb-true}
+use Rattle.std.specs.Prelude.{ℕ, ◌+◌, ◌/◌, ◌%◌, ◌≤◌, ◌<◌, Bool, true, false, cond, ◌≡◌, refl, eqb}
+use Rattle.std.proofs.Common.{◌∙◌, arith, mul-le-mul_left, mul-one, mod-eq_of_lt, eqb-true}
 use Rattle.std.proofs.Math.Decide.{dec_le}
 use Rattle.std.proofs.lemmas.Bool.{eqb-false}
-use Rattle.root.specs.Root.{root_of, IsRoot}
+use Rattle.root.specs.Root.{root_of}
 use Rattle.root.specs.laws.RootLaws.{root_is}
-use Rattle.gauge.specs.declared.Shape.{Shape}
-use Rattle.gauge.specs.declared.Shape.TheVariants.{Never, Floor, Square}
 use Rattle.gauge.specs.Ceil.{ceil_of}
-use Rattle.gauge.specs.Least.{number_of}
-use Rattle.gauge.specs.Shape.{least_of, Says}
 use Rattle.pencil.specs.Registers.{Registers, at}
 use Rattle.pencil.specs.Registers as reg
 use Rattle.pencil.specs.Glossary.{Facts, Divides, rounded_up, unit_of}
-use Rattle.pencil.specs.Templates.{templates, says, Holds}
-use Rattle.pencil.specs.Numbers.{rule_numbers}
-use Rattle.pencil.specs.Trail.{step_line, result_line, verdict_line, ruled}
+use Rattle.pencil.specs.Templates.{templates, says}
+use Rattle.pencil.specs.Trail.{verdict_line}
 use Rattle.pencil.specs.laws.Divided.{over_divided, ceil_up}
-use Rattle.pencil.specs.laws.Steps.{regs, result_holds, floor_holds, square_holds}
 
 -- ---- roots
 

@@ -1,29 +1,28 @@
 -- The last step and the result of a rule whose test a shape says.
 -- Assumes nothing.
 use Prim.Native.Nat.{ℕ, zero, suc, ◌+◌, ◌-◌, ◌*◌, ◌≤◌, ◌<◌}
-use Rattle.std.specs.Prelude.{Bool, true, ◌&&◌, ◌≡◌, List, leb, ltb, eqb}
+use Rattle.std.specs.Prelude.{Bool, true, ◌≡◌, List, leb, eqb}
 use Rattle.std.proofs.Math.Bool.{false, cond}
 use Rattle.std.proofs.Math.Path.{refl, subst}
-use Rattle.std.proofs.Common.{sym, ap, ◌∙◌, mul-le-mul_left, mul-one, one-mul}
+use Rattle.std.proofs.Common.{sym, ap, ◌∙◌, mul-le-mul_left}
 use native.Mathlib.Omega.{arith}
 use Rattle.std.proofs.Math.Decide.{dec_le}
-use Rattle.std.proofs.Math.Nat.{sub-zero}
 use mir.Val.{bool_byte}
-use borrow.Author.Tests.{le-leb, lt-leb, leb-true, leb-false, lt-ltb, le-ltb, ltb-true, ltb-false, eqb-true, eqb-false, eq-eqb, ne_eqb}
+use borrow.Author.Tests.{le-leb, lt-leb, leb-true, leb-false, lt-ltb, le-ltb, eqb-true, eqb-false, eq-eqb, ne_eqb}
 use Rattle.truth.specs.laws.Tests.{both, clash}
 use Rattle.root.specs.Root.{root_of}
 use Rattle.gauge.specs.declared.Shape.{Shape}
-use Rattle.gauge.specs.declared.Shape.TheVariants.{Never, Floor, Square}
+use Rattle.gauge.specs.declared.Shape.TheVariants.{Floor, Square}
 use Rattle.gauge.specs.Ceil.{ceil_of}
 use Rattle.gauge.specs.laws.CeilLaws.{ceil_covers}
 use Rattle.gauge.specs.Least.{number_of, IsLeast}
 use Rattle.gauge.specs.Shape.{meets_of, least_of, Says}
-use Rattle.gauge.specs.Worked.{first_in, LastStep}
+use Rattle.gauge.specs.Worked.{LastStep}
 use Rattle.gauge.specs.laws.WorkedLaws.{square_step}
-use Rattle.pencil.specs.Registers.{Registers, at}
-use Rattle.pencil.specs.Glossary.{Facts, None}
+use Rattle.pencil.specs.Registers.{Registers}
+use Rattle.pencil.specs.Glossary.{Facts}
 use Rattle.pencil.specs.Templates.{templates, says}
-use Rattle.pencil.specs.Numbers.{product, rule_numbers, is_never}
+use Rattle.pencil.specs.Numbers.{product, rule_numbers}
 use Rattle.pencil.specs.Trail.{step_line, result_line}
 use Rattle.pencil.specs.laws.Divided.{product_fits}
 use Rattle.pencil.specs.laws.Told.{told_meets, told_less, told_next, told_met, told_none, told_least}

@@ -1,13 +1,11 @@
 -- Every line of every trail of every sound record holds.
 -- Assumes nothing.
-use Rattle.std.specs.Prelude.{ℕ, zero, suc, ◌≤◌, ◌<◌, Bool, ◌≡◌, List, [], ◌∷◌}
+use Rattle.std.specs.Prelude.{ℕ, zero, suc, ◌≤◌, ◌≡◌}
 use Rattle.std.proofs.Math.Bool.{false}
 use Rattle.std.proofs.Math.Path.{refl}
-use Rattle.std.proofs.Common.{sym, ap, subst, ◌∙◌, arith}
+use Rattle.std.proofs.Common.{sym, ap, subst, arith}
 use Rattle.quantity.specs.Range.{steel_factor}
 use Rattle.quantity.specs.laws.RangeLaws.{low_high}
-use Rattle.loads.specs.Sources.{Named, sea_named, deep_named, cargo_named, with_ballast, Decides}
-use Rattle.loads.specs.Loads.{ballast, relief}
 use Rattle.loads.specs.laws.SourceLaws.{deciding_decides}
 use Rattle.sheet.specs.declared.Header.{Header}
 use Rattle.sheet.specs.declared.Record.{Record}
@@ -17,7 +15,6 @@ use Rattle.sheet.specs.declared.Own.{Own}
 use Rattle.sheet.specs.declared.Own.TheVariants.{One, Two}
 use Rattle.sheet.specs.declared.Body.{Body}
 use Rattle.sheet.specs.declared.Body.TheVariants.{Plate as isPlate, Member as isMember}
-use Rattle.sheet.specs.Header.{header_fault}
 use Rattle.sheet.specs.Record.{record_fault, member_fault, of_plate, of_member}
 use Rattle.sheet.specs.Versions.{version_of}
 use Rattle.sheet.specs.Ranges.{HeaderRanges, PlateRanges, MemberRanges}
@@ -25,14 +22,13 @@ use Rattle.sheet.specs.laws.HeaderLaws.{header_ranges, header_version}
 use Rattle.sheet.specs.laws.RecordLaws.{plate_ranges, member_ranges, member_allowed}
 use Rattle.verdict.specs.Judged.{Sound}
 use Rattle.verdict.specs.laws.JudgedLaws.{sound_given}
-use Rattle.plating.specs.Rules.{plate_named, plate_loads, asked1}
+use Rattle.plating.specs.Rules.{plate_named, asked1}
 use Rattle.plating.specs.Work.{work_of as plateWork}
 use Rattle.framing.specs.Rules.{member_named, web_rule}
 use Rattle.framing.specs.Work.{work_of as memberWork}
-use Rattle.pencil.specs.Glossary.{Facts}
-use Rattle.pencil.specs.Templates.{templates, says, Holds}
+use Rattle.pencil.specs.Templates.{templates, says}
 use Rattle.pencil.specs.Numbers.{load_numbers}
-use Rattle.pencil.specs.Trail.{head_of, Sections, plate_trail, member_trail, plate_explained, member_explained, trail_by, explained, BodyHolds}
+use Rattle.pencil.specs.Trail.{head_of, plate_trail, member_trail, plate_explained, member_explained, trail_by, explained, BodyHolds}
 use Rattle.pencil.specs.laws.Heads.{on_sea, on_inner_lem, on_whole}
 use Rattle.pencil.specs.laws.Plates as plates
 use Rattle.pencil.specs.laws.Members as members

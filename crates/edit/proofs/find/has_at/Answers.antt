@@ -1,11 +1,7 @@
 -- `edit::find::has_at` meets its contract.
-use borrow.Author.Rules.{rules}
 use mathlib.Core.Path.{ap, ◌∙◌}
 use lib.Dec.{eqb}
 use Rattle.edit.proofs.Search.{not_there, there}
-use Rattle.std.proofs.Common.{◌≡◌, ◌+◌, ◌*◌, ◌≤◌, length, ℕ, ◌-◌, ◌<◌, ◌/◌, ◌%◌, Bool, true, false, nat_eq, nat_lt, List, [], ◌∷◌, ◌++◌, slice_index_or, slice_set, bit_and, bit_or, Fits, w8, w32, w64, Bor, MutBor}
-use Rattle.checker.specs.Check.{record_part}
-use Rattle.edit.specs.Steps.{id_in, place_in, has_in}
 use Rattle.edit.proofs.find.has_at.Goals as goal
 
 -- src/find.rt:38:9

@@ -1,13 +1,10 @@
 -- `edit::find::place_of` meets its contract. The records passed and the place among those that are left make the place.
 use borrow.Author.Rules.{rules}
-use mathlib.Core.Path.{◌≡◌}
-use Prim.Native.Nat.{◌+◌, ◌-◌, ◌≤◌, ◌<◌}
+use Prim.Native.Nat.{◌≤◌, ◌<◌}
 use native.Mathlib.Omega.{arith}
 use Rattle.checker.specs.Check.{record_part}
-use Rattle.edit.specs.Steps.{id_in, place_in}
-use Rattle.edit.proofs.Search.{place_from, place_start, place_here, place_next, place_end}
-use Rattle.std.proofs.Common.{◌*◌, length, ℕ, ◌/◌, ◌%◌, Bool, true, false, nat_eq, nat_lt, List, [], ◌∷◌, ◌++◌, slice_index_or, slice_set, bit_and, bit_or, Fits, w8, w32, w64, Bor, MutBor}
-use Rattle.edit.specs.Steps.{has_in}
+use Rattle.edit.specs.Steps.{id_in}
+use Rattle.edit.proofs.Search.{place_start, place_here, place_next, place_end}
 use Rattle.edit.proofs.find.place_of.Goals as goal
 
 -- src/find.rt:23:5

@@ -1,9 +1,6 @@
-use borrow.Author.Rules.{rules}
-use native.Mathlib.Omega.{arith}
-use Rattle.edit.proofs.Search.{place_from, place_start, place_here, place_next, place_end}
-use Rattle.std.proofs.Common.{◌-◌, ◌≡◌, ◌+◌, ◌*◌, ◌≤◌, length, ℕ, ◌<◌}
-use Rattle.checker.specs.Check.{record_part}
-use Rattle.edit.specs.Steps.{id_in, place_in, has_in}
+use Rattle.edit.proofs.Search.{place_from}
+use Rattle.std.proofs.Common.{◌-◌, ◌≡◌, ◌+◌, ◌≤◌}
+use Rattle.edit.specs.Steps.{place_in}
 use Rattle.edit.proofs.find.place_of.Given as goal
 
 abbrev pub invariant-loop-i : goal.invariant-loop-i

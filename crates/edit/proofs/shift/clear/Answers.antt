@@ -1,8 +1,5 @@
 -- `edit::shift::clear` meets its contract.
-use borrow.Author.Rules.{rules}
 use Rattle.edit.proofs.Bytes.{zeroed}
-use Rattle.std.proofs.Common.{◌≡◌, ◌+◌, ◌-◌, ◌≤◌, length, replicate, ℕ, ◌*◌, ◌<◌, ◌/◌, ◌%◌, Bool, true, false, nat_eq, nat_lt, List, [], ◌∷◌, ◌++◌, slice_index_or, slice_set, bit_and, bit_or, Fits, w8, w32, w64, Bor, MutBor}
-use Rattle.edit.specs.Steps.{opened, closed, cleared}
 use Rattle.edit.proofs.shift.clear.Goals as goal
 
 -- src/shift.rt:42:1

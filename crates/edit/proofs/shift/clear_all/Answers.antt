@@ -1,13 +1,9 @@
 -- `edit::shift::clear_all` meets its contract. At the loop's head the bytes below i are zero.
 use borrow.Author.Rules.{rules}
-use mathlib.Core.Path.{◌≡◌, refl, ◌∙◌}
-use mathlib.Core.List.{◌++◌}
-use Prim.Native.Nat.{◌+◌, ◌-◌, ◌≤◌}
+use mathlib.Core.Path.{refl, ◌∙◌}
 use native.Mathlib.Omega.{arith}
-use lib.ListN.{length, take, drop, length-set}
-use Rattle.edit.proofs.Shifts.{zeros, clear_turn, clear_done}
-use Rattle.std.proofs.Common.{replicate, ℕ, ◌*◌, ◌<◌, ◌/◌, ◌%◌, Bool, true, false, nat_eq, nat_lt, List, [], ◌∷◌, slice_index_or, slice_set, bit_and, bit_or, Fits, w8, w32, w64, Bor, MutBor}
-use Rattle.edit.specs.Steps.{opened, closed, cleared}
+use lib.ListN.{length-set}
+use Rattle.edit.proofs.Shifts.{clear_turn, clear_done}
 use Rattle.edit.proofs.shift.clear_all.Goals as goal
 
 -- src/shift.rt:35:5

@@ -1,11 +1,7 @@
-use borrow.Author.Rules.{rules}
-use mathlib.Core.Path.{refl, ◌∙◌}
 use mathlib.Core.List.{◌++◌}
-use native.Mathlib.Omega.{arith}
-use lib.ListN.{take, drop, length-set}
-use Rattle.edit.proofs.Shifts.{zeros, clear_turn, clear_done}
-use Rattle.std.proofs.Common.{length, ◌-◌, ◌≡◌, ◌+◌, ◌≤◌, replicate, ℕ, ◌*◌, ◌<◌}
-use Rattle.edit.specs.Steps.{opened, closed, cleared}
+use lib.ListN.{take, drop}
+use Rattle.edit.proofs.Shifts.{zeros}
+use Rattle.std.proofs.Common.{length, ◌-◌, ◌≡◌, ◌≤◌}
 use Rattle.edit.proofs.shift.clear_all.Given as goal
 
 abbrev pub invariant-loop-i : goal.invariant-loop-i

@@ -1,13 +1,10 @@
 -- `edit::shift::close` meets its contract. At the loop's head the bytes below k are in their new places.
 use borrow.Author.Rules.{rules}
 use mathlib.Core.Path.{◌≡◌, refl}
-use Prim.Native.Nat.{◌-◌, ◌≤◌}
+use Prim.Native.Nat.{◌-◌}
 use native.Mathlib.Omega.{arith}
-use lib.ListN.{length, length-set}
-use Rattle.edit.specs.Steps.{closed}
+use lib.ListN.{length-set}
 use Rattle.edit.proofs.Shifts.{close_none, close_turn}
-use Rattle.std.proofs.Common.{◌+◌, replicate, ℕ, ◌*◌, ◌<◌, ◌/◌, ◌%◌, Bool, true, false, nat_eq, nat_lt, List, [], ◌∷◌, ◌++◌, slice_index_or, slice_set, bit_and, bit_or, Fits, w8, w32, w64, Bor, MutBor}
-use Rattle.edit.specs.Steps.{opened, cleared}
 use Rattle.edit.proofs.shift.close.Goals as goal
 
 -- src/shift.rt:24:5

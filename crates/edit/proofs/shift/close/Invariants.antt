@@ -1,10 +1,5 @@
-use borrow.Author.Rules.{rules}
-use mathlib.Core.Path.{refl}
-use native.Mathlib.Omega.{arith}
-use lib.ListN.{length-set}
-use Rattle.edit.proofs.Shifts.{close_none, close_turn}
-use Rattle.std.proofs.Common.{◌-◌, ◌≡◌, ◌+◌, ◌≤◌, length, replicate, ℕ, ◌*◌, ◌<◌}
-use Rattle.edit.specs.Steps.{opened, closed, cleared}
+use Rattle.std.proofs.Common.{◌-◌, ◌≡◌, ◌≤◌, length}
+use Rattle.edit.specs.Steps.{closed}
 use Rattle.edit.proofs.shift.close.Given as goal
 
 abbrev pub invariant-loop-k : goal.invariant-loop-k

@@ -1,13 +1,9 @@
 -- `edit::shift::open` meets its contract. At the loop's head the bytes from k on have moved.
 use borrow.Author.Rules.{rules}
 use mathlib.Core.Path.{◌≡◌, refl}
-use Prim.Native.Nat.{◌-◌, ◌≤◌}
 use native.Mathlib.Omega.{arith}
-use lib.ListN.{length, length-set}
-use Rattle.edit.specs.Steps.{opened}
+use lib.ListN.{length-set}
 use Rattle.edit.proofs.Shifts.{open_none, open_turn}
-use Rattle.std.proofs.Common.{◌+◌, replicate, ℕ, ◌*◌, ◌<◌, ◌/◌, ◌%◌, Bool, true, false, nat_eq, nat_lt, List, [], ◌∷◌, ◌++◌, slice_index_or, slice_set, bit_and, bit_or, Fits, w8, w32, w64, Bor, MutBor}
-use Rattle.edit.specs.Steps.{closed, cleared}
 use Rattle.edit.proofs.shift.open.Goals as goal
 
 -- src/shift.rt:11:5

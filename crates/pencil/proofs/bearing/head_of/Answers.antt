@@ -1,17 +1,6 @@
 -- `pencil::bearing::head_of` meets its contract.
-use borrow.Author.Rules.{rules}
-use Prim.Native.Nat.{◌≤◌}
 use borrow.Author.Tests.{le-leb, lt-leb, lt-ltb, le-ltb, ne_eqb}
-use native.Mathlib.Omega.{arith}
-use lib.Dec.{ltb, eqb}
-use lib.ListN.{get_or}
-use mir.Val.{bool_byte}
 use Rattle.pencil.specs.Trail.{head_of}
-use Rattle.pencil.proofs.Fits.{under, bit}
-use Rattle.std.proofs.Common.{◌≡◌, ℕ, ◌+◌, ◌-◌, ◌*◌, ◌<◌, length, ◌/◌, ◌%◌, Bool, true, false, nat_eq, nat_lt, List, [], ◌∷◌, ◌++◌, slice_index_or, slice_set, bit_and, bit_or, Fits, w8, w32, w64, Bor, MutBor}
-use Rattle.loads.specs.Loads.{wind}
-use Rattle.pencil.specs.Numbers.{load_numbers}
-use Rattle.pencil.specs.Trail.{Tells}
 use Rattle.pencil.proofs.bearing.head_of.Goals as goal
 
 -- src/bearing.rt:103:9

@@ -1,16 +1,9 @@
 -- `pencil::bearing::load_numbers` meets its contract.
-use borrow.Author.Rules.{rules}
-use Prim.Native.Nat.{◌+◌, ◌*◌, ◌≤◌, max}
-use mathlib.Core.Path.{◌≡◌}
+use Prim.Native.Nat.{◌*◌, ◌≤◌}
 use native.Mathlib.Omega.{arith}
-use native.Mathlib.Nat.{max-le}
-use lib.Dec.{lit<, eqb}
+use lib.Dec.{lit<}
 use Rattle.gauge.specs.laws.CeilLaws.{ceil_most}
-use Rattle.loads.specs.laws.Bounds.{either}
 use Rattle.pencil.specs.Numbers.{load_numbers}
-use Rattle.std.proofs.Common.{ℕ, ◌-◌, ◌<◌, length, ◌/◌, ◌%◌, Bool, true, false, nat_eq, nat_lt, List, [], ◌∷◌, ◌++◌, slice_index_or, slice_set, bit_and, bit_or, Fits, w8, w32, w64, Bor, MutBor}
-use Rattle.loads.specs.Loads.{wind}
-use Rattle.pencil.specs.Trail.{Tells, head_of}
 use Rattle.pencil.proofs.bearing.load_numbers.Goals.{After-ceil_div-half}
 use Rattle.pencil.proofs.bearing.load_numbers.Goals as goal
 

@@ -1,13 +1,6 @@
 -- `pencil::members::member_first` meets its contract.
-use borrow.Author.Rules.{rules}
-use Prim.Native.Nat.{◌*◌, ◌≤◌}
 use borrow.Author.Tests.{le-leb, lt-leb, lt-ltb, le-ltb}
-use native.Mathlib.Omega.{arith}
-use native.Mathlib.Nat.{mul-le-mul}
 use Rattle.pencil.specs.Trail.{member_first}
-use Rattle.std.proofs.Common.{◌≡◌, ℕ, ◌+◌, ◌-◌, ◌<◌, length, ◌/◌, ◌%◌, Bool, true, false, nat_eq, nat_lt, List, [], ◌∷◌, ◌++◌, slice_index_or, slice_set, bit_and, bit_or, Fits, w8, w32, w64, Bor, MutBor}
-use Rattle.framing.specs.Work.{told_work as toldMember}
-use Rattle.pencil.specs.Trail.{Tells, member_second, member_third}
 use Rattle.pencil.proofs.members.member_first.Goals as goal
 
 -- src/members.rt:25:9

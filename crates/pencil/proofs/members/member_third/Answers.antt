@@ -1,12 +1,6 @@
 -- `pencil::members::member_third` meets its contract.
-use borrow.Author.Rules.{rules}
 use borrow.Author.Tests.{lt-ltb, le-ltb}
-use native.Mathlib.Omega.{arith}
 use Rattle.pencil.specs.Trail.{member_third}
-use Rattle.pencil.proofs.Fits.{under, bit}
-use Rattle.std.proofs.Common.{◌≡◌, ℕ, ◌+◌, ◌-◌, ◌*◌, ◌<◌, ◌≤◌, length, ◌/◌, ◌%◌, Bool, true, false, nat_eq, nat_lt, List, [], ◌∷◌, ◌++◌, slice_index_or, slice_set, bit_and, bit_or, Fits, w8, w32, w64, Bor, MutBor}
-use Rattle.framing.specs.Work.{told_work as toldMember}
-use Rattle.pencil.specs.Trail.{Tells, member_first, member_second}
 use Rattle.pencil.proofs.members.member_third.Goals as goal
 
 -- src/members.rt:137:9

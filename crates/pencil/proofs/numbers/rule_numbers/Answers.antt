@@ -1,5 +1,4 @@
 -- `pencil::numbers::rule_numbers` meets its contract.
-use borrow.Author.Rules.{rules}
 use Prim.Native.Nat.{ℕ, ◌+◌, ◌-◌, ◌/◌, ◌%◌}
 use mathlib.Core.Path.{◌≡◌, ap, ◌∙◌}
 use mathlib.Core.List.{List, [], ◌∷◌}
@@ -7,9 +6,6 @@ use lib.Dec.{eqb}
 use mir.Val.{bool_byte}
 use Rattle.gauge.specs.Least.{number_of}
 use Rattle.pencil.specs.Numbers.{product, apart, rule_numbers}
-use Rattle.std.proofs.Common.{max, ◌*◌, ◌<◌, ◌≤◌, length, Bool, true, false, nat_eq, nat_lt, ◌++◌, slice_index_or, slice_set, bit_and, bit_or, Fits, w8, w32, w64, Bor, MutBor}
-use Rattle.pencil.specs.Numbers.{apart as apartOf}
-use Rattle.pencil.specs.Code.{Divided, PartsOf, Tries}
 use Rattle.pencil.proofs.numbers.rule_numbers.Goals as goal
 
 -- the registers part by part

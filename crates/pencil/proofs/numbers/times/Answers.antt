@@ -1,15 +1,10 @@
 -- `pencil::numbers::times` meets its contract: what the quotient leaves room for fits.
 use Prim.Native.Nat.{ℕ, ◌*◌, ◌/◌, ◌≤◌, ◌<◌}
-use mathlib.Core.Path.{◌≡◌, sym, ap, ◌∙◌}
-use borrow.Author.Rules.{rules}
+use mathlib.Core.Path.{◌≡◌}
 use borrow.Author.Tests.{lt-ltb, le-ltb}
 use native.Mathlib.Omega.{arith}
 use native.Mathlib.Nat.{le-div_iff_mul-le, div-lt_iff_lt-mul, mul_comm, zero-mul}
 use Rattle.pencil.specs.Numbers.{product}
-use Rattle.std.proofs.Common.{◌-◌, max, ◌+◌, length, ◌%◌, Bool, true, false, nat_eq, nat_lt, List, [], ◌∷◌, ◌++◌, slice_index_or, slice_set, bit_and, bit_or, Fits, w8, w32, w64, Bor, MutBor}
-use Rattle.pencil.specs.Numbers.{apart as apartOf}
-use Rattle.pencil.specs.Numbers.{rule_numbers}
-use Rattle.pencil.specs.Code.{Divided, PartsOf, Tries}
 use Rattle.pencil.proofs.numbers.times.Goals as goal
 
 -- a factor of 0

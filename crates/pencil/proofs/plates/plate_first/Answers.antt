@@ -1,14 +1,6 @@
 -- `pencil::plates::plate_first` meets its contract.
-use borrow.Author.Rules.{rules}
-use Prim.Native.Nat.{◌*◌, ◌≤◌}
 use borrow.Author.Tests.{ne_eqb}
-use native.Mathlib.Omega.{arith}
-use native.Mathlib.Nat.{mul-le-mul}
 use Rattle.pencil.specs.Trail.{plate_first}
-use Rattle.std.proofs.Common.{◌≡◌, ℕ, ◌+◌, ◌-◌, ◌<◌, length, ◌/◌, ◌%◌, Bool, true, false, nat_eq, nat_lt, List, [], ◌∷◌, ◌++◌, slice_index_or, slice_set, bit_and, bit_or, Fits, w8, w32, w64, Bor, MutBor}
-use Rattle.plating.specs.Work.{told_work as toldPlate}
-use Rattle.pencil.specs.Trail.{Tells, plate_second, bending_lines, form_of, plate_third}
-use Rattle.pencil.specs.Code.{FormTold}
 use Rattle.pencil.proofs.plates.plate_first.Goals as goal
 
 -- src/plates.rt:15:1

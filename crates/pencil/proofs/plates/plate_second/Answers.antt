@@ -1,14 +1,6 @@
 -- `pencil::plates::plate_second` meets its contract.
-use borrow.Author.Rules.{rules}
-use Prim.Native.Nat.{◌*◌, ◌≤◌}
 use mathlib.Core.Path.{sym, ◌∙◌}
-use native.Mathlib.Omega.{arith}
-use native.Mathlib.Nat.{mul-le-mul}
 use Rattle.pencil.specs.Trail.{plate_second}
-use Rattle.std.proofs.Common.{◌≡◌, ℕ, ◌+◌, ◌-◌, ◌<◌, length, ◌/◌, ◌%◌, Bool, true, false, nat_eq, nat_lt, List, [], ◌∷◌, ◌++◌, slice_index_or, slice_set, bit_and, bit_or, Fits, w8, w32, w64, Bor, MutBor}
-use Rattle.plating.specs.Work.{told_work as toldPlate}
-use Rattle.pencil.specs.Trail.{Tells, plate_first, bending_lines, form_of, plate_third}
-use Rattle.pencil.specs.Code.{FormTold}
 use Rattle.pencil.proofs.plates.plate_second.Goals as goal
 
 -- src/plates.rt:79:9

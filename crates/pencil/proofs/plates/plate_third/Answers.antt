@@ -1,22 +1,13 @@
 -- `pencil::plates::plate_third` meets its contract.
-use borrow.Author.Rules.{rules}
-use Prim.Native.Nat.{ℕ, ◌*◌, ◌/◌, ◌%◌, ◌≤◌}
+use Prim.Native.Nat.{ℕ, ◌/◌, ◌%◌}
 use mathlib.Core.Bool.{Bool}
 use mathlib.Core.Path.{◌≡◌, ap, ap₂, ◌∙◌}
 use mathlib.Core.List.{List, [], ◌∷◌}
-use native.Mathlib.Omega.{arith}
-use native.Mathlib.Nat.{mul-le-mul}
-use lib.Dec.{eqb}
 use Rattle.gauge.specs.declared.Shape.{Shape}
 use Rattle.quantity.specs.Range.{thickness}
 use Rattle.pencil.specs.declared.Section.{Section}
 use Rattle.pencil.specs.Numbers.{product}
 use Rattle.pencil.specs.Trail.{Tells, ruled, bending_lines, FormParts, form_of, plate_third}
-use Rattle.pencil.proofs.Fits.{under, bit}
-use Rattle.std.proofs.Common.{◌+◌, ◌-◌, ◌<◌, length, true, false, nat_eq, nat_lt, ◌++◌, slice_index_or, slice_set, bit_and, bit_or, Fits, w8, w32, w64, Bor, MutBor}
-use Rattle.plating.specs.Work.{told_work as toldPlate}
-use Rattle.pencil.specs.Trail.{plate_first, plate_second}
-use Rattle.pencil.specs.Code.{FormTold}
 use Rattle.pencil.proofs.plates.plate_third.Goals as goal
 
 -- a section part by part

@@ -1,5 +1,4 @@
 -- `pencil::writing::put_line` meets its contract: the constants are the templates' texts and where each begins.
-use borrow.Author.Rules.{rules}
 use Prim.Native.Nat.{ℕ}
 use mathlib.Core.Path.{subst}
 use mathlib.Core.List.{List}
@@ -10,9 +9,6 @@ use Rattle.wording.specs.Writes.{Writes, spot}
 use Rattle.wording.specs.laws.WritesLaws.{within, none}
 use Rattle.pencil.specs.Templates.{templates, texts}
 use Rattle.pencil.specs.laws.Table.{short, piece_at, past}
-use Rattle.std.proofs.Common.{◌*◌, length, ◌≡◌, ◌+◌, ◌-◌, ◌<◌, ◌≤◌, ◌/◌, ◌%◌, Bool, true, false, nat_eq, nat_lt, [], ◌∷◌, ◌++◌, slice_index_or, slice_set, bit_and, bit_or, Fits, w8, w32, w64, Bor, MutBor}
-use Rattle.pencil.specs.Templates.{text}
-use Rattle.pencil.specs.Trail.{longest, line_pieces, work_pieces}
 use Rattle.pencil.proofs.writing.put_line.Goals as goal
 
 -- src/writing.rt:15:9

@@ -1,13 +1,5 @@
 -- `pencil::writing::put_lines` meets its contract. The loop's invariant: the lines that are left give the whole.
-use borrow.Author.Rules.{rules}
-use Prim.Native.Nat.{◌-◌}
-use lib.ListN.{length}
-use Rattle.pencil.specs.laws.LineLaws.{Writing, begin, turn, done}
-use Rattle.std.proofs.Common.{◌*◌, ◌≡◌, ℕ, ◌+◌, ◌<◌, ◌≤◌, ◌/◌, ◌%◌, Bool, true, false, nat_eq, nat_lt, List, [], ◌∷◌, ◌++◌, slice_index_or, slice_set, bit_and, bit_or, Fits, w8, w32, w64, Bor, MutBor}
-use Rattle.wording.specs.Words.{pieces}
-use Rattle.wording.specs.Writes.{Writes, spot}
-use Rattle.pencil.specs.Templates.{text}
-use Rattle.pencil.specs.Trail.{longest, line_pieces, work_pieces}
+use Rattle.pencil.specs.laws.LineLaws.{begin, turn, done}
 use Rattle.pencil.proofs.writing.put_lines.Goals as goal
 
 -- src/writing.rt:29:5

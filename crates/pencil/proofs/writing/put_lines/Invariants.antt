@@ -1,10 +1,5 @@
-use borrow.Author.Rules.{rules}
-use Rattle.pencil.specs.laws.LineLaws.{Writing, begin, turn, done}
-use Rattle.std.proofs.Common.{length, ◌-◌, ◌*◌, ◌≡◌, ℕ, ◌+◌, ◌<◌, ◌≤◌}
-use Rattle.wording.specs.Words.{pieces}
-use Rattle.wording.specs.Writes.{Writes, spot}
-use Rattle.pencil.specs.Templates.{text}
-use Rattle.pencil.specs.Trail.{longest, line_pieces, work_pieces}
+use Rattle.pencil.specs.laws.LineLaws.{Writing}
+use Rattle.std.proofs.Common.{length, ◌-◌}
 use Rattle.pencil.proofs.writing.put_lines.Given as goal
 
 abbrev pub invariant-loop-i : goal.invariant-loop-i
