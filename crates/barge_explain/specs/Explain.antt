@@ -8,7 +8,7 @@ use Rattle.sheet.specs.Refusals.{Answer, given, refused}
 use Rattle.checker.specs.Check.{sheet_size, record_of}
 use Rattle.wording.specs.Writes.{text_of}
 use Rattle.pencil.specs.Templates.{head_words}
-use Rattle.pencil.specs.Trail.{trail_text, room as trailRoom}
+use Rattle.pencil.specs.Trail.{trail_text}
 use Rattle.barge_explain.specs.declared.Piece.{Piece}
 
 -- the sheet has as many bytes as the header that was read says
