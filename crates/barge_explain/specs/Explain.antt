@@ -1,5 +1,7 @@
 -- What the program prints of a sheet that is not turned away, and what its own contracts say.
 use Rattle.std.specs.Prelude.{ℕ, zero, suc, ◌≤◌, ◌≡◌, Bool, true, false, ◌||◌, cond, List, [], ◌∷◌, ◌++◌, length, take, eqb}
+use Rattle.std.specs.Prelude.{Option}
+use Rattle.std.specs.Io.KnownBytes.{Appends}
 use Rattle.sheet.specs.declared.Header.{Header}
 use Rattle.sheet.specs.declared.HeaderRead.{HeaderRead}
 use Rattle.sheet.specs.declared.HeaderRead.TheVariants.{Good, Refused as notRead}
@@ -33,6 +35,11 @@ shown_of h asked begun r =
 unfoldable pub piece_of : Header → (asked : ℕ) → (begun : Bool) → Answer Record → Shown
 piece_of h asked begun (given r) = shown_of h asked begun r
 piece_of h asked begun (refused number place) = record { text = []; begun = begun }
+
+-- the text is what was written, and whether anything has been
+pub record Written (s : Shown) (old new : Option (List ℕ)) (b : Bool) : Type 0 where
+  pub text : Appends old new s.text
+  pub begun : b ≡ s.begun
 
 -- the whole text: the pieces of records i, i + 1, .. one behind another
 abbrev pub explained_from : Header → (records : List ℕ) (asked count i : ℕ) (begun : Bool) → List ℕ

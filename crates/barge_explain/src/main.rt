@@ -2,14 +2,15 @@
 // whose id is the first word. Of a sheet that is turned away it prints the refusal, and where no member has the id nothing.
 #![tactic(auto)]
 
-ghost use Rattle.std.specs.Prelude.{◌≡◌, List, [], ◌∷◌, ◌||◌, ℕ, ◌+◌, ◌*◌, ◌≤◌, length, take, eqb};
+ghost use Rattle.std.specs.Prelude.{◌≡◌, List, [], ◌∷◌, ◌||◌, ℕ, ◌+◌, ◌*◌, ◌≤◌, length, take, eqb, IfOk, OnOk};
+ghost use Rattle.std.specs.Io.KnownBytes.{Appends};
 ghost use Rattle.sheet.specs.Refusals.{told_header, told_record};
 ghost use Rattle.checker.specs.Check.{record_of, sheet_size};
 ghost use Rattle.checker.specs.Unjudged.{sound_header};
 ghost use Rattle.sheet.specs.Versions.{enough};
 ghost use Rattle.wording.specs.Writes.{Writes, spot};
 ghost use Rattle.pencil.specs.Trail.{trail_text, room as trailRoom};
-ghost use Rattle.barge_explain.specs.Explain.{Sized, lead_pieces, piece_of, Prints};
+ghost use Rattle.barge_explain.specs.Explain.{Sized, lead_pieces, piece_of, explained_text, Prints, Written};
 
 use console::Read;
 use decimal::Number;
@@ -113,8 +114,8 @@ fn piece_of(h: Header, records: &[u8], i: u16, asked: u32, begun: bool) -> Piece
 }
 
 // Prints it; whether anything has been printed.
-fn print_record(
-    out: &mut impl Write,
+fn print_record<W: Write>(
+    out: &mut W,
     h: Header,
     records: &[u8],
     i: u16,
@@ -122,6 +123,7 @@ fn print_record(
     begun: bool,
 ) -> io::Result<bool>
     requires { 16 * i + 16 ≤ length records.now }
+    ensures { IfOk result (λ b. Written (piece_of h asked begun (record_of records.now i)) (W.contents out.old) (W.contents out.new) b) }
 {
     let piece = piece_of(h, records, i, asked, begun);
     let len = piece.len;
@@ -130,8 +132,9 @@ fn print_record(
     Ok(piece.begun)
 }
 
-fn print_trails(out: &mut impl Write, h: Header, records: &[u8], asked: u32) -> io::Result<()>
+fn print_trails<W: Write>(out: &mut W, h: Header, records: &[u8], asked: u32) -> io::Result<()>
     requires { 16 * h.count ≤ length records.now }
+    ensures { OnOk result (Appends (W.contents out.old) (W.contents out.new) (explained_text h records.now asked)) }
 {
     let n = h.count;
     let mut begun = false;
