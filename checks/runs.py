@@ -3,6 +3,11 @@ import os, resource, subprocess, sys
 
 os.chdir(os.path.join(os.path.dirname(os.path.abspath(__file__)), ".."))
 
+# Proved and built first, since ./barge tells on standard error what it proves when a program is not there.
+BUILD = ". tools/kit && for program in barge barge_explain barge_edit barge_text; do kit_build $program || exit 1; done"
+if subprocess.run(["bash", "-c", BUILD], stdin=subprocess.DEVNULL).returncode != 0:
+    sys.exit(f"{os.path.basename(sys.argv[0])}: the programs could not be built")
+
 
 def packed(*fields):
     """Bytes of fields, each a value and a width in bits, most significant first."""
