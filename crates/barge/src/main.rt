@@ -31,7 +31,7 @@ fn tell<W: Write>(out: &mut W, err: &mut impl Write, sheet: &[u8], got: usize) -
     let len = page.len;
     let text = page.bytes;
     let written = out.write_all(&text[..len]);
-    if text[0] == b'r' {
+    if text[0] == b'r' && console::is_read(written) {
         console::hint(err, &sheet[..got]);
     }
     written

@@ -189,7 +189,9 @@ fn tell(
         HeaderRead::Good(h) => explain(env, out, h, &sheet[..got]),
         HeaderRead::Refused(r) => {
             let written = report::print_refusal(out, r);
-            console::hint(err, sheet);
+            if console::is_read(written) {
+                console::hint(err, sheet);
+            }
             written
         }
     }

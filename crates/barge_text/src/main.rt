@@ -157,7 +157,9 @@ fn check(out: &mut impl Write, err: &mut impl Write, text: &[u8]) -> io::Result<
     let len = page.len;
     let bytes = page.bytes;
     let written = print(out, err, &bytes[..len]);
-    show::line(err, text, r.line);
+    if console::is_read(written) {
+        show::line(err, text, r.line);
+    }
     written
 }
 

@@ -30,13 +30,13 @@ pub struct Entry {
     pub source: u8,
 }
 
-#[derive(Drop)]
+#[derive(Clone, Copy)]
 pub enum EntryRead {
     Good(Entry),
     Refused(Refusal),
 }
 
-#[derive(Drop)]
+#[derive(Clone, Copy)]
 pub enum Checked {
     Done { n: u16, failed: u16 },
     Refused(Refusal),

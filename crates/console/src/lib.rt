@@ -2,9 +2,10 @@
 // where the bytes come from, and `err` where lines are said. Where a line cannot be said there is nobody to tell, and the program goes on.
 #![tactic(auto)]
 
-ghost use Rattle.std.specs.Prelude.{◌≡◌, ◌≤◌, ◌<◌, length, take, IfOk};
+ghost use Rattle.std.specs.Prelude.{◌≡◌, ◌≤◌, ◌<◌, ◌↔◌, true, false, length, take, IfOk, IfErr, OnOk};
 ghost use Rattle.std.specs.Io.{ReadsAtMost};
 ghost use Rattle.std.specs.Io.KnownBytes.{Consumes, IsAtEnd};
+ghost use Rattle.std.specs.IoError.{error_kind};
 ghost use Rattle.console.specs.Console.{Loaded, Came, begins_text, looks_like_text};
 
 use std::io;
@@ -12,7 +13,7 @@ use std::io::{ErrorKind, Write};
 use std::process::ExitCode;
 
 // How many bytes were read, or that it could not be done.
-#[derive(Drop)]
+#[derive(Clone, Copy)]
 pub enum Read {
     Got(usize),
     Failed,
@@ -114,11 +115,24 @@ pub fn failed(err: &mut impl Write, what: &[u8], which: &[u8], e: io::Error) {
 }
 
 // Whether whoever read an output has gone.
-fn gone(e: io::Error) -> bool {
+fn gone(e: io::Error) -> bool
+    ensures { (result ≡ true) ↔ (error_kind e ≡ ErrorKind.BrokenPipe) }
+{
     e.kind() == ErrorKind::BrokenPipe
 }
 
-// What could not be written, and why; nothing where whoever read the output has gone, since nobody is to be told then.
+// Whether an output still has a reader, by what a write to it gave. Where it has none nobody is to be told anything more, as the system would end the program there.
+pub fn is_read<T: Drop>(written: io::Result<T>) -> bool
+    ensures ok { OnOk written (result ≡ true) }
+    ensures err { IfErr written (λ e. (result ≡ false) ↔ (error_kind e ≡ ErrorKind.BrokenPipe)) }
+{
+    match written {
+        Ok(_) => true,
+        Err(e) => !gone(e),
+    }
+}
+
+// What could not be written, and why; nothing where whoever read the output has gone.
 pub fn unwritten(err: &mut impl Write, which: &[u8], e: io::Error) {
     if !gone(e) {
         failed(err, b"cannot write ", which, e);
@@ -127,15 +141,10 @@ pub fn unwritten(err: &mut impl Write, which: &[u8], e: io::Error) {
 
 // The status that a program ends with: 0, and 141, which a shell gives a program that the system ends so, where whoever read its output has gone.
 pub fn status<T: Drop>(written: io::Result<T>) -> ExitCode {
-    match written {
-        Ok(_) => ExitCode::SUCCESS,
-        Err(e) => {
-            if gone(e) {
-                ExitCode::from(141)
-            } else {
-                ExitCode::SUCCESS
-            }
-        }
+    if is_read(written) {
+        ExitCode::SUCCESS
+    } else {
+        ExitCode::from(141)
     }
 }
 

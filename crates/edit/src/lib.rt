@@ -14,7 +14,7 @@ ghost use Rattle.edit.specs.Steps.{place_in, has_in, Known, Fits, Stands};
 use sheet::{Header, HeaderRead, Outcome, RECORD, Record, RecordRead, Refusal};
 
 // The sheet's length after an edit, or why there was none.
-#[derive(Drop)]
+#[derive(Clone, Copy)]
 pub enum Edited {
     Length(usize),
     Refused(Refusal),

@@ -16,7 +16,7 @@ pub enum Num {
 }
 
 // How a field ends: with a comma or a line end, and where the next one starts; with the text; or in a fault of its quotes.
-#[derive(Drop)]
+#[derive(Clone, Copy)]
 pub enum Field {
     Comma { num: Num, next: usize },
     Line { num: Num, next: usize },
@@ -25,7 +25,7 @@ pub enum Field {
 }
 
 // What stands at a place outside quotes.
-#[derive(Drop)]
+#[derive(Clone, Copy)]
 pub enum Seen {
     End,
     Comma,
@@ -37,7 +37,7 @@ pub enum Seen {
 }
 
 // Where a place outside quotes is: at a field's start, inside a plain field, or past a quote of a quoted one.
-#[derive(Drop)]
+#[derive(Clone, Copy)]
 pub enum Place {
     Start,
     Inside,

@@ -140,7 +140,7 @@ pub struct MemberWork {
     pub verdict: Verdict,
 }
 
-#[derive(Drop)]
+#[derive(Clone, Copy)]
 pub enum MemberWorked {
     Work(MemberWork),
     Refused(Refusal),

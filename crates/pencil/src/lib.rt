@@ -31,7 +31,7 @@ use sheet::{Body, Header, Member, Plate, Record, Refusal};
 const ROOM: usize = 25344;
 
 // A trail, and how many bytes of the page it takes; the others are 0.
-#[derive(Drop)]
+#[derive(Clone, Copy)]
 pub struct Trail {
     pub bytes: [u8; ROOM],
     pub len: usize,

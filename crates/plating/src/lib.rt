@@ -235,7 +235,7 @@ pub struct PlateWork {
     pub verdict: Verdict,
 }
 
-#[derive(Drop)]
+#[derive(Clone, Copy)]
 pub enum PlateWorked {
     Work(PlateWork),
     Refused(Refusal),

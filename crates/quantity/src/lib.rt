@@ -9,7 +9,7 @@ ghost use Rattle.quantity.specs.Made.{Makes, told_span, told_spacing, told_thick
 #[derive(Clone, Copy)]
 pub struct Span(pub u16);
 
-#[derive(Drop)]
+#[derive(Clone, Copy)]
 pub enum MadeSpan {
     Span(Span),
     Refused,
@@ -37,7 +37,7 @@ impl Span {
 #[derive(Clone, Copy)]
 pub struct Spacing(pub u16);
 
-#[derive(Drop)]
+#[derive(Clone, Copy)]
 pub enum MadeSpacing {
     Spacing(Spacing),
     Refused,
@@ -65,7 +65,7 @@ impl Spacing {
 #[derive(Clone, Copy)]
 pub struct Thickness(pub u16);
 
-#[derive(Drop)]
+#[derive(Clone, Copy)]
 pub enum MadeThickness {
     Thickness(Thickness),
     Refused,
@@ -93,7 +93,7 @@ impl Thickness {
 #[derive(Clone, Copy)]
 pub struct Modulus(pub u32);
 
-#[derive(Drop)]
+#[derive(Clone, Copy)]
 pub enum MadeModulus {
     Modulus(Modulus),
     Refused,
@@ -121,7 +121,7 @@ impl Modulus {
 #[derive(Clone, Copy)]
 pub struct ShearArea(pub u16);
 
-#[derive(Drop)]
+#[derive(Clone, Copy)]
 pub enum MadeShearArea {
     ShearArea(ShearArea),
     Refused,
@@ -149,7 +149,7 @@ impl ShearArea {
 #[derive(Clone, Copy)]
 pub struct Pressure(pub u64);
 
-#[derive(Drop)]
+#[derive(Clone, Copy)]
 pub enum MadePressure {
     Pressure(Pressure),
     Refused,
@@ -177,7 +177,7 @@ impl Pressure {
 #[derive(Clone, Copy)]
 pub struct LineLoad(pub u64);
 
-#[derive(Drop)]
+#[derive(Clone, Copy)]
 pub enum MadeLineLoad {
     LineLoad(LineLoad),
     Refused,
@@ -205,7 +205,7 @@ impl LineLoad {
 #[derive(Clone, Copy)]
 pub struct SteelFactor(pub u16);
 
-#[derive(Drop)]
+#[derive(Clone, Copy)]
 pub enum MadeSteelFactor {
     SteelFactor(SteelFactor),
     Refused,

@@ -24,14 +24,14 @@ pub const LONGEST: usize = 16 * (MOST as usize) + 8;
 const REFUSAL: usize = 22;
 
 // The text of an answer, and how many bytes of the page it takes; the others are 0.
-#[derive(Drop)]
+#[derive(Clone, Copy)]
 pub struct Page {
     pub bytes: [u8; LONGEST],
     pub len: usize,
 }
 
 // How long the text is that was written, or why it was not.
-#[derive(Drop)]
+#[derive(Clone, Copy)]
 pub enum Told {
     Length(usize),
     Refused(Refusal),

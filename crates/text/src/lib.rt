@@ -9,7 +9,7 @@ ghost use Rattle.text.specs.Line.{line_at, line_start, next_of, Reads};
 use fields::{Field, Num};
 
 // The lent text and the place in it, together: it hands out one field after another.
-#[derive(Drop)]
+#[derive(Clone, Copy)]
 pub struct Reader<'a> {
     pub text: &'a [u8],
     pub at: usize,

@@ -19,7 +19,7 @@ pub struct Verdict {
 }
 
 // What judging a record gives.
-#[derive(Drop)]
+#[derive(Clone, Copy)]
 pub enum Judged {
     // the verdict, and what the record's pressure comes from
     Verdict(Verdict, Source),
