@@ -7,7 +7,7 @@ ghost use Rattle.sheet.specs.Versions.{enough};
 ghost use Rattle.report.specs.Text.{text_of};
 ghost use Rattle.report.specs.Page.{Pages};
 
-use console::Read;
+use console::{Read, Said};
 use report::Page;
 use sheet::ENOUGH;
 use std::io;
@@ -53,5 +53,7 @@ fn run<R: io::Read, W: Write>(input: &mut R, out: &mut W, err: &mut impl Write) 
 }
 
 fn main(rt: HostRuntime) -> ExitCode {
-    console::status(run(&mut rt.stdin(), &mut rt.stdout(), &mut rt.stderr()))
+    let mut err = Said::new(rt.stderr());
+    let done = run(&mut rt.stdin(), &mut rt.stdout(), &mut err);
+    console::status(done, &err)
 }

@@ -10,7 +10,7 @@ ghost use Rattle.sheet.specs.Versions.{enough};
 ghost use Rattle.edit.specs.Edit.{put_numbers_in, remove_in};
 ghost use Rattle.barge_edit.specs.Office.{record_count, EditInside, OfFile};
 
-use console::Read;
+use console::{Read, Said};
 use decimal::Number;
 use edit::Edited;
 use sheet::ENOUGH;
@@ -124,15 +124,16 @@ fn remove(
 fn main(rt: HostRuntime) -> ExitCode {
     let mut input = rt.stdin();
     let mut out = rt.stdout();
-    let mut err = rt.stderr();
+    let mut err = Said::new(rt.stderr());
     let mut word = [0u8; 8];
     let _ = rt.arg(COMMAND, &mut word);
-    if word[0] == b'p' {
-        console::status(put(&rt, &mut input, &mut out, &mut err))
+    let written = if word[0] == b'p' {
+        put(&rt, &mut input, &mut out, &mut err)
     } else if word[0] == b'r' {
-        console::status(remove(&rt, &mut input, &mut out, &mut err))
+        remove(&rt, &mut input, &mut out, &mut err)
     } else {
         console::say(&mut err, b"the command is put or remove");
-        ExitCode::SUCCESS
-    }
+        Ok(())
+    };
+    console::status(written, &err)
 }

@@ -12,7 +12,7 @@ ghost use Rattle.wording.specs.Writes.{Writes, spot};
 ghost use Rattle.pencil.specs.Trail.{trail_text, room as trailRoom};
 ghost use Rattle.barge_explain.specs.Explain.{Sized, lead_pieces, piece_of, explained_text, Prints, Written};
 
-use console::Read;
+use console::{Read, Said};
 use decimal::Number;
 use sheet::{ENOUGH, Header, HeaderRead, Record, RecordRead};
 use std::env::{Env, FillError};
@@ -198,12 +198,12 @@ fn tell(
 }
 
 fn main(rt: HostRuntime) -> ExitCode {
+    let mut err = Said::new(rt.stderr());
     let mut sheet = [0u8; ENOUGH];
-    let read = console::load(&mut rt.stdin(), &mut rt.stderr(), &mut sheet);
-    match read {
-        Read::Failed => ExitCode::SUCCESS,
-        Read::Got(got) => {
-            console::status(tell(&rt, &mut rt.stdout(), &mut rt.stderr(), &sheet, got))
-        }
-    }
+    let read = console::load(&mut rt.stdin(), &mut err, &mut sheet);
+    let written = match read {
+        Read::Failed => Ok(()),
+        Read::Got(got) => tell(&rt, &mut rt.stdout(), &mut err, &sheet, got),
+    };
+    console::status(written, &err)
 }

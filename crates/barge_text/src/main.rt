@@ -13,7 +13,7 @@ ghost use Rattle.sheet_csv.specs.Read.{told_converted, Converts};
 ghost use Rattle.sheet_csv.specs.Write.{text_from};
 ghost use Rattle.barge_text.specs.Convert.{MadeInside, line_in, printed_by, Shows, Replies};
 
-use console::Read;
+use console::{Read, Said};
 use report::{Page, Told};
 use sheet::Refusal;
 use sheet_csv::Converted;
@@ -239,7 +239,7 @@ fn command(env: &impl Env) -> Task {
 fn main(rt: HostRuntime) -> ExitCode {
     let mut input = rt.stdin();
     let mut out = rt.stdout();
-    let mut err = rt.stderr();
+    let mut err = Said::new(rt.stderr());
     let task = command(&rt);
     let written = match task {
         Task::Sheet => take_text(&mut input, &mut out, &mut err, false),
@@ -250,5 +250,5 @@ fn main(rt: HostRuntime) -> ExitCode {
             Ok(())
         }
     };
-    console::status(written)
+    console::status(written, &err)
 }

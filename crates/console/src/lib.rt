@@ -1,5 +1,6 @@
 // What the programs share: standard input, of which a read that fails is not taken for the end, and what is said on standard error. Both are given: `input` is
-// where the bytes come from, and `err` where lines are said. Where a line cannot be said there is nobody to tell, and the program goes on.
+// where the bytes come from, and `err` where lines are said. Where a line cannot be said there is nobody to tell, and the program goes on; where whoever read
+// the lines has gone, it ends as the system would end it (`Said`, `status`).
 #![tactic(auto)]
 
 ghost use Rattle.std.specs.Prelude.{◌≡◌, ◌≤◌, ◌<◌, ◌↔◌, true, false, length, take, IfOk, IfErr, OnOk};
@@ -139,9 +140,42 @@ pub fn unwritten(err: &mut impl Write, which: &[u8], e: io::Error) {
     }
 }
 
-// The status that a program ends with: 0, and 141, which a shell gives a program that the system ends so, where whoever read its output has gone.
-pub fn status<T: Drop>(written: io::Result<T>) -> ExitCode {
-    if is_read(written) {
+// Standard error, and whether whoever read it has gone.
+#[derive(Drop)]
+pub struct Said<W> {
+    to: W,
+    gone: bool,
+}
+
+impl<W: Write> Said<W> {
+    pub fn new(to: W) -> Said<W>
+        ensures to { result.to ≡ to }
+        ensures gone { result.gone ≡ false }
+    {
+        Said { to, gone: false }
+    }
+}
+
+impl<W: Write> Write for Said<W> {
+    ghost contents = { λ s. W.contents s.to };
+
+    fn write(&mut self, buf: &[u8]) -> io::Result<usize> {
+        let written = self.to.write(buf);
+        if !is_read(written) {
+            self.gone = true;
+        }
+        written
+    }
+
+    fn flush(&mut self) -> io::Result<()> {
+        self.to.flush()
+    }
+}
+
+// The status that a program ends with, by what its last write gave: 0, and 141, which a shell gives a program that the system ends so, where whoever read its
+// output or its standard error has gone.
+pub fn status<T: Drop, W>(written: io::Result<T>, err: &Said<W>) -> ExitCode {
+    if is_read(written) && !err.gone {
         ExitCode::SUCCESS
     } else {
         ExitCode::from(141)

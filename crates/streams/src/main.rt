@@ -11,6 +11,7 @@ mod vectors;
 
 ghost use Rattle.std.specs.Prelude.{◌≡◌, ◌≤◌, length};
 
+use console::Said;
 use std::env::Env;
 use std::io;
 use std::io::{Read, Write};
@@ -157,18 +158,18 @@ fn turn(
 fn main(rt: HostRuntime) -> ExitCode {
     let mut from = rt.stdin();
     let mut to = rt.stdout();
-    let mut err = rt.stderr();
+    let mut err = Said::new(rt.stderr());
     let mut input = [0u8; LONGEST];
     let mut out = [0u8; LONGEST];
     let stream = asked(&rt);
     if let Stream::None = stream {
-        let _ = err.write_all(b"streams: the word is sheets, edits, texts or vectors\n");
-        return ExitCode::SUCCESS;
+        let said = err.write_all(b"streams: the word is sheets, edits, texts or vectors\n");
+        return console::status(said, &err);
     }
     for _ in 0..4294967296usize {
         match turn(&mut from, &mut to, stream, &mut input, &mut out) {
             Ok(true) => {}
-            ended => return console::status(ended),
+            ended => return console::status(ended, &err),
         }
     }
     ExitCode::SUCCESS

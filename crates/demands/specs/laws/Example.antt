@@ -65,14 +65,14 @@ unfolding checking
 example_output = refl
 
 -- and as text, byte for byte what the document shows, with the sources
-pub example-text :
+pub example_text :
     text_of example
     ≡ (55 ∷ 32 ∷ 51 ∷ 32 ∷ 54 ∷ 49 ∷ 55 ∷ 32 ∷ 48 ∷ 10
     ∷ 49 ∷ 50 ∷ 32 ∷ 53 ∷ 32 ∷ 53 ∷ 54 ∷ 55 ∷ 32 ∷ 48 ∷ 10
     ∷ 50 ∷ 32 ∷ 50 ∷ 10
     ∷ [])
 unfolding text_of printed text_by lines_text line_of more_of decimal_of digits_in checking
-example-text = refl
+example_text = refl
 
 -- mended, nothing fails
 pub mended_answer : answer_of mended 9 ≡ given (record { n = 2; failed = 0 })

@@ -27,13 +27,13 @@ long c =
     let a = c.args in omega (arith, ap length (past c), length-drop (header_size a.h) a.buf.now, within)
 
 -- where the id stands or belongs, and whether it is there
-its-place : (c : After-has_at) → let a = c.args in c.place_of-i.result ≡ place_in (records_part a.h a.buf.now) a.h.count a.r.id
-its-place c =
+its_place : (c : After-has_at) → let a = c.args in c.place_of-i.result ≡ place_in (records_part a.h a.buf.now) a.h.count a.r.id
+its_place c =
     let past : let a = c.args in mid_of c.size-size.result (length a.buf.now - c.size-size.result) a.buf.now ≡ records_part a.h a.buf.now = let a = c.args in mid_past c.size-size.result (header_size a.h) a.buf.now c.size-size.ensures in
     let a = c.args in c.place_of-i.ensures.0 ∙ ap (λ (b : List ℕ). place_in b a.h.count a.r.id) past
 
-is-there : (c : After-has_at) → let a = c.args in c.has_at.result ≡ has_in (records_part a.h a.buf.now) a.h.count a.r.id
-is-there c =
+is_there : (c : After-has_at) → let a = c.args in c.has_at.result ≡ has_in (records_part a.h a.buf.now) a.h.count a.r.id
+is_there c =
     let past : let a = c.args in mid_of c.size-size.result (length a.buf.now - c.size-size.result) a.buf.now ≡ records_part a.h a.buf.now = let a = c.args in mid_past c.size-size.result (header_size a.h) a.buf.now c.size-size.ensures in
     let a = c.args in c.has_at.ensures ∙ ap (λ (b : List ℕ). has_in b a.h.count a.r.id) past
 
@@ -65,12 +65,12 @@ has_at-requires c = (long (goal.at.has_at-requires c).After-size-size, c.place_o
 pub replace-requires : goal.replace-requires
 replace-requires c =
     let a = c.args in
-    let l = place_within a.buf.now a.len a.h c.requires.0 a.r.id (sym (is-there (goal.at.replace-requires c).After-has_at) ∙ c.if-has_at.true) in
-    (c.requires.1, omega (arith, within (goal.at.replace-requires c).Start, its-place (goal.at.replace-requires c).After-has_at, l))
+    let l = place_within a.buf.now a.len a.h c.requires.0 a.r.id (sym (is_there (goal.at.replace-requires c).After-has_at) ∙ c.if-has_at.true) in
+    (c.requires.1, omega (arith, within (goal.at.replace-requires c).Start, its_place (goal.at.replace-requires c).After-has_at, l))
 
 -- src/lib.rt:121:9
 pub returns-then-has_at : goal.returns-then-has_at
 returns-then-has_at c =
     let a = c.args in
-    put_replaced a.buf.now a.len a.h c.requires.0 a.r c.requires.1 (sym (is-there (goal.at.returns-then-has_at c).After-has_at) ∙ c.if-has_at.true) c.replace.new.buf
-    (c.replace.ensures ∙ ap (λ n. replacing a.h n a.r a.buf.now) (its-place (goal.at.returns-then-has_at c).After-has_at))
+    put_replaced a.buf.now a.len a.h c.requires.0 a.r c.requires.1 (sym (is_there (goal.at.returns-then-has_at c).After-has_at) ∙ c.if-has_at.true) c.replace.new.buf
+    (c.replace.ensures ∙ ap (λ n. replacing a.h n a.r a.buf.now) (its_place (goal.at.returns-then-has_at c).After-has_at))

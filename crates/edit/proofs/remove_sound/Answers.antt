@@ -37,29 +37,29 @@ long c =
     omega (arith, ap length (past c), length-drop (header_size a.h) a.buf.now, w.0, w.1)
 
 -- where the id stands or belongs, and whether it is there
-its-place : (c : After-has_at) → let a = c.args in c.place_of-i.result ≡ place_in (records_part a.h a.buf.now) a.h.count a.id
-its-place c =
+its_place : (c : After-has_at) → let a = c.args in c.place_of-i.result ≡ place_in (records_part a.h a.buf.now) a.h.count a.id
+its_place c =
     let past : let a = c.args in mid_of c.size-size.result (length a.buf.now - c.size-size.result) a.buf.now ≡ records_part a.h a.buf.now = let a = c.args in mid_past c.size-size.result (header_size a.h) a.buf.now c.size-size.ensures in
     let a = c.args in c.place_of-i.ensures.0 ∙ ap (λ (b : List ℕ). place_in b a.h.count a.id) past
 
-is-there : (c : After-has_at) → let a = c.args in c.has_at.result ≡ has_in (records_part a.h a.buf.now) a.h.count a.id
-is-there c =
+is_there : (c : After-has_at) → let a = c.args in c.has_at.result ≡ has_in (records_part a.h a.buf.now) a.h.count a.id
+is_there c =
     let past : let a = c.args in mid_of c.size-size.result (length a.buf.now - c.size-size.result) a.buf.now ≡ records_part a.h a.buf.now = let a = c.args in mid_past c.size-size.result (header_size a.h) a.buf.now c.size-size.ensures in
     let a = c.args in c.has_at.ensures ∙ ap (λ (b : List ℕ). has_in b a.h.count a.id) past
 
 -- the record is there, and is one of the n
 there : (c : Then-has_at) → let a = c.args in has_in (records_part a.h a.buf.now) a.h.count a.id ≡ true
 there c =
-    let is-there : let a = c.args in c.has_at.result ≡ has_in (records_part a.h a.buf.now) a.h.count a.id = let past : let a = c.args in mid_of c.size-size.result (length a.buf.now - c.size-size.result) a.buf.now ≡ records_part a.h a.buf.now = let a = c.args in mid_past c.size-size.result (header_size a.h) a.buf.now c.size-size.ensures in
+    let is_there : let a = c.args in c.has_at.result ≡ has_in (records_part a.h a.buf.now) a.h.count a.id = let past : let a = c.args in mid_of c.size-size.result (length a.buf.now - c.size-size.result) a.buf.now ≡ records_part a.h a.buf.now = let a = c.args in mid_past c.size-size.result (header_size a.h) a.buf.now c.size-size.ensures in
     let a = c.args in c.has_at.ensures ∙ ap (λ (b : List ℕ). has_in b a.h.count a.id) past in
-    sym is-there ∙ c.if-has_at.true
+    sym is_there ∙ c.if-has_at.true
 
 below : (c : Then-has_at) → let a = c.args in c.place_of-i.result < a.h.count
 below c =
-    let its-place : let a = c.args in c.place_of-i.result ≡ place_in (records_part a.h a.buf.now) a.h.count a.id = let past : let a = c.args in mid_of c.size-size.result (length a.buf.now - c.size-size.result) a.buf.now ≡ records_part a.h a.buf.now = let a = c.args in mid_past c.size-size.result (header_size a.h) a.buf.now c.size-size.ensures in
+    let its_place : let a = c.args in c.place_of-i.result ≡ place_in (records_part a.h a.buf.now) a.h.count a.id = let past : let a = c.args in mid_of c.size-size.result (length a.buf.now - c.size-size.result) a.buf.now ≡ records_part a.h a.buf.now = let a = c.args in mid_past c.size-size.result (header_size a.h) a.buf.now c.size-size.ensures in
     let a = c.args in c.place_of-i.ensures.0 ∙ ap (λ (b : List ℕ). place_in b a.h.count a.id) past in
     let a = c.args in
-    omega (arith, its-place, place_within a.buf.now a.len a.h c.requires a.id (there c))
+    omega (arith, its_place, place_within a.buf.now a.len a.h c.requires a.id (there c))
 
 -- src/lib.rt:150:28
 pub slice_bounds-place_of-count : goal.slice_bounds-place_of-count
@@ -109,10 +109,10 @@ pub returns-then-has_at : goal.returns-then-has_at
 returns-then-has_at c =
     let a = c.args in
     remove_done a.buf.now a.len a.h c.requires a.id (there (goal.at.returns-then-has_at c).Then-has_at) c.counted-fewer.result c.counted-fewer.ensures c.take_out.new.buf
-    (c.take_out.ensures ∙ ap (λ i. removing c.counted-fewer.result i a.len a.buf.now) (its-place (goal.at.returns-then-has_at c).After-has_at))
+    (c.take_out.ensures ∙ ap (λ i. removing c.counted-fewer.result i a.len a.buf.now) (its_place (goal.at.returns-then-has_at c).After-has_at))
 
 -- src/lib.rt:144:1
 pub returns : goal.returns
 returns c =
     let a = c.args in
-    remove_none a.buf.now a.len a.h c.requires a.id (sym (is-there (goal.at.returns c).After-has_at) ∙ c.if-has_at.false)
+    remove_none a.buf.now a.len a.h c.requires a.id (sym (is_there (goal.at.returns c).After-has_at) ∙ c.if-has_at.false)

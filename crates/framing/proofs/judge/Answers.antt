@@ -18,8 +18,8 @@ sound : (c : In_default) → let a = c.args in Sound a.h (of_member a.kind a.id 
 sound c = admitted_sound _ _ _ c.admitted_member-admitted.ensures c.in_default.is
 
 -- the load's pressure is the one that the rules go by
-load-pressure : (c : After-member_load-load) → let a = c.args in c.member_load-load.result.pressure.0 ≡ member_pressure a.h a.kind a.m
-load-pressure c =
+load_pressure : (c : After-member_load-load) → let a = c.args in c.member_load-load.result.pressure.0 ≡ member_pressure a.h a.kind a.m
+load_pressure c =
     let a = c.args in
     let named : told_load c.member_load-load.result ≡ member_named a.h a.kind a.m = c.member_load-load.ensures in
     ap (λ (n : Named). n.pressure) named ∙ member_pressure_lem a.h a.kind a.m
@@ -35,7 +35,7 @@ pub member_verdict-requires : goal.member_verdict-requires
 member_verdict-requires c =
     let a = c.args in
     let s = sound (goal.at.member_verdict-requires c).In_default in
-    (header_ranges a.h s.header, member_ranges a.kind a.id a.m s.body, load-pressure c)
+    (header_ranges a.h s.header, member_ranges a.kind a.id a.m s.body, load_pressure c)
 
 -- src/lib.rt:181:1
 -- LOOK: κs/given

@@ -13,8 +13,8 @@ record InRange (n ends eta q x : ℕ) : Type 0 where
   third : n * ends * eta * q ≤ 4164150000000
   whole : n * ends * eta * q * x ≤ 4164150000000000000
 
-in-range : {n ends eta q x : ℕ} → Product n ends eta q x → InRange n ends eta q x
-in-range h =
+in_range : {n ends eta q x : ℕ} → Product n ends eta q x → InRange n ends eta q x
+in_range h =
     let a = mul-le-mul h.n_high h.ends_high in
     let b = mul-le-mul a h.eta_high in
     let c = mul-le-mul b h.load_high in
@@ -22,4 +22,4 @@ in-range h =
 
 -- src/lib.rt:46:5
 pub overflow_mul-result-4 : goal.overflow_mul-result-4
-overflow_mul-result-4 c = omega (arith, in-range c.requires)
+overflow_mul-result-4 c = omega (arith, in_range c.requires)

@@ -16,9 +16,9 @@ use Rattle.header.proofs.write_own.Goals as goal
 -- `header::write_own` meets its contract.
 -- Assumes nothing.
 -- a version's own fields, where it has any, take eight bytes
-own-eight : (o : Own) → first_bytes < (version_of o).size → own_bytes (version_of o) ≡ 8
-own-eight One l = absurd (omega arith)
-own-eight (Two s) l = refl
+own_eight : (o : Own) → first_bytes < (version_of o).size → own_bytes (version_of o) ≡ 8
+own_eight One l = absurd (omega arith)
+own_eight (Two s) l = refl
 
 -- what a version's own fields leave in so many bytes
 abbrev left : Own → List ℕ → ℕ → List ℕ
@@ -28,7 +28,7 @@ left o b k = unpack (bytes k) (pack (own_widths (version_of o)) (own_values o 0)
 pub returns-then-version-gt-FIRST : goal.returns-then-version-gt-FIRST
 returns-then-version-gt-FIRST c =
     let a = c.args in
-    let eight : own_bytes (version_of a.own) ≡ 8 = own-eight a.own (omega (arith, c.if-version-gt-FIRST.true, c.version-version.ensures.size)) in
+    let eight : own_bytes (version_of a.own) ≡ 8 = own_eight a.own (omega (arith, c.if-version-gt-FIRST.true, c.version-version.ensures.size)) in
     c.write_word.ensures
     ∙ write_all_lem 8 _ a.out.now (omega (arith, eight, c.requires.1))
     ∙ ap (λ (n : ℕ). unpack (bytes 8) n ++ drop 8 a.out.now) c.own_number-n.ensures

@@ -18,8 +18,8 @@ sound : (c : In_default) → let a = c.args in Sound a.h (of_plate a.kind a.id a
 sound c = admitted_sound _ _ _ c.admitted_plate-admitted.ensures c.in_default.is
 
 -- the load's pressure is the one that the rules go by
-load-pressure : (c : After-load-load) → let a = c.args in c.load-load.result.pressure.0 ≡ plate_pressure a.h a.kind a.p
-load-pressure c =
+load_pressure : (c : After-load-load) → let a = c.args in c.load-load.result.pressure.0 ≡ plate_pressure a.h a.kind a.p
+load_pressure c =
     let a = c.args in
     let named : told_load c.load-load.result ≡ plate_named a.h a.kind a.p = c.load-load.ensures in
     ap (λ (n : Named). n.pressure) named ∙ plate_pressure_lem a.h a.kind a.p
@@ -35,7 +35,7 @@ pub plate_verdict-requires : goal.plate_verdict-requires
 plate_verdict-requires c =
     let a = c.args in
     let s = sound (goal.at.plate_verdict-requires c).In_default in
-    (header_ranges a.h s.header, plate_ranges a.kind a.id a.p 0 s.body, load-pressure c)
+    (header_ranges a.h s.header, plate_ranges a.kind a.id a.p 0 s.body, load_pressure c)
 
 -- src/lib.rt:292:1
 -- LOOK: κs/given

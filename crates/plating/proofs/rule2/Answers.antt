@@ -11,17 +11,17 @@ use Rattle.plating.proofs.rule2.Goals as goal
 -- `plating::rule2` meets its contract.
 -- Assumes nothing.
 -- S²KP
-load-in-range : (c : Start) → let a = c.args in
+load_in_range : (c : Start) → let a = c.args in
     a.spacing.0 * a.spacing.0 * a.factor.0 * a.load.pressure.0 ≤ 800000000000000000
-load-in-range c = mul-le-mul (in_range c.requires.1 c.requires.0).1 c.requires.2
+load_in_range c = mul-le-mul (in_range c.requires.1 c.requires.0).1 c.requires.2
 
 -- src/lib.rt:90:13
 pub overflow_mul-n-3 : goal.overflow_mul-n-3
-overflow_mul-n-3 c = omega (arith, load-in-range (goal.at.overflow_mul-n-3 c).Start)
+overflow_mul-n-3 c = omega (arith, load_in_range (goal.at.overflow_mul-n-3 c).Start)
 
 -- src/lib.rt:92:37
 pub overflow_mul-n-then-is_long : goal.overflow_mul-n-then-is_long
-overflow_mul-n-then-is_long c = omega (arith, load-in-range (goal.at.overflow_mul-n-then-is_long c).Start)
+overflow_mul-n-then-is_long c = omega (arith, load_in_range (goal.at.overflow_mul-n-then-is_long c).Start)
 
 -- src/lib.rt:92:9
 pub returns-then-is_long : goal.returns-then-is_long

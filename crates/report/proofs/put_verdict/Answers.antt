@@ -15,18 +15,18 @@ use Rattle.report.proofs.put_verdict.Goals as goal
 -- `report::put_verdict` meets its contract.
 -- Assumes nothing.
 -- past the match there is a verdict
-verdict-given : (c : In-Good) → given c.in-Good.e ≡ read_entry c.args.verdict.now
-verdict-given c = sym (ap told_entry c.in-Good.is) ∙ c.read_verdict-read.ensures
+verdict_given : (c : In-Good) → given c.in-Good.e ≡ read_entry c.args.verdict.now
+verdict_given c = sym (ap told_entry c.in-Good.is) ∙ c.read_verdict-read.ensures
 
 pub put_entry-requires : goal.put_entry-requires
 put_entry-requires c =
     let b = c.args.verdict.now in
-    omega (arith, ap length (verdict_line_lem b _ (verdict-given (goal.at.put_entry-requires c).In-Good)), verdict_most b)
+    omega (arith, ap length (verdict_line_lem b _ (verdict_given (goal.at.put_entry-requires c).In-Good)), verdict_most b)
 
 pub returns-in-Good : goal.returns-in-Good
 returns-in-Good c =
     let a = c.args in
-    subst (λ (t : List ℕ). Laid a.page.now a.at t c.put_entry.result c.put_entry.new.page) (verdict_line_lem a.verdict.now _ (verdict-given (goal.at.returns-in-Good c).In-Good)) c.put_entry.ensures
+    subst (λ (t : List ℕ). Laid a.page.now a.at t c.put_entry.result c.put_entry.new.page) (verdict_line_lem a.verdict.now _ (verdict_given (goal.at.returns-in-Good c).In-Good)) c.put_entry.ensures
 
 pub returns-in-Refused : goal.returns-in-Refused
 returns-in-Refused c =

@@ -19,8 +19,8 @@ listed_same q1 q2 q3 q4 q5 q6 q7 q8 q9 q10 q11 q12 q13 q14 q15 q16 = rw (q1, q2,
 whole_same : {a b c a₂ b₂ c₂ : ℕ} → a ≡ a₂ → b ≡ b₂ → c ≡ c₂ → (a + b % 4294967296) / c ≡ (a₂ + b₂ % 4294967296) / c₂
 whole_same p q r = rw (p, q, r)
 
-left-same : {a b c a₂ b₂ c₂ : ℕ} → a ≡ a₂ → b ≡ b₂ → c ≡ c₂ → (a + b % 4294967296) % c ≡ (a₂ + b₂ % 4294967296) % c₂
-left-same p q r = rw (p, q, r)
+left_same : {a b c a₂ b₂ c₂ : ℕ} → a ≡ a₂ → b ≡ b₂ → c ≡ c₂ → (a + b % 4294967296) % c ≡ (a₂ + b₂ % 4294967296) % c₂
+left_same p q r = rw (p, q, r)
 
 tried_same : {a b c a₂ b₂ c₂ : ℕ} → a ≡ a₂ → b ≡ b₂ → c ≡ c₂ → product a b - c ≡ product a₂ b₂ - c₂
 tried_same p q r = rw (p, q, r)
@@ -42,7 +42,7 @@ returns c =
     t.right
     w.root
     (c.divide-over.ensures.whole ∙ whole_same t.short w.root t.step)
-    (c.divide-over.ensures.left ∙ left-same t.short w.root t.step)
+    (c.divide-over.ensures.left ∙ left_same t.short w.root t.step)
     w.first
     (c.try_number-at_first.ensures.x ∙ tried_same t.step w.first t.short)
     (c.try_number-at_first.ensures.square ∙ ap (λ (x : ℕ). product x x) (tried_same t.step w.first t.short))

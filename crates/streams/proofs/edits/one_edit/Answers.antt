@@ -14,9 +14,9 @@ use Rattle.streams.specs.Edits.{asked_edit}
 use Rattle.streams.proofs.edits.one_edit.Goals as goal
 
 -- `streams::edits::one_edit` is safe and ends: the sheet that an edit leaves is in the buffer, so that its length has room on the line.
-edit-within : (form b : List ℕ) (len : ℕ) (a : After) → asked_edit form b len ≡ given a → a.size ≤ length b
+edit_within : (form b : List ℕ) (len : ℕ) (a : After) → asked_edit form b len ≡ given a → a.size ≤ length b
 unfolding asked_edit
-edit-within form b len a e = go (eqb (number_at form 0) 0) e
+edit_within form b len a e = go (eqb (number_at form 0) 0) e
   where
     go : (t : Bool) → cond t (put_numbers_in b len (fields_in form)) (remove_in b len (number_at form 1)) ≡ given a → a.size ≤ length b
     go true f = numbers_within b len (fields_in form) a f
@@ -30,4 +30,4 @@ inside (refused k p) b l w = tt
 pub print-requires : goal.print-requires
 print-requires g c =
     let told = c.done_by-d.ensures.answer ∙ c.edited-e.ensures.answer in
-    subst ShortLine (sym told) (inside _ c.args.buf.now c.requires (edit-within _ c.args.buf.now _))
+    subst ShortLine (sym told) (inside _ c.args.buf.now c.requires (edit_within _ c.args.buf.now _))

@@ -22,9 +22,9 @@ use Rattle.streams.proofs.parts.put_line.Goals.{After-write_refusal-told, In-Len
 use Rattle.streams.proofs.parts.put_line.Goals as goal
 
 -- the line of what was converted, by the case that it is
-length-line : (n : ℕ) → decimal_of n ++ (10 ∷ []) ≡ line_for (given n)
+length_line : (n : ℕ) → decimal_of n ++ (10 ∷ []) ≡ line_for (given n)
 unfolding line_for
-length-line n = refl
+length_line n = refl
 
 -- a length has five digits at most
 inside : (c : In-Length) → c.in-Length.n ≤ 65536
@@ -37,9 +37,9 @@ few c = omega (arith, length-append (decimal_of c.in-Length.n) (10 ∷ []), deci
 abbrev line : (c : After-write_refusal-told) → List ℕ
 line c = refusal_text c.in-Refused.x
 
-refusal-line : (r : Refusal) → refusal_text r ≡ line_for (told r)
+refusal_line : (r : Refusal) → refusal_text r ≡ line_for (told r)
 unfolding line_for refusal_text
-refusal-line r = refl
+refusal_line r = refl
 
 spelled : (c : After-write_refusal-told) → (told_length c.write_refusal-told.result ≡ given (length (line c))) × (c.write_refusal-told.new.text ≡ (line c) ++ drop (length (line c)) c.args.line.now)
 spelled c = refusal_told c.in-Refused.x c.args.line.now c.write_refusal-told.result c.write_refusal-told.new.text c.requires.0 c.write_refusal-told.ensures
@@ -50,14 +50,14 @@ returns-in-Length c =
     let o = c.args.line.now in
     let put : Puts (decimal_of n ++ (10 ∷ [])) o c.write_number.result c.write_number.new.out = c.write_number.ensures in
     let l = put_front o (decimal_of n ++ (10 ∷ [])) (omega (arith, few (goal.at.returns-in-Length c).In-Length, c.requires.0)) put in
-    subst (λ (x : List ℕ). Laid o 0 x c.write_number.result c.write_number.new.out) (length-line n ∙ ap (λ (x : Converted). line_for (told_converted x)) (sym c.in-Length.is)) l
+    subst (λ (x : List ℕ). Laid o 0 x c.write_number.result c.write_number.new.out) (length_line n ∙ ap (λ (x : Converted). line_for (told_converted x)) (sym c.in-Length.is)) l
 
 pub returns-in-Length-told : goal.returns-in-Length-told
 returns-in-Length-told c =
     let o = c.args.line.now in
     let len_is = given_same (sym (ap told_length c.in-Length-told.is) ∙ (spelled (goal.at.returns-in-Length-told c).After-write_refusal-told).0) in
     let l : Laid o 0 (line (goal.at.returns-in-Length-told c).After-write_refusal-told) c.in-Length-told.len c.write_refusal-told.new.text = record { place = len_is ∙ omega arith; bytes = (spelled (goal.at.returns-in-Length-told c).After-write_refusal-told).1 ∙ sym (laid_front o (line (goal.at.returns-in-Length-told c).After-write_refusal-told)) } in
-    subst (λ (x : List ℕ). Laid o 0 x c.in-Length-told.len c.write_refusal-told.new.text) (refusal-line c.in-Refused.x ∙ ap (λ (x : Converted). line_for (told_converted x)) (sym c.in-Refused.is)) l
+    subst (λ (x : List ℕ). Laid o 0 x c.in-Length-told.len c.write_refusal-told.new.text) (refusal_line c.in-Refused.x ∙ ap (λ (x : Converted). line_for (told_converted x)) (sym c.in-Refused.is)) l
 
 pub returns-in-Refused-told : goal.returns-in-Refused-told
 returns-in-Refused-told c =

@@ -20,9 +20,9 @@ writes : (what : ℕ) (input : List ℕ) (room : ℕ) → (what ≡ 0 → ⊥) �
 unfolding asked
 writes what input room d e = rw (ne_eqb what 0 d, eq-eqb what 1 e)
 
-looks-again : (what : ℕ) (input : List ℕ) (room : ℕ) → (what ≡ 0 → ⊥) → (what ≡ 1 → ⊥) → table_from input room ≡ asked what input room
+looks_again : (what : ℕ) (input : List ℕ) (room : ℕ) → (what ≡ 0 → ⊥) → (what ≡ 1 → ⊥) → table_from input room ≡ asked what input room
 unfolding asked
-looks-again what input room d e = rw (ne_eqb what 0 d, ne_eqb what 1 e)
+looks_again what input room d e = rw (ne_eqb what 0 d, ne_eqb what 1 e)
 
 pub returns-then-what-eq0 : goal.returns-then-what-eq0
 returns-then-what-eq0 c =
@@ -40,4 +40,4 @@ pub returns : goal.returns
 returns c =
     let a = c.args in
     let o = a.out.now in
-    subst (λ (x : Answer (List ℕ)). Converts x o c.read_table.result c.read_table.new.out) (looks-again a.what a.input.now (length o) c.if-what-eq0.false c.if-what-eq1.false) c.read_table.ensures
+    subst (λ (x : Answer (List ℕ)). Converts x o c.read_table.result c.read_table.new.out) (looks_again a.what a.input.now (length o) c.if-what-eq0.false c.if-what-eq1.false) c.read_table.ensures
