@@ -1,6 +1,10 @@
--- What is known of an input that was read, and when it looks like a text.
-use Rattle.std.specs.Prelude.{ℕ, ◌≤◌, ◌<◌, Bool, true, false, cond, List, [], ◌∷◌, ltb, eqb, length, take, Option}
+-- What is known of an input that was read and when it looks like a text, and when whoever reads what is written has gone.
+use Rattle.std.specs.Prelude.{◌≡◌, ℕ, ◌≤◌, ◌<◌, Bool, true, false, cond, List, [], ◌∷◌, ltb, eqb, length, take, Option, Result, IsErrAnd}
 use Rattle.std.specs.Io.KnownBytes.{Consumes, IsAtEnd}
+use Rattle.std.specs.IoError.{error_kind}
+use Rattle.std.specs.declared.io.Error.{Error}
+use Rattle.std.specs.declared.io.ErrorKind.TheVariants.{BrokenPipe}
+use Rattle.console.specs.declared.Said.{Said}
 use Rattle.console.specs.declared.Read.{Read}
 use Rattle.console.specs.declared.Read.TheVariants.{Got, Failed}
 
@@ -22,3 +26,15 @@ begins_text b = cond (ltb b 48) (eqb b 34) (cond (ltb b 58) true (eqb b 239))
 unfoldable pub looks_like_text : List ℕ → Bool
 looks_like_text [] = false
 looks_like_text (b ∷ s) = begins_text b
+
+-- what a write gave is that whoever read the output has gone
+abbrev pub Broke : {A : Type 0} → Result A Error → Type 0
+Broke written = IsErrAnd written (λ e. error_kind e ≡ BrokenPipe)
+
+-- what is said is written to this
+abbrev pub said_to : {W : Type 0} → Said W → W
+said_to s = s.to
+
+-- whether whoever read it has gone
+abbrev pub has_gone : {W : Type 0} → Said W → Bool
+has_gone s = s.gone

@@ -3,11 +3,12 @@
 // the lines has gone, it ends as the system would end it (`Said`, `status`).
 #![tactic(auto)]
 
-ghost use Rattle.std.specs.Prelude.{◌≡◌, ◌≤◌, ◌<◌, ◌↔◌, true, false, length, take, IfOk, IfErr, OnOk};
+ghost use Rattle.std.specs.Prelude.{◌≡◌, ◌≤◌, ◌<◌, ◌↔◌, ◌⊎◌, true, false, length, take, IfOk};
+ghost use Rattle.std.specs.Process.{exit_status};
 ghost use Rattle.std.specs.Io.{ReadsAtMost};
 ghost use Rattle.std.specs.Io.KnownBytes.{Consumes, IsAtEnd};
 ghost use Rattle.std.specs.IoError.{error_kind};
-ghost use Rattle.console.specs.Console.{Loaded, Came, begins_text, looks_like_text};
+ghost use Rattle.console.specs.Console.{Loaded, Came, Broke, said_to, has_gone, begins_text, looks_like_text};
 
 use std::io;
 use std::io::{ErrorKind, Write};
@@ -124,8 +125,7 @@ fn gone(e: io::Error) -> bool
 
 // Whether an output still has a reader, by what a write to it gave. Where it has none nobody is to be told anything more, as the system would end the program there.
 pub fn is_read<T: Drop>(written: io::Result<T>) -> bool
-    ensures ok { OnOk written (result ≡ true) }
-    ensures err { IfErr written (λ e. (result ≡ false) ↔ (error_kind e ≡ ErrorKind.BrokenPipe)) }
+    ensures { (result ≡ false) ↔ Broke written }
 {
     match written {
         Ok(_) => true,
@@ -149,17 +149,24 @@ pub struct Said<W> {
 
 impl<W: Write> Said<W> {
     pub fn new(to: W) -> Said<W>
-        ensures to { result.to ≡ to }
-        ensures gone { result.gone ≡ false }
+        ensures to { said_to result ≡ to }
+        ensures gone { has_gone result ≡ false }
     {
         Said { to, gone: false }
     }
 }
 
 impl<W: Write> Write for Said<W> {
-    ghost contents = { λ s. W.contents s.to };
+    ghost use Rattle.std.specs.Io.{WritesAtMost};
+    ghost use Rattle.std.specs.Io.KnownBytes.{WriteAppends, Keeps};
 
-    fn write(&mut self, buf: &[u8]) -> io::Result<usize> {
+    ghost contents = { λ s. W.contents (said_to s) };
+
+    fn write(&mut self, buf: &[u8]) -> io::Result<usize>
+        ensures bound { WritesAtMost result buf.now }
+        ensures bytes { WriteAppends (W.contents (said_to self.old)) (W.contents (said_to self.new)) result buf.now }
+        ensures gone { (has_gone self.new ≡ true) ↔ ((has_gone self.old ≡ true) ⊎ Broke result) }
+    {
         let written = self.to.write(buf);
         if !is_read(written) {
             self.gone = true;
@@ -167,14 +174,20 @@ impl<W: Write> Write for Said<W> {
         written
     }
 
-    fn flush(&mut self) -> io::Result<()> {
+    fn flush(&mut self) -> io::Result<()>
+        ensures bytes { Keeps (W.contents (said_to self.old)) (W.contents (said_to self.new)) }
+        ensures gone { has_gone self.new ≡ has_gone self.old }
+    {
         self.to.flush()
     }
 }
 
 // The status that a program ends with, by what its last write gave: 0, and 141, which a shell gives a program that the system ends so, where whoever read its
 // output or its standard error has gone.
-pub fn status<T: Drop, W>(written: io::Result<T>, err: &Said<W>) -> ExitCode {
+pub fn status<T: Drop, W>(written: io::Result<T>, err: &Said<W>) -> ExitCode
+    ensures two { (exit_status result ≡ 0) ⊎ (exit_status result ≡ 141) }
+    ensures gone { (exit_status result ≡ 141) ↔ (Broke written ⊎ (has_gone err.now ≡ true)) }
+{
     if is_read(written) && !err.gone {
         ExitCode::SUCCESS
     } else {
