@@ -3,7 +3,7 @@
 // the lines has gone, it ends as the system would end it (`Said`, `status`).
 #![tactic(auto)]
 
-ghost use Rattle.std.specs.Prelude.{◌≡◌, ◌≤◌, ◌<◌, ◌↔◌, ◌⊎◌, true, false, length, take, IfOk};
+ghost use Rattle.std.specs.Prelude.{◌≡◌, ◌≤◌, ◌<◌, ◌↔◌, ◌⊎◌, true, false, length, take, IfOk, OnOk};
 ghost use Rattle.std.specs.Process.{exit_status};
 ghost use Rattle.std.specs.Io.{ReadsAtMost};
 ghost use Rattle.std.specs.Io.KnownBytes.{Consumes, IsAtEnd};
@@ -154,11 +154,21 @@ impl<W: Write> Said<W> {
     {
         Said { to, gone: false }
     }
+
+    // Keeps whether a write told that whoever read it has gone.
+    fn keep<T: Drop>(&mut self, written: io::Result<T>)
+        ensures to { said_to self.new ≡ said_to self.old }
+        ensures gone { (has_gone self.new ≡ true) ↔ ((has_gone self.old ≡ true) ⊎ Broke written) }
+    {
+        if !is_read(written) {
+            self.gone = true;
+        }
+    }
 }
 
 impl<W: Write> Write for Said<W> {
     ghost use Rattle.std.specs.Io.{WritesAtMost};
-    ghost use Rattle.std.specs.Io.KnownBytes.{WriteAppends, Keeps};
+    ghost use Rattle.std.specs.Io.KnownBytes.{Appends, WriteAppends, Keeps};
 
     ghost contents = { λ s. W.contents (said_to s) };
 
@@ -168,9 +178,16 @@ impl<W: Write> Write for Said<W> {
         ensures gone { (has_gone self.new ≡ true) ↔ ((has_gone self.old ≡ true) ⊎ Broke result) }
     {
         let written = self.to.write(buf);
-        if !is_read(written) {
-            self.gone = true;
-        }
+        self.keep(written);
+        written
+    }
+
+    fn write_all(&mut self, buf: &[u8]) -> io::Result<()>
+        ensures bytes { OnOk result (Appends (W.contents (said_to self.old)) (W.contents (said_to self.new)) buf.now) }
+        ensures gone { (has_gone self.new ≡ true) ↔ ((has_gone self.old ≡ true) ⊎ Broke result) }
+    {
+        let written = self.to.write_all(buf);
+        self.keep(written);
         written
     }
 
