@@ -45,12 +45,12 @@ fn write_sheet(out: &mut impl Write, err: &mut impl Write, sheet: &[u8]) -> io::
 }
 
 // The new sheet, or the refusal, with a word on a text that was handed over for a sheet.
-fn finish(out: &mut impl Write, err: &mut impl Write, sheet: &[u8], e: Edited) -> io::Result<()>
+fn finish(out: &mut impl Write, err: &mut impl Write, sheet: &[u8], e: Result<usize, Refusal>) -> io::Result<()>
     requires { EditInside e (length sheet.now) }
 {
     match e {
-        Edited::Length(len) => write_sheet(out, err, &sheet[..len]),
-        Edited::Refused(r) => {
+        Ok(len) => write_sheet(out, err, &sheet[..len]),
+        Err(r) => {
             let _ = report::print_refusal(err, r);
             console::hint(err, sheet);
             Ok(())
@@ -59,14 +59,14 @@ fn finish(out: &mut impl Write, err: &mut impl Write, sheet: &[u8], e: Edited) -
 }
 
 // The edit, in a buffer that has as much of the input as it holds.
-fn put_in(buffer: &mut [u8], got: usize, fields: [u32; 13]) -> Edited
+fn put_in(buffer: &mut [u8], got: usize, fields: [u32; 13]) -> Result<usize, Refusal>
     requires { (enough ≤ length buffer.old) × (got ≤ length buffer.old) }
     ensures { OfFile (put_numbers_in buffer.old got fields) buffer.old got result buffer.new }
 {
     edit::put_numbers(buffer, got, fields)
 }
 
-fn remove_in(buffer: &mut [u8], got: usize, id: u32) -> Edited
+fn remove_in(buffer: &mut [u8], got: usize, id: u32) -> Result<usize, Refusal>
     requires { (enough ≤ length buffer.old) × (got ≤ length buffer.old) }
     ensures { OfFile (remove_in buffer.old got id) buffer.old got result buffer.new }
 {

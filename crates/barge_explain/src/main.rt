@@ -27,7 +27,7 @@ const ID: usize = 1;
 const ROOM: usize = 26528;
 
 // The header of an input, from the bytes that were read of it, or why it is turned away.
-fn header_of(buffer: &[u8], got: usize) -> HeaderRead
+fn header_of(buffer: &[u8], got: usize) -> Result<Header, Refusal>
     requires { (enough ≤ length buffer.now) × (got ≤ length buffer.now) }
     ensures { ((input : List ℕ) → take got buffer.now ≡ take (length buffer.now) input → told_header result ≡ sound_header input) × Sized result got }
 {
@@ -35,7 +35,7 @@ fn header_of(buffer: &[u8], got: usize) -> HeaderRead
 }
 
 // Record i of a sheet's records.
-fn record_at(records: &[u8], i: u16) -> RecordRead
+fn record_at(records: &[u8], i: u16) -> Result<Record, Refusal>
     requires { 16 * i + 16 ≤ length records.now }
     ensures { told_record result ≡ record_of records.now i }
 {
@@ -89,12 +89,12 @@ fn piece_of(h: Header, records: &[u8], i: u16, asked: u32, begun: bool) -> Piece
     let mut bytes = [0u8; ROOM];
     let read = record_at(records, i);
     match read {
-        RecordRead::Refused(_) => Piece {
+        Err(_) => Piece {
             bytes,
             len: 0,
             begun,
         },
-        RecordRead::Good(r) => {
+        Ok(r) => {
             if !is_wanted(asked, r.id) {
                 return Piece {
                     bytes,
@@ -186,8 +186,8 @@ fn tell(
 {
     let read = header_of(sheet, got);
     match read {
-        HeaderRead::Good(h) => explain(env, out, h, &sheet[..got]),
-        HeaderRead::Refused(r) => {
+        Ok(h) => explain(env, out, h, &sheet[..got]),
+        Err(r) => {
             let written = report::print_refusal(out, r);
             if console::is_read(written) {
                 console::hint(err, sheet);

@@ -68,12 +68,12 @@ fn line_of(r: Refusal) -> u32
 }
 
 // The same of what was converted.
-fn line_at_fault(c: Converted) -> u32
+fn line_at_fault(c: Result<usize, Refusal>) -> u32
     ensures { result ≡ line_in (told_converted c) }
 {
     match c {
-        Converted::Length(_) => 0,
-        Converted::Refused(r) => line_of(r),
+        Ok(_) => 0,
+        Err(r) => line_of(r),
     }
 }
 
@@ -83,19 +83,19 @@ fn refusal_page(r: Refusal) -> Page
     let mut bytes = [0u8; report::LONGEST];
     let told = report::write_refusal(r, &mut bytes);
     match told {
-        Told::Length(len) => Page { bytes, len },
-        Told::Refused(_) => Page { bytes, len: 0 },
+        Ok(len) => Page { bytes, len },
+        Err(_) => Page { bytes, len: 0 },
     }
 }
 
 // What is printed of what a text was converted to.
-fn page_by(c: Converted, sheet: &[u8]) -> Page
+fn page_by(c: Result<usize, Refusal>, sheet: &[u8]) -> Page
     requires { MadeInside c (length sheet.now) }
     ensures { Shows (printed_by c sheet.now) result }
 {
     match c {
-        Converted::Length(n) => report::page_of(&sheet[..n]),
-        Converted::Refused(r) => refusal_page(r),
+        Ok(n) => report::page_of(&sheet[..n]),
+        Err(r) => refusal_page(r),
     }
 }
 
@@ -110,7 +110,7 @@ fn answer(text: &[u8]) -> Reply
 }
 
 // The text of a sheet, from the bytes that were read of it: all, or as many as the buffer holds.
-fn text_of(buffer: &[u8], got: usize, out: &mut [u8]) -> Converted
+fn text_of(buffer: &[u8], got: usize, out: &mut [u8]) -> Result<usize, Refusal>
     requires { (enough ≤ length buffer.now) × (got ≤ length buffer.now) }
     ensures { (input : List ℕ) → take got buffer.now ≡ take (length buffer.now) input → Converts (text_from input (length out.old)) out.old result out.new }
 {
@@ -118,12 +118,12 @@ fn text_of(buffer: &[u8], got: usize, out: &mut [u8]) -> Converted
 }
 
 // What was made of the input goes to standard output, or the refusal to standard error.
-fn deliver(out: &mut impl Write, err: &mut impl Write, c: Converted, made: &[u8]) -> io::Result<()>
+fn deliver(out: &mut impl Write, err: &mut impl Write, c: Result<usize, Refusal>, made: &[u8]) -> io::Result<()>
     requires { MadeInside c (length made.now) }
 {
     match c {
-        Converted::Length(n) => print(out, err, &made[..n]),
-        Converted::Refused(r) => {
+        Ok(n) => print(out, err, &made[..n]),
+        Err(r) => {
             let _ = report::print_refusal(err, r);
             Ok(())
         }

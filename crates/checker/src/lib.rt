@@ -88,19 +88,19 @@ fn number_of(e: Entry) -> u32
 }
 
 // The verdict in the first four bytes, or why there is none.
-pub fn read_verdict(s: &[u8]) -> EntryRead
+pub fn read_verdict(s: &[u8]) -> Result<Entry, Refusal>
     ensures { told_entry result ≡ read_entry s.now }
 {
     if s.len() < VERDICT {
-        return EntryRead::Refused(Refusal::SheetShort);
+        return Err(Refusal::SheetShort);
     }
     let n = layout::read_half(s);
     let e = entry_of(n);
     let f = fault(e);
     if f == 0 {
-        return EntryRead::Good(e);
+        return Ok(e);
     }
-    EntryRead::Refused(Refusal::Field(f as u32))
+    Err(Refusal::Field(f as u32))
 }
 
 // The writer of a verdict: its number into the first four bytes.
@@ -111,64 +111,64 @@ fn write_number(n: u32, out: &mut [u8])
 }
 
 // The verdict into the first four bytes, or why not.
-pub fn write_verdict(e: Entry, out: &mut [u8]) -> Outcome
+pub fn write_verdict(e: Entry, out: &mut [u8]) -> Result<(), Refusal>
     ensures { Writes (write_entry e out.old) (told_outcome result) out.new }
 {
     if out.len() < VERDICT {
-        return Outcome::Refused(Refusal::OutputShort);
+        return Err(Refusal::OutputShort);
     }
     let f = fault(e);
     if f != 0 {
-        return Outcome::Refused(Refusal::Field(f as u32));
+        return Err(Refusal::Field(f as u32));
     }
     write_number(number_of(e), out);
-    Outcome::Fine
+    Ok(())
 }
 
 // Refusals 1 to 3, 9, 4 and 5: the header of the sheet, for an output of so many bytes.
-fn header_for(sheet: &[u8], room: usize) -> HeaderRead
+fn header_for(sheet: &[u8], room: usize) -> Result<Header, Refusal>
     ensures { told_header result ≡ header_for sheet.now room }
 {
     let read = header::read_header(sheet);
     match read {
-        HeaderRead::Refused(x) => HeaderRead::Refused(x),
-        HeaderRead::Good(h) => {
+        Err(x) => Err(x),
+        Ok(h) => {
             let n = h.count as usize;
             let size = h.size();
             let whole = size + RECORD * n;
             let slender = h.too_slender();
             if slender {
-                return HeaderRead::Refused(Refusal::TooSlender);
+                return Err(Refusal::TooSlender);
             }
             if sheet.len() != whole {
-                return HeaderRead::Refused(Refusal::SheetLength);
+                return Err(Refusal::SheetLength);
             }
             if room < VERDICT * n {
-                return HeaderRead::Refused(Refusal::OutputShort);
+                return Err(Refusal::OutputShort);
             }
-            HeaderRead::Good(h)
+            Ok(h)
         }
     }
 }
 
 // Refusals 6 to 8 of record i, in its sixteen bytes, after a record with the id `before`.
-fn sound_after(bytes: &[u8], i: u16, before: u16) -> RecordRead
+fn sound_after(bytes: &[u8], i: u16, before: u16) -> Result<Record, Refusal>
     ensures { told_record result ≡ sound_after i before bytes.now }
 {
     let read = record::read_record_as(bytes, i);
     match read {
-        RecordRead::Refused(x) => RecordRead::Refused(x),
-        RecordRead::Good(r) => {
+        Err(x) => Err(x),
+        Ok(r) => {
             if r.id <= before {
-                return RecordRead::Refused(Refusal::Order(i as u32));
+                return Err(Refusal::Order(i as u32));
             }
-            RecordRead::Good(r)
+            Ok(r)
         }
     }
 }
 
 // The same of record i among the bytes of all records.
-fn sound_at(records: &[u8], i: u16, before: u16) -> RecordRead
+fn sound_at(records: &[u8], i: u16, before: u16) -> Result<Record, Refusal>
     requires { 16 * i + 16 ≤ length records.now }
     ensures { told_record result ≡ sound_after i before (record_part records.now i) }
 {
@@ -178,7 +178,7 @@ fn sound_at(records: &[u8], i: u16, before: u16) -> RecordRead
 }
 
 // Refusals 6 to 8 of the first n records, each finished before the next.
-fn records_sound(records: &[u8], n: u16) -> Outcome
+fn records_sound(records: &[u8], n: u16) -> Result<(), Refusal>
     requires { 16 * n ≤ length records.now }
     ensures { told_outcome result ≡ records_sound records.now n }
 {
@@ -187,29 +187,29 @@ fn records_sound(records: &[u8], n: u16) -> Outcome
     while i < n {
         let read = sound_at(records, i, before);
         let r = match read {
-            RecordRead::Refused(x) => {
-                return Outcome::Refused(x);
+            Err(x) => {
+                return Err(x);
             }
-            RecordRead::Good(r) => r,
+            Ok(r) => r,
         };
         before = r.id;
         i += 1;
     }
-    Outcome::Fine
+    Ok(())
 }
 
 // The header of a sheet that is read and not judged, or the first of the table's refusals but 5, which is about an output.
-pub fn sound_header(sheet: &[u8]) -> HeaderRead
+pub fn sound_header(sheet: &[u8]) -> Result<Header, Refusal>
     ensures { told_header result ≡ sound_header sheet.now }
 {
     let read = header_for(sheet, LONGEST);
     match read {
-        HeaderRead::Refused(x) => HeaderRead::Refused(x),
-        HeaderRead::Good(h) => {
+        Err(x) => Err(x),
+        Ok(h) => {
             let found = records_sound(&sheet[h.size()..], h.count);
             match found {
-                Outcome::Refused(x) => HeaderRead::Refused(x),
-                Outcome::Fine => HeaderRead::Good(h),
+                Err(x) => Err(x),
+                Ok(()) => Ok(h),
             }
         }
     }
@@ -222,8 +222,8 @@ fn why_refused(bytes: &[u8], i: u16, before: u16) -> Refusal
 {
     let read = sound_after(bytes, i, before);
     match read {
-        RecordRead::Refused(x) => x,
-        RecordRead::Good(_) => Refusal::Order(i as u32),
+        Err(x) => x,
+        Ok(_) => Refusal::Order(i as u32),
     }
 }
 
@@ -241,27 +241,27 @@ fn entry_with(id: u16, v: Verdict, source: u8) -> Entry
 
 // The verdict on record i, in its sixteen bytes, after a record with the id `before`; or refusals 6 to 8. Judging tests the record's values, so that
 // the reader is asked only for the reason of a refusal.
-fn judged_after(h: Header, bytes: &[u8], i: u16, before: u16) -> EntryRead
+fn judged_after(h: Header, bytes: &[u8], i: u16, before: u16) -> Result<Entry, Refusal>
     requires { header_fault h ≡ 0 }
     ensures { told_entry result ≡ judged_after h i before bytes.now }
 {
     let raw = record::record_in(bytes);
     let r = raw.values;
     if raw.spare != 0 {
-        return EntryRead::Refused(why_refused(bytes, i, before));
+        return Err(why_refused(bytes, i, before));
     }
     let id = r.id;
     if id <= before {
-        return EntryRead::Refused(why_refused(bytes, i, before));
+        return Err(why_refused(bytes, i, before));
     }
     let judged = hull::judge(h, r);
-    let Judged::Verdict(v, source) = judged else {
-        return EntryRead::Refused(why_refused(bytes, i, before));
+    let Ok(Judged { verdict, source }) = judged else {
+        return Err(why_refused(bytes, i, before));
     };
-    EntryRead::Good(entry_with(id, v, source.number()))
+    Ok(entry_with(id, v, source.number()))
 }
 
-fn judged_at(h: Header, records: &[u8], i: u16, before: u16) -> EntryRead
+fn judged_at(h: Header, records: &[u8], i: u16, before: u16) -> Result<Entry, Refusal>
     requires { (header_fault h ≡ 0) × (16 * i + 16 ≤ length records.now) }
     ensures { told_entry result ≡ judged_after h i before (record_part records.now i) }
 {
@@ -285,7 +285,7 @@ enum Passed {
 }
 
 // The pass: each record is judged in turn and its verdict goes into the draft as a number, up to the first record that is turned away.
-fn judge_all(h: Header, records: &[u8], draft: &mut [u32]) -> Passed
+fn judge_all(h: Header, records: &[u8], draft: &mut [u32]) -> Result<u16, Refusal>
     requires { Ready h records.now (length draft.old) }
     ensures { told_passed result draft.new ≡ pass_over h records.now draft.old }
 {
@@ -297,17 +297,17 @@ fn judge_all(h: Header, records: &[u8], draft: &mut [u32]) -> Passed
     while i < count {
         let judged = judged_at(h, records, i, before);
         let e = match judged {
-            EntryRead::Refused(x) => {
-                return Passed::Refused(x);
+            Err(x) => {
+                return Err(x);
             }
-            EntryRead::Good(e) => e,
+            Ok(e) => e,
         };
         draft[i as usize] = number_of(e);
         failed += failing(e);
         before = e.id;
         i += 1;
     }
-    Passed::Fine(failed)
+    Ok(failed)
 }
 
 // Each verdict of the draft into its own four bytes of the output, which are lent on from its middle.
@@ -325,28 +325,28 @@ fn write_all(draft: &[u32], out: &mut [u8])
 }
 
 // The records of a sheet whose header is sound. The verdicts go into the output once none of them is turned away.
-fn judge_sheet(h: Header, sheet: &[u8], draft: &mut [u32], out: &mut [u8]) -> Checked
+fn judge_sheet(h: Header, sheet: &[u8], draft: &mut [u32], out: &mut [u8]) -> Result<Checked, Refusal>
     requires { (given h ≡ header_for sheet.now (length out.old)) × (h.count ≤ length draft.old) }
     ensures { Checks sheet.now out.old result out.new }
 {
     let passed = judge_all(h, &sheet[h.size()..], draft);
     match passed {
-        Passed::Refused(x) => Checked::Refused(x),
-        Passed::Fine(failed) => {
+        Err(x) => Err(x),
+        Ok(failed) => {
             write_all(&draft[..h.count as usize], out);
-            Checked::Done { n: h.count, failed }
+            Ok(Checked { n: h.count, failed })
         }
     }
 }
 
 // The whole sheet. A refusal leaves the output as it was lent; else each record's verdict stands in its own four bytes, and no other byte is touched.
-pub fn check(sheet: &[u8], out: &mut [u8]) -> Checked
+pub fn check(sheet: &[u8], out: &mut [u8]) -> Result<Checked, Refusal>
     ensures { Checks sheet.now out.old result out.new }
 {
     let read = header_for(sheet, out.len());
     match read {
-        HeaderRead::Refused(x) => Checked::Refused(x),
-        HeaderRead::Good(h) => {
+        Err(x) => Err(x),
+        Ok(h) => {
             let mut draft = [0u32; MOST as usize];
             judge_sheet(h, sheet, &mut draft, out)
         }

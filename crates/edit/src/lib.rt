@@ -21,11 +21,11 @@ pub enum Edited {
 }
 
 // The header of the sheet, or why it is turned away.
-fn sheet_at(buf: &[u8], len: usize) -> HeaderRead
+fn sheet_at(buf: &[u8], len: usize) -> Result<Header, Refusal>
     ensures { told_header result ≡ header_of buf.now len }
 {
     if buf.len() < len {
-        return HeaderRead::Refused(Refusal::SheetShort);
+        return Err(Refusal::SheetShort);
     }
     checker::sound_header(&buf[..len])
 }
@@ -89,26 +89,26 @@ fn take_out(buf: &mut [u8], len: usize, h: Header, i: u16)
 }
 
 // A sound record with a new id, which goes in at its place. The header's own test says whether n can go up.
-fn put_new(buf: &mut [u8], len: usize, h: Header, i: u16, r: Record) -> Edited
+fn put_new(buf: &mut [u8], len: usize, h: Header, i: u16, r: Record) -> Result<usize, Refusal>
     requires { Known buf.old len h × (record_fault r 0 ≡ 0) × (i ≡ place_in (records_part h buf.old) h.count r.id) × (has_in (records_part h buf.old) h.count r.id ≡ false) }
     ensures { Edits (put_in buf.old len r) buf.old result buf.new }
 {
     if buf.len() - len < RECORD {
-        return Edited::Refused(Refusal::NoRoom);
+        return Err(Refusal::NoRoom);
     }
     let more = counted(h, h.count + 1);
     let found = header::header_fault(more);
     match found {
-        Outcome::Refused(_) => Edited::Refused(Refusal::NoRoom),
-        Outcome::Fine => {
+        Err(_) => Err(Refusal::NoRoom),
+        Ok(()) => {
             insert(buf, len, more, i, r);
-            Edited::Length(len + RECORD)
+            Ok(len + RECORD)
         }
     }
 }
 
 // A sound record, which replaces the one with its id or goes in at its place.
-fn put_sound(buf: &mut [u8], len: usize, h: Header, r: Record) -> Edited
+fn put_sound(buf: &mut [u8], len: usize, h: Header, r: Record) -> Result<usize, Refusal>
     requires { Known buf.old len h × (record_fault r 0 ≡ 0) }
     ensures { Edits (put_in buf.old len r) buf.old result buf.new }
 {
@@ -118,30 +118,30 @@ fn put_sound(buf: &mut [u8], len: usize, h: Header, r: Record) -> Edited
     let i = find::place_of(&buf[size..], n, id);
     if find::has_at(&buf[size..], n, i, id) {
         replace(buf, h, i, r);
-        return Edited::Length(len);
+        return Ok(len);
     }
     put_new(buf, len, h, i, r)
 }
 
 // The record that thirteen numbers are into the sheet: it replaces the one with its id, or goes in at its place in the id order. A number that its field does not
 // allow is refused at that field, however great it is. A refusal changes no byte.
-pub fn put_numbers(buf: &mut [u8], len: usize, f: [u32; 13]) -> Edited
+pub fn put_numbers(buf: &mut [u8], len: usize, f: [u32; 13]) -> Result<usize, Refusal>
     ensures { Edits (put_numbers_in buf.old len f) buf.old result buf.new }
 {
     let read = sheet_at(buf, len);
     match read {
-        HeaderRead::Refused(x) => Edited::Refused(x),
-        HeaderRead::Good(h) => {
+        Err(x) => Err(x),
+        Ok(h) => {
             let taken = numbers::record_from(f, h.count);
             match taken {
-                RecordRead::Refused(x) => Edited::Refused(x),
-                RecordRead::Good(r) => put_sound(buf, len, h, r),
+                Err(x) => Err(x),
+                Ok(r) => put_sound(buf, len, h, r),
             }
         }
     }
 }
 
-fn remove_sound(buf: &mut [u8], len: usize, h: Header, id: u32) -> Edited
+fn remove_sound(buf: &mut [u8], len: usize, h: Header, id: u32) -> Result<usize, Refusal>
     requires { Known buf.old len h }
     ensures { Edits (remove_in buf.old len id) buf.old result buf.new }
 {
@@ -151,18 +151,18 @@ fn remove_sound(buf: &mut [u8], len: usize, h: Header, id: u32) -> Edited
     if find::has_at(&buf[size..], n, i, id) {
         let fewer = counted(h, n - 1);
         take_out(buf, len, fewer, i);
-        return Edited::Length(len - RECORD);
+        return Ok(len - RECORD);
     }
-    Edited::Refused(Refusal::NoSuchId)
+    Err(Refusal::NoSuchId)
 }
 
 // The record of an id out of the sheet: those after it close the gap, and the sixteen bytes that come free are zeroed. A refusal changes no byte.
-pub fn remove(buf: &mut [u8], len: usize, id: u32) -> Edited
+pub fn remove(buf: &mut [u8], len: usize, id: u32) -> Result<usize, Refusal>
     ensures { Edits (remove_in buf.old len id) buf.old result buf.new }
 {
     let read = sheet_at(buf, len);
     match read {
-        HeaderRead::Refused(x) => Edited::Refused(x),
-        HeaderRead::Good(h) => remove_sound(buf, len, h, id),
+        Err(x) => Err(x),
+        Ok(h) => remove_sound(buf, len, h, id),
     }
 }

@@ -167,23 +167,23 @@ fn member_work(h: Header, kind: u8, m: Member, load: Load) -> MemberWork
 }
 
 // How a member's scantlings are worked out, or why the header or the member's record is turned away.
-pub fn worked(h: Header, kind: u8, id: u16, m: Member) -> MemberWorked
+pub fn worked(h: Header, kind: u8, id: u16, m: Member) -> Result<MemberWork, Refusal>
     ensures { told_worked result ≡ judged_by h (of_member kind id m) (work_of h kind m) }
 {
     let admitted = verdict::admitted_member(h, kind, id, m);
-    if let Outcome::Refused(r) = admitted {
-        return MemberWorked::Refused(r);
+    if let Err(r) = admitted {
+        return Err(r);
     }
-    MemberWorked::Work(member_work(h, kind, m, member_load(h, kind, m)))
+    Ok(member_work(h, kind, m, member_load(h, kind, m)))
 }
 
 // The verdict on a member and what its pressure comes from, or why the header or the member's record is turned away.
-pub fn judge(h: Header, kind: u8, id: u16, m: Member) -> Judged
+pub fn judge(h: Header, kind: u8, id: u16, m: Member) -> Result<Judged, Refusal>
     ensures { told_judged result ≡ judged_by h (of_member kind id m) (member_finding h kind m) }
 {
     let admitted = verdict::admitted_member(h, kind, id, m);
-    if let Outcome::Refused(r) = admitted {
-        return Judged::Refused(r);
+    if let Err(r) = admitted {
+        return Err(r);
     }
     let load = member_load(h, kind, m);
     let source = load.source;

@@ -140,14 +140,14 @@ fn refuse(f: u8) -> Refusal
     }
 }
 
-pub fn header_fault(h: Header) -> Outcome
+pub fn header_fault(h: Header) -> Result<(), Refusal>
     ensures { told_outcome result ≡ header_refused (header_fault h) (given tt) }
 {
     let f = fault(h, 0, 0);
     if f == 0 {
-        return Outcome::Fine;
+        return Ok(());
     }
-    Outcome::Refused(refuse(f))
+    Err(refuse(f))
 }
 
 // How many bytes a header needs: twelve, in which its version stands, and the version's own where that goes with what the header holds.
@@ -164,24 +164,24 @@ fn needs(h: Header) -> usize
 }
 
 // The header in the first bytes, or why there is none. Its version is looked at before there have to be more than twelve bytes.
-pub fn read_header(s: &[u8]) -> HeaderRead
+pub fn read_header(s: &[u8]) -> Result<Header, Refusal>
     ensures { told_header result ≡ read_header s.now }
 {
     if s.len() < FIRST {
-        return HeaderRead::Refused(Refusal::SheetShort);
+        return Err(Refusal::SheetShort);
     }
     let n = layout::read_short(s);
     let rest = layout::read_word(&s[FIRST..]);
     let h = header_of(n, rest);
     let least = needs(h);
     if s.len() < least {
-        return HeaderRead::Refused(Refusal::SheetShort);
+        return Err(Refusal::SheetShort);
     }
     let f = fault(h, n.lo % 8, (rest % P27) as u32);
     if f == 0 {
-        return HeaderRead::Good(h);
+        return Ok(h);
     }
-    HeaderRead::Refused(refuse(f))
+    Err(refuse(f))
 }
 
 // What a version has of its own, as a number.
@@ -208,19 +208,19 @@ fn write_own(own: Own, out: &mut [u8])
 }
 
 // The header into the first bytes, or why not.
-pub fn write_header(h: Header, out: &mut [u8]) -> Outcome
+pub fn write_header(h: Header, out: &mut [u8]) -> Result<(), Refusal>
     ensures { Writes (write_header h out.old) (told_outcome result) out.new }
 {
     let least = needs(h);
     if out.len() < least {
-        return Outcome::Refused(Refusal::OutputShort);
+        return Err(Refusal::OutputShort);
     }
     let f = fault(h, 0, 0);
     if f != 0 {
-        return Outcome::Refused(refuse(f));
+        return Err(refuse(f));
     }
     layout::write_short(out, number_of(h));
     let own = h.own;
     write_own(own, &mut out[FIRST..]);
-    Outcome::Fine
+    Ok(())
 }

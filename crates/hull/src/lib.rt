@@ -9,7 +9,7 @@ use sheet::{Body, Header, Record};
 use verdict::Judged;
 
 // The verdict and what the record's pressure comes from, or why the header or the record is turned away.
-pub fn judge(h: Header, r: Record) -> Judged
+pub fn judge(h: Header, r: Record) -> Result<Judged, Refusal>
     ensures { told_judged result ≡ judged_by h r (finding h r) }
 {
     let kind = r.kind;

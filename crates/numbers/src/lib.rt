@@ -125,19 +125,19 @@ pub fn record_numbers(r: Record) -> [u32; 13]
 
 // What was found at fault, or the refusal of a field that was tested by itself, 0 being none, where that stands earlier: the place grows with the field, and
 // that of a first field is below all others.
-fn earlier(found: Outcome, field: u8, here: Refusal) -> Outcome
+fn earlier(found: Result<(), Refusal>, field: u8, here: Refusal) -> Result<(), Refusal>
     ensures { told_outcome result ≡ cond (eqb field 0) (told_outcome found) (earlier_of (told_outcome found) (number_of here) (place_of here)) }
 {
     if field == 0 {
         return found;
     }
     match found {
-        Outcome::Fine => Outcome::Refused(here),
-        Outcome::Refused(r) => {
+        Ok(()) => Err(here),
+        Err(r) => {
             if r.place() < here.place() {
-                return Outcome::Refused(r);
+                return Err(r);
             }
-            Outcome::Refused(here)
+            Err(here)
         }
     }
 }
@@ -203,7 +203,7 @@ fn header_apart(f: [u32; 10]) -> u8
 }
 
 // The header that numbers are, or why they are none.
-pub fn header_from(f: [u32; 10]) -> HeaderRead
+pub fn header_from(f: [u32; 10]) -> Result<Header, Refusal>
     ensures { told_header result ≡ header_from f }
 {
     let h = header_held(f);
@@ -212,8 +212,8 @@ pub fn header_from(f: [u32; 10]) -> HeaderRead
     let place = field as u32;
     let fault = earlier(found, field, Refusal::HeaderField(place));
     match fault {
-        Outcome::Fine => HeaderRead::Good(h),
-        Outcome::Refused(r) => HeaderRead::Refused(r),
+        Ok(()) => Ok(h),
+        Err(r) => Err(r),
     }
 }
 
@@ -313,7 +313,7 @@ fn record_apart(f: [u32; 13]) -> u8
 }
 
 // The record that numbers are, as record i of a sheet, or why they are none.
-pub fn record_from(f: [u32; 13], i: u16) -> RecordRead
+pub fn record_from(f: [u32; 13], i: u16) -> Result<Record, Refusal>
     ensures { told_record result ≡ record_from i f }
 {
     let a = record_held(f);
@@ -322,7 +322,7 @@ pub fn record_from(f: [u32; 13], i: u16) -> RecordRead
     let place = 32 * i as u32 + field as u32;
     let fault = earlier(found, field, Refusal::Field(place));
     match fault {
-        Outcome::Fine => RecordRead::Good(a),
-        Outcome::Refused(r) => RecordRead::Refused(r),
+        Ok(()) => Ok(a),
+        Err(r) => Err(r),
     }
 }

@@ -219,8 +219,8 @@ fn plate_explained(h: Header, kind: u8, id: u16, p: Plate) -> Work
 {
     let worked = plating::worked(h, kind, id, p);
     match worked {
-        PlateWorked::Refused(r) => refused(r),
-        PlateWorked::Work(w) => plate_work(h, kind, id, p, w),
+        Err(r) => refused(r),
+        Ok(w) => plate_work(h, kind, id, p, w),
     }
 }
 
@@ -229,8 +229,8 @@ fn member_explained(h: Header, kind: u8, id: u16, m: Member) -> Work
 {
     let worked = framing::worked(h, kind, id, m);
     match worked {
-        MemberWorked::Refused(r) => refused(r),
-        MemberWorked::Work(w) => member_work(h, kind, id, m, w),
+        Err(r) => refused(r),
+        Ok(w) => member_work(h, kind, id, m, w),
     }
 }
 

@@ -278,23 +278,23 @@ fn plate_work(h: Header, kind: u8, p: Plate, load: Load) -> PlateWork
 }
 
 // How a plate's thickness is worked out, or why the header or the plate's record is turned away.
-pub fn worked(h: Header, kind: u8, id: u16, p: Plate) -> PlateWorked
+pub fn worked(h: Header, kind: u8, id: u16, p: Plate) -> Result<PlateWork, Refusal>
     ensures { told_worked result ≡ judged_by h (of_plate kind id p) (work_of h kind p) }
 {
     let admitted = verdict::admitted_plate(h, kind, id, p);
-    if let Outcome::Refused(r) = admitted {
-        return PlateWorked::Refused(r);
+    if let Err(r) = admitted {
+        return Err(r);
     }
-    PlateWorked::Work(plate_work(h, kind, p, load(h, kind, p)))
+    Ok(plate_work(h, kind, p, load(h, kind, p)))
 }
 
 // The verdict on a plate and what its pressure comes from, or why the header or the plate's record is turned away.
-pub fn judge(h: Header, kind: u8, id: u16, p: Plate) -> Judged
+pub fn judge(h: Header, kind: u8, id: u16, p: Plate) -> Result<Judged, Refusal>
     ensures { told_judged result ≡ judged_by h (of_plate kind id p) (plate_finding h kind p) }
 {
     let admitted = verdict::admitted_plate(h, kind, id, p);
-    if let Outcome::Refused(r) = admitted {
-        return Judged::Refused(r);
+    if let Err(r) = admitted {
+        return Err(r);
     }
     let load = load(h, kind, p);
     let source = load.source;

@@ -86,50 +86,50 @@ fn refuse(i: u16, f: u8) -> Refusal
 }
 
 // What the first fault of record i says, or nothing where there is none.
-fn outcome(i: u16, f: u8) -> Outcome
+fn outcome(i: u16, f: u8) -> Result<(), Refusal>
     ensures { told_outcome result ≡ record_refused i f (given tt) }
 {
     if f == 0 {
-        return Outcome::Fine;
+        return Ok(());
     }
-    Outcome::Refused(refuse(i, f))
+    Err(refuse(i, f))
 }
 
 // The first fault of a record that is record i of a sheet.
-pub fn record_fault(r: Record, i: u16) -> Outcome
+pub fn record_fault(r: Record, i: u16) -> Result<(), Refusal>
     ensures { told_outcome result ≡ record_refused i (record_fault r 0) (given tt) }
 {
     outcome(i, fault(r, 0))
 }
 
 // `record_fault` of a plate that stands as record 0.
-pub fn plate_outcome(kind: u8, id: u16, p: Plate) -> Outcome
+pub fn plate_outcome(kind: u8, id: u16, p: Plate) -> Result<(), Refusal>
     ensures { told_outcome result ≡ record_refused 0 (record_fault (of_plate kind id p) 0) (given tt) }
 {
     outcome(0, plate::fault(kind, id, p, 0))
 }
 
 // `record_fault` of a member that stands as record 0.
-pub fn member_outcome(kind: u8, id: u16, m: Member) -> Outcome
+pub fn member_outcome(kind: u8, id: u16, m: Member) -> Result<(), Refusal>
     ensures { told_outcome result ≡ record_refused 0 (record_fault (of_member kind id m) 0) (given tt) }
 {
     outcome(0, member::fault(kind, id, m))
 }
 
 // The record in the first sixteen bytes, as record i of a sheet, or why there is none.
-pub fn read_record_as(s: &[u8], i: u16) -> RecordRead
+pub fn read_record_as(s: &[u8], i: u16) -> Result<Record, Refusal>
     ensures { told_record result ≡ read_record i s.now }
 {
     if s.len() < 16 {
-        return RecordRead::Refused(Refusal::SheetShort);
+        return Err(Refusal::SheetShort);
     }
     let n = layout::read_long(s);
     let r = record_of(n);
     let f = fault(r, spare_of(n));
     if f == 0 {
-        return RecordRead::Good(r);
+        return Ok(r);
     }
-    RecordRead::Refused(refuse(i, f))
+    Err(refuse(i, f))
 }
 
 // The record in the first sixteen bytes as it stands, for whoever has it judged next; fewer bytes are read as 0.
@@ -143,23 +143,23 @@ pub fn record_in(s: &[u8]) -> Raw
 }
 
 // `read_record_as` of a record alone, which is record 0.
-pub fn read_record(s: &[u8]) -> RecordRead
+pub fn read_record(s: &[u8]) -> Result<Record, Refusal>
     ensures { told_record result ≡ read_record 0 s.now }
 {
     read_record_as(s, 0)
 }
 
 // The record into the first sixteen bytes, or why not.
-pub fn write_record(r: Record, out: &mut [u8]) -> Outcome
+pub fn write_record(r: Record, out: &mut [u8]) -> Result<(), Refusal>
     ensures { Writes (write_record r out.old) (told_outcome result) out.new }
 {
     if out.len() < 16 {
-        return Outcome::Refused(Refusal::OutputShort);
+        return Err(Refusal::OutputShort);
     }
     let f = fault(r, 0);
     if f != 0 {
-        return Outcome::Refused(refuse(0, f));
+        return Err(refuse(0, f));
     }
     layout::write_long(out, number_of(r));
-    Outcome::Fine
+    Ok(())
 }

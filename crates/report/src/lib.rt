@@ -69,8 +69,8 @@ fn put_verdict(verdict: &[u8], page: &mut [u8], at: usize) -> usize
 {
     let read = checker::read_verdict(verdict);
     match read {
-        EntryRead::Good(e) => put_entry(page, at, e),
-        EntryRead::Refused(_) => at,
+        Ok(e) => put_entry(page, at, e),
+        Err(_) => at,
     }
 }
 
@@ -105,8 +105,8 @@ fn put_checked(checked: Checked, out: &[u8], page: &mut [u8]) -> usize
     ensures { Laid page.old 0 (checked_text checked out.now) result page.new }
 {
     match checked {
-        Checked::Refused(r) => put_refusal(page, r),
-        Checked::Done { n, failed } => {
+        Err(r) => put_refusal(page, r),
+        Ok(Checked { n, failed }) => {
             let at = put_verdicts(out, n, page);
             put_pair(page, at, n as u32, failed as u32, b"\n")
         }
@@ -125,19 +125,19 @@ pub fn page_of(sheet: &[u8]) -> Page
 }
 
 // A text into the front of a lent slice; too short a slice is refused and stays as it is.
-fn tell(line: &[u8], text: &mut [u8]) -> Told
+fn tell(line: &[u8], text: &mut [u8]) -> Result<usize, Refusal>
     ensures { Tells line.now text.old result text.new }
 {
     let len = line.len();
     if text.len() < len {
-        return Told::Refused(Refusal::OutputShort);
+        return Err(Refusal::OutputShort);
     }
     decimal::write_text(line, text);
-    Told::Length(len)
+    Ok(len)
 }
 
 // So the text of the answer to a sheet.
-pub fn write_answer(sheet: &[u8], text: &mut [u8]) -> Told
+pub fn write_answer(sheet: &[u8], text: &mut [u8]) -> Result<usize, Refusal>
     ensures { Tells (text_of sheet.now) text.old result text.new }
 {
     let page = page_of(sheet);
@@ -147,7 +147,7 @@ pub fn write_answer(sheet: &[u8], text: &mut [u8]) -> Told
 }
 
 // And so a refusal's line.
-pub fn write_refusal(r: Refusal, text: &mut [u8]) -> Told
+pub fn write_refusal(r: Refusal, text: &mut [u8]) -> Result<usize, Refusal>
     ensures { TellsRefusal r text.old result text.new }
 {
     let mut bytes = [0u8; REFUSAL];

@@ -51,7 +51,7 @@ fn next_line(line: u32) -> u32
 }
 
 // The lines from a place on, each a record's, behind the header's bytes.
-fn put_records(text: &[u8], at: usize, filled: bool, draft: &mut [u8], head: usize) -> Made
+fn put_records(text: &[u8], at: usize, filled: bool, draft: &mut [u8], head: usize) -> Result<usize, Refusal>
     requires { (length draft.old ≡ draft_size) × (head ≤ length draft.old) }
     ensures { Fills (records_made 2 (lines_left filled text.now at)) (take head draft.old) result draft.new }
 {
@@ -68,25 +68,25 @@ fn put_records(text: &[u8], at: usize, filled: bool, draft: &mut [u8], head: usi
                 here = next;
             }
             RowEnd::Last => {
-                return Made::Length(put_row(row, draft, end));
+                return Ok(put_row(row, draft, end));
             }
             RowEnd::Refused(x) => {
-                return Made::Refused(x);
+                return Err(x);
             }
         }
     }
 }
 
 // All lines.
-fn put_lines(text: &[u8], filled: bool, draft: &mut [u8]) -> Made
+fn put_lines(text: &[u8], filled: bool, draft: &mut [u8]) -> Result<usize, Refusal>
     requires { length draft.old ≡ draft_size }
     ensures { Fills (sheet_made (lines_left filled text.now 0)) [] result draft.new }
 {
     let row = rows::header_at(text, filled);
     let ended = row.end;
     match ended {
-        RowEnd::Refused(x) => Made::Refused(x),
-        RowEnd::Last => Made::Length(put_row(row, draft, 0)),
+        RowEnd::Refused(x) => Err(x),
+        RowEnd::Last => Ok(put_row(row, draft, 0)),
         RowEnd::More(next) => {
             let head = put_row(row, draft, 0);
             put_records(text, next, filled, draft, head)
@@ -95,42 +95,42 @@ fn put_lines(text: &[u8], filled: bool, draft: &mut [u8]) -> Made
 }
 
 // Bytes into the front of the output, which is refused with 5 where it is too short for them.
-fn tell(bytes: &[u8], out: &mut [u8]) -> Converted
+fn tell(bytes: &[u8], out: &mut [u8]) -> Result<usize, Refusal>
     ensures { Converts (fits_in bytes.now (length out.old)) out.old result out.new }
 {
     let len = bytes.len();
     if out.len() < len {
-        return Converted::Refused(Refusal::OutputShort);
+        return Err(Refusal::OutputShort);
     }
     decimal::write_text(bytes, out);
-    Converted::Length(len)
+    Ok(len)
 }
 
 // The sheet that the lines made, by the table.
-fn tell_sheet(sheet: &[u8], out: &mut [u8]) -> Converted
+fn tell_sheet(sheet: &[u8], out: &mut [u8]) -> Result<usize, Refusal>
     ensures { Converts (sound_in sheet.now (length out.old)) out.old result out.new }
 {
     let read = checker::sound_header(sheet);
     match read {
-        HeaderRead::Refused(x) => Converted::Refused(x),
-        HeaderRead::Good(_) => tell(sheet, out),
+        Err(x) => Err(x),
+        Ok(_) => tell(sheet, out),
     }
 }
 
 // The sheet that the lines of a text are, with their filling or without.
-fn read_lines(text: &[u8], filled: bool, out: &mut [u8]) -> Converted
+fn read_lines(text: &[u8], filled: bool, out: &mut [u8]) -> Result<usize, Refusal>
     ensures { Converts (sheet_of (lines_left filled text.now 0) (length out.old)) out.old result out.new }
 {
     let mut draft = [0u8; DRAFT];
     let made = put_lines(text, filled, &mut draft);
     match made {
-        Made::Refused(x) => Converted::Refused(x),
-        Made::Length(len) => tell_sheet(&draft[..len], out),
+        Err(x) => Err(x),
+        Ok(len) => tell_sheet(&draft[..len], out),
     }
 }
 
 // A text into a sheet. A refusal leaves the output as it was lent; else the sheet stands in front, and no other byte is touched.
-pub fn read_sheet(text: &[u8], out: &mut [u8]) -> Converted
+pub fn read_sheet(text: &[u8], out: &mut [u8]) -> Result<usize, Refusal>
     ensures { Converts (sheet_from text.now (length out.old)) out.old result out.new }
 {
     read_lines(text, false, out)
@@ -148,12 +148,12 @@ fn is_by_line(x: Refusal) -> bool
 }
 
 // Whether a refusal by a line stands whatever the second look says.
-fn does_stand(x: Refusal, second: Converted) -> bool
+fn does_stand(x: Refusal, second: Result<usize, Refusal>) -> bool
     ensures { result ≡ stands (number_of x) (place_of x) (told_converted second) }
 {
     match second {
-        Converted::Length(_) => false,
-        Converted::Refused(y) => {
+        Ok(_) => false,
+        Err(y) => {
             if x.number() == 14 {
                 if y.number() == 15 {
                     return y.place() == x.place();
@@ -165,13 +165,13 @@ fn does_stand(x: Refusal, second: Converted) -> bool
 }
 
 // A table that a spreadsheet program saved into a sheet, likewise: where a line is at fault, it is looked at again without its filling.
-pub fn read_table(text: &[u8], out: &mut [u8]) -> Converted
+pub fn read_table(text: &[u8], out: &mut [u8]) -> Result<usize, Refusal>
     ensures { Converts (table_from text.now (length out.old)) out.old result out.new }
 {
     let first = read_lines(text, false, out);
     match first {
-        Converted::Length(_) => first,
-        Converted::Refused(x) => {
+        Ok(_) => first,
+        Err(x) => {
             if !is_by_line(x) {
                 return first;
             }
@@ -185,13 +185,13 @@ pub fn read_table(text: &[u8], out: &mut [u8]) -> Converted
 }
 
 // A sheet into text, likewise.
-pub fn write_text(sheet: &[u8], out: &mut [u8]) -> Converted
+pub fn write_text(sheet: &[u8], out: &mut [u8]) -> Result<usize, Refusal>
     ensures { Converts (text_from sheet.now (length out.old)) out.old result out.new }
 {
     let read = checker::sound_header(sheet);
     match read {
-        HeaderRead::Refused(x) => Converted::Refused(x),
-        HeaderRead::Good(h) => {
+        Err(x) => Err(x),
+        Ok(h) => {
             let mut page = [0u8; LONGEST];
             let at = page::put_header(&mut page, h);
             let len = page::put_records(&sheet[h.size()..], h.count, &mut page, at);

@@ -75,8 +75,8 @@ fn put_record(bytes: &[u8], page: &mut [u8], at: usize) -> usize
 {
     let read = record::read_record(bytes);
     match read {
-        RecordRead::Refused(_) => at,
-        RecordRead::Good(r) => {
+        Err(_) => at,
+        Ok(r) => {
             let count = record_count(r.kind);
             let nums = numbers::record_numbers(r);
             put_line(page, at, nums, count)

@@ -14,7 +14,7 @@ use std::io::{Read, Write};
 // What is printed of an edit, and the length that the next one finds.
 #[derive(Drop)]
 struct Done {
-    answer: Converted,
+    answer: Result<usize, Refusal>,
     len: usize,
 }
 
@@ -25,7 +25,7 @@ enum Next {
 }
 
 // The edit that a form asks for.
-fn edited(buf: &mut [u8], len: usize, form: &[u8]) -> Edited
+fn edited(buf: &mut [u8], len: usize, form: &[u8]) -> Result<usize, Refusal>
     requires { 56 ≤ length form.now }
     ensures { Edits (asked_edit form.now buf.old len) buf.old result buf.new }
 {
@@ -37,16 +37,16 @@ fn edited(buf: &mut [u8], len: usize, form: &[u8]) -> Edited
     edit::remove(buf, len, id)
 }
 
-fn done_by(len: usize, e: Edited) -> Done
+fn done_by(len: usize, e: Result<usize, Refusal>) -> Done
     ensures { IsDone len e result }
 {
     match e {
-        Edited::Length(n) => Done {
-            answer: Converted::Length(n),
+        Ok(n) => Done {
+            answer: Ok(n),
             len: n,
         },
-        Edited::Refused(r) => Done {
-            answer: Converted::Refused(r),
+        Err(r) => Done {
+            answer: Err(r),
             len,
         },
     }

@@ -60,24 +60,24 @@ pub fn fields(form: &[u8]) -> [u32; 13]
 }
 
 // The line of an answer: a length, or a refusal.
-pub fn put_line(c: Converted, line: &mut [u8]) -> usize
+pub fn put_line(c: Result<usize, Refusal>, line: &mut [u8]) -> usize
     requires { (22 ≤ length line.old) × ShortLine (told_converted c) }
     ensures { Laid line.old 0 (line_for (told_converted c)) result line.new }
 {
     match c {
-        Converted::Length(n) => decimal::write_number(n as u64, b"\n", line),
-        Converted::Refused(x) => {
+        Ok(n) => decimal::write_number(n as u64, b"\n", line),
+        Err(x) => {
             let told = report::write_refusal(x, line);
             match told {
-                Told::Length(len) => len,
-                Told::Refused(_) => 0,
+                Ok(len) => len,
+                Err(_) => 0,
             }
         }
     }
 }
 
 // The line, and the bytes that it speaks of.
-pub fn print(out: &mut impl Write, c: Converted, bytes: &[u8]) -> io::Result<()>
+pub fn print(out: &mut impl Write, c: Result<usize, Refusal>, bytes: &[u8]) -> io::Result<()>
     requires { ShortLine (told_converted c) }
 {
     let mut line = [0u8; LINE];

@@ -14,11 +14,11 @@ fn put_apart(sheet: &[u8], text: &mut [u8]) -> usize
 {
     let told = report::write_answer(sheet, text);
     match told {
-        Told::Length(len) => {
+        Ok(len) => {
             text[len] = b'\n';
             len + 1
         }
-        Told::Refused(_) => 0,
+        Err(_) => 0,
     }
 }
 

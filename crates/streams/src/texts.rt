@@ -9,7 +9,7 @@ use sheet_csv::Converted;
 use std::io;
 use std::io::Write;
 
-fn converted(what: u32, input: &[u8], out: &mut [u8]) -> Converted
+fn converted(what: u32, input: &[u8], out: &mut [u8]) -> Result<usize, Refusal>
     ensures { Converts (asked what input.now (length out.old)) out.old result out.new }
 {
     if what == 0 {

@@ -35,23 +35,23 @@ pub fn failed(rule: u8, d: Shape, top: u32) -> Verdict
 }
 
 // Whether a header and a plate's record are within their values, so that the plate can be judged: the header first, then the record as record 0.
-pub fn admitted_plate(h: Header, kind: u8, id: u16, p: Plate) -> Outcome
+pub fn admitted_plate(h: Header, kind: u8, id: u16, p: Plate) -> Result<(), Refusal>
     ensures { told_outcome result ≡ judged_by h (of_plate kind id p) tt }
 {
     let first = header::header_fault(h);
     match first {
-        Outcome::Refused(x) => Outcome::Refused(x),
-        Outcome::Fine => record::plate_outcome(kind, id, p),
+        Err(x) => Err(x),
+        Ok(()) => record::plate_outcome(kind, id, p),
     }
 }
 
 // The same for a member's record.
-pub fn admitted_member(h: Header, kind: u8, id: u16, m: Member) -> Outcome
+pub fn admitted_member(h: Header, kind: u8, id: u16, m: Member) -> Result<(), Refusal>
     ensures { told_outcome result ≡ judged_by h (of_member kind id m) tt }
 {
     let first = header::header_fault(h);
     match first {
-        Outcome::Refused(x) => Outcome::Refused(x),
-        Outcome::Fine => record::member_outcome(kind, id, m),
+        Err(x) => Err(x),
+        Ok(()) => record::member_outcome(kind, id, m),
     }
 }

@@ -36,12 +36,12 @@ fn packed_refusal(r: Refusal) -> u64
     number * NUMBER + r.place() as u64
 }
 
-fn packed_outcome(o: Outcome) -> u64
+fn packed_outcome(o: Result<(), Refusal>) -> u64
     ensures { result ≡ fine (told_outcome o) }
 {
     match o {
-        Outcome::Fine => 0,
-        Outcome::Refused(r) => packed_refusal(r),
+        Ok(()) => 0,
+        Err(r) => packed_refusal(r),
     }
 }
 
@@ -49,8 +49,8 @@ fn packed_checked(c: Checked) -> u64
     ensures { result ≡ packed (told_checked c) }
 {
     match c {
-        Checked::Done { n, failed } => (n as u64) * COUNT + failed as u64,
-        Checked::Refused(r) => packed_refusal(r),
+        Ok(Checked { n, failed }) => (n as u64) * COUNT + failed as u64,
+        Err(r) => packed_refusal(r),
     }
 }
 
@@ -74,8 +74,8 @@ pub fn yard_read_verdict(bytes: &[u8], fields: &mut [u32; 4]) -> u64
 {
     let read = checker::read_verdict(bytes);
     match read {
-        EntryRead::Refused(x) => packed_refusal(x),
-        EntryRead::Good(e) => {
+        Err(x) => packed_refusal(x),
+        Ok(e) => {
             *fields = entry_numbers(e);
             0
         }
@@ -87,8 +87,8 @@ pub fn yard_read_header(bytes: &[u8], fields: &mut [u32; 10]) -> u64
 {
     let read = header::read_header(bytes);
     match read {
-        HeaderRead::Refused(x) => packed_refusal(x),
-        HeaderRead::Good(h) => {
+        Err(x) => packed_refusal(x),
+        Ok(h) => {
             *fields = numbers::header_numbers(h);
             0
         }
@@ -100,8 +100,8 @@ pub fn yard_read_record(bytes: &[u8], fields: &mut [u32; 13]) -> u64
 {
     let read = record::read_record(bytes);
     match read {
-        RecordRead::Refused(x) => packed_refusal(x),
-        RecordRead::Good(r) => {
+        Err(x) => packed_refusal(x),
+        Ok(r) => {
             *fields = numbers::record_numbers(r);
             0
         }
@@ -117,8 +117,8 @@ pub fn yard_write_header(fields: &[u32; 10], out: &mut [u8]) -> u64
     }
     let taken = numbers::header_from(*fields);
     match taken {
-        HeaderRead::Refused(x) => packed_refusal(x),
-        HeaderRead::Good(h) => packed_outcome(header::write_header(h, out)),
+        Err(x) => packed_refusal(x),
+        Ok(h) => packed_outcome(header::write_header(h, out)),
     }
 }
 
@@ -130,17 +130,17 @@ pub fn yard_write_record(fields: &[u32; 13], out: &mut [u8]) -> u64
     }
     let taken = numbers::record_from(*fields, 0);
     match taken {
-        RecordRead::Refused(x) => packed_refusal(x),
-        RecordRead::Good(r) => packed_outcome(record::write_record(r, out)),
+        Err(x) => packed_refusal(x),
+        Ok(r) => packed_outcome(record::write_record(r, out)),
     }
 }
 
-fn packed_edited(e: Edited) -> u64
+fn packed_edited(e: Result<usize, Refusal>) -> u64
     ensures { result ≡ resized (told_edited e) }
 {
     match e {
-        Edited::Length(n) => n as u64,
-        Edited::Refused(r) => packed_refusal(r),
+        Ok(n) => n as u64,
+        Err(r) => packed_refusal(r),
     }
 }
 
@@ -156,12 +156,12 @@ pub fn yard_remove(buf: &mut [u8], len: usize, id: u32) -> u64
     packed_edited(edit::remove(buf, len, id))
 }
 
-fn packed_converted(c: Converted) -> u64
+fn packed_converted(c: Result<usize, Refusal>) -> u64
     ensures { result ≡ resized (told_converted c) }
 {
     match c {
-        Converted::Length(n) => n as u64,
-        Converted::Refused(r) => packed_refusal(r),
+        Ok(n) => n as u64,
+        Err(r) => packed_refusal(r),
     }
 }
 
