@@ -1,10 +1,8 @@
 -- What the program prints of a sheet that is not turned away, and what its own contracts say.
-use Rattle.std.specs.Prelude.{ℕ, zero, suc, ◌≤◌, ◌≡◌, Bool, true, false, ◌||◌, cond, List, [], ◌∷◌, ◌++◌, length, take, eqb}
+use Rattle.std.specs.Prelude.{ℕ, zero, suc, ◌≤◌, ◌≡◌, Bool, true, false, ◌||◌, cond, List, [], ◌∷◌, ◌++◌, length, take, eqb, Result, Ok, Err}
 use Rattle.std.specs.Prelude.{Option}
 use Rattle.std.specs.Io.KnownBytes.{Appends}
 use Rattle.sheet.specs.declared.Header.{Header}
-use Rattle.sheet.specs.declared.HeaderRead.{HeaderRead}
-use Rattle.sheet.specs.declared.HeaderRead.TheVariants.{Good, Refused as notRead}
 use Rattle.sheet.specs.declared.Record.{Record}
 use Rattle.sheet.specs.Refusals.{Answer, given, refused}
 use Rattle.checker.specs.Check.{sheet_size, record_of}
@@ -12,11 +10,12 @@ use Rattle.wording.specs.Writes.{text_of}
 use Rattle.pencil.specs.Templates.{head_words}
 use Rattle.pencil.specs.Trail.{trail_text}
 use Rattle.barge_explain.specs.declared.Piece.{Piece}
+use Rattle.sheet.specs.declared.Refusal.{Refusal}
 
 -- the sheet has as many bytes as the header that was read says
-abbrev pub Sized : HeaderRead → ℕ → Type 0
-Sized (Good h) got = sheet_size h ≡ got
-Sized (notRead r) got = Unit
+abbrev pub Sized : Result Header Refusal → ℕ → Type 0
+Sized (Ok h) got = sheet_size h ≡ got
+Sized (Err r) got = Unit
 
 -- what stands before a trail: the head and an empty line before the first, an empty line before each other
 abbrev pub lead_pieces : (begun : Bool) → List (List ℕ)

@@ -1,21 +1,20 @@
 -- What is known of what is made of an input, and what is printed of a text.
-use Rattle.std.specs.Prelude.{ℕ, ◌≤◌, ◌≡◌, cond, List, length, take, eqb}
+use Rattle.std.specs.Prelude.{ℕ, ◌≤◌, ◌≡◌, cond, List, length, take, eqb, Result, Ok, Err}
 use Rattle.sheet.specs.Versions.{longest_sheet}
 use Rattle.sheet.specs.Refusals.{Answer, given, refused}
 use Rattle.checker.specs.Check.{◌then◌}
 use Rattle.report.specs.declared.Page.{Page}
 use Rattle.report.specs.Text.{printed, text_by, text_of}
 use Rattle.report.specs.Pieces.{refusal_text}
-use Rattle.sheet_csv.specs.declared.Converted.{Converted}
-use Rattle.sheet_csv.specs.declared.Converted.TheVariants.{Length, Refused as notConverted}
 use Rattle.sheet_csv.specs.Read.{length_of}
 use Rattle.sheet_csv.specs.Table.{table_from}
 use Rattle.barge_text.specs.declared.Reply.{Reply}
+use Rattle.sheet.specs.declared.Refusal.{Refusal}
 
 -- what was made is in an output of so many bytes
-abbrev pub MadeInside : Converted → (size : ℕ) → Type 0
-MadeInside (Length n) size = n ≤ size
-MadeInside (notConverted r) size = Unit {0}
+abbrev pub MadeInside : Result ℕ Refusal → (size : ℕ) → Type 0
+MadeInside (Ok n) size = n ≤ size
+MadeInside (Err r) size = Unit {0}
 
 -- the line that an answer is turned away by, which 14 and 15 name; 0 where there is none
 abbrev pub line_in : Answer ℕ → ℕ
@@ -29,9 +28,9 @@ unfoldable pub printed_text : List ℕ → List ℕ
 printed_text s = text_by (table_from s longest_sheet then printed)
 
 -- the same by what it was converted to, and the output that this left
-abbrev pub printed_by : Converted → List ℕ → List ℕ
-printed_by (Length n) sheet = text_of (take n sheet)
-printed_by (notConverted r) sheet = refusal_text r
+abbrev pub printed_by : Result ℕ Refusal → List ℕ → List ℕ
+printed_by (Ok n) sheet = text_of (take n sheet)
+printed_by (Err r) sheet = refusal_text r
 
 -- a text stands in front of a page
 pub record Shows (t : List ℕ) (p : Page) : Type 0 where

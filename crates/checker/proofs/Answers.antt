@@ -1,5 +1,6 @@
 -- Which answer the verdict's reader and writer give in each case.
 -- Assumes nothing.
+use Rattle.std.specs.Prelude.{Ok, Err}
 use Prim.Native.Nat.{ℕ, ◌<◌, ◌≤◌}
 use mathlib.Core.Path.{◌≡◌, sym, ap, ap₂, ◌∙◌}
 use mathlib.Core.List.{List, ◌++◌}
@@ -11,12 +12,10 @@ use Rattle.layout.specs.laws.BytesLaws.{read_all, write_all_lem}
 use Rattle.sheet.specs.Refusals.{given, refused, told_outcome}
 use Rattle.sheet.specs.Writes.{Writes}
 use Rattle.sheet.specs.declared.Refusal.TheVariants.{SheetShort, OutputShort, Field}
-use Rattle.sheet.specs.declared.Outcome.TheVariants.{Fine, Refused as notFine}
 use Rattle.checker.specs.declared.Entry.{Entry}
-use Rattle.checker.specs.declared.EntryRead.TheVariants.{Good as goodEntry, Refused as noEntry}
 use Rattle.checker.specs.Entry.{verdict_widths, entry_values, entry_at, entry_fault, entry_refused, told_entry, entry_in, read_entry, write_entry}
 
-pub read_short : (s : List ℕ) → length s < 4 → told_entry (noEntry SheetShort) ≡ read_entry s
+pub read_short : (s : List ℕ) → length s < 4 → told_entry (Err SheetShort) ≡ read_entry s
 unfolding read_entry
 read_short s l = rw (lt-ltb _ _ l)
 
@@ -29,25 +28,25 @@ module _ (s : List ℕ) (n : ℕ) (e : Entry) (f : ℕ) (l : 4 ≤ length s) (en
   unfolding entry_in
   read_as = ap₂ (λ (k : ℕ) (a : Entry). entry_refused k (given a)) (ef ∙ ap entry_fault ee) ee ∙ sym (read_long s l ∙ ap entry_in (sym en))
 
-  pub read_good : f ≡ 0 → told_entry (goodEntry e) ≡ read_entry s
+  pub read_good : f ≡ 0 → told_entry (Ok e) ≡ read_entry s
   read_good z = rw (eq-eqb f 0 z) at read_as
 
-  pub read_bad : (f ≡ 0 → ⊥) → told_entry (noEntry (Field f)) ≡ read_entry s
+  pub read_bad : (f ≡ 0 → ⊥) → told_entry (Err (Field f)) ≡ read_entry s
   read_bad z = rw (ne_eqb f 0 z) at read_as
 
 module _ (e : Entry) (o : List ℕ) where
-  pub write_short : length o < 4 → Writes (write_entry e o) (told_outcome (notFine OutputShort)) o
+  pub write_short : length o < 4 → Writes (write_entry e o) (told_outcome (Err OutputShort)) o
   unfolding write_entry
   write_short l = record { answer = rw (lt-ltb _ _ l); bytes = rw (lt-ltb _ _ l) }
 
   module _ (f : ℕ) (l : 4 ≤ length o) (ef : f ≡ entry_fault e) where
-    pub write_bad : (f ≡ 0 → ⊥) → Writes (write_entry e o) (told_outcome (notFine (Field f))) o
+    pub write_bad : (f ≡ 0 → ⊥) → Writes (write_entry e o) (told_outcome (Err (Field f))) o
     unfolding write_entry
     write_bad z =
         let n = ne_eqb (entry_fault e) 0 (λ g. z (ef ∙ g)) in
         record { answer = rw (le-ltb _ _ l, n) (ap (refused 7) ef); bytes = rw (le-ltb _ _ l, n) }
 
-    pub write_good : (n : ℕ) (after : List ℕ) → f ≡ 0 → n ≡ pack verdict_widths (entry_values e) → after ≡ written_of 4 n o → Writes (write_entry e o) (told_outcome Fine) after
+    pub write_good : (n : ℕ) (after : List ℕ) → f ≡ 0 → n ≡ pack verdict_widths (entry_values e) → after ≡ written_of 4 n o → Writes (write_entry e o) (told_outcome (Ok tt)) after
     unfolding write_entry
     write_good n after z en ea =
         let q = eq-eqb (entry_fault e) 0 (sym ef ∙ z) in

@@ -1,5 +1,6 @@
 -- The whole check: which answer it gives in each case, and what it leaves in the output.
 -- Assumes nothing.
+use Rattle.std.specs.Prelude.{Err}
 use Prim.Native.Nat.{ℕ, ◌*◌, ◌≤◌}
 use native.Mathlib.Omega.{arith}
 use mathlib.Core.Path.{◌≡◌, sym, ap, ap₂, ◌∙◌}
@@ -15,9 +16,8 @@ use Rattle.sheet.specs.Versions.{most_records}
 use Rattle.sheet.specs.Header.{header_size}
 use Rattle.sheet.specs.laws.HeaderLaws.{header_ranges}
 use Rattle.sheet.specs.laws.HeaderBack.{header_read_fine}
-use Rattle.checker.specs.declared.Checked.TheVariants.{Done, Refused as notDone}
 use Rattle.checker.specs.Entry.{entry_number}
-use Rattle.checker.specs.Check.{◌then◌, header_for, records_part, parts_from, records_in, Sheet, sheet_in, entry_of, verdicts, bytes_of, answer_of, Checks}
+use Rattle.checker.specs.Check.{◌then◌, header_for, records_part, parts_from, records_in, Sheet, sheet_in, entry_of, verdicts, bytes_of, answer_of, Checks, tallied}
 use Rattle.checker.specs.laws.ThenLaws.{then_given}
 use Rattle.checker.specs.laws.FrontLaws.{header_fits}
 use Rattle.checker.specs.laws.CheckLaws.{taken, answer_done, output_done, refused_as_lent}
@@ -58,14 +58,14 @@ module _ (s : List ℕ) (room : ℕ) where
 -- ---- what the code does
 
 module _ (s out : List ℕ) where
-  pub refused_checks : (x : Refusal) → sheet_in s (length out) ≡ told x → Checks s out (notDone x) out
+  pub refused_checks : (x : Refusal) → sheet_in s (length out) ≡ told x → Checks s out (Err x) out
   unfolding answer_of ◌then◌
   refused_checks x e = record { answer = rw e; bytes = sym (refused_as_lent s out _ _ e) }
 
   -- the draft's verdicts are written into the output
   module _ (h : Header) (read : given h ≡ header_for s (length out)) (draft : List ℕ) (failed : ℕ) (drawn after : List ℕ) (wrote : after ≡ number_bytes (take h.count drawn) ++ drop (4 * h.count) out) where
     given_checks : (rs : List Record) → records_in 0 0 (parts_from (records_part h s) 0 h.count) ≡ given rs → pass_of h.count (map (entry_of h) rs) draft ≡ record { failed = failed; draft = drawn }
-        → Checks s out (Done h.count failed) after
+        → Checks s out (tallied h.count failed) after
     unfolding verdicts
     given_checks rs found pass =
         let es = map (entry_of h) rs in
@@ -80,7 +80,7 @@ module _ (s out : List ℕ) where
           bytes = wrote ∙ ap (λ (l : List ℕ). l ++ drop size out) front ∙ sym (output_done s out _ whole);
         }
 
-    pub done_checks : given (record { failed = failed; draft = drawn }) ≡ pass_over h (records_part h s) draft → Checks s out (Done h.count failed) after
+    pub done_checks : given (record { failed = failed; draft = drawn }) ≡ pass_over h (records_part h s) draft → Checks s out (tallied h.count failed) after
     unfolding pass_over
     done_checks e =
         let a = then_given (records_in 0 0 (parts_from (records_part h s) 0 h.count)) _ _ (sym e) in

@@ -1,5 +1,5 @@
 -- What a check of a whole sheet answers, and what it leaves in the output.
-use Rattle.std.specs.Prelude.{◌≡◌, ℕ, zero, suc, ◌+◌, ◌-◌, ◌*◌, Bool, not, cond, List, [], ◌∷◌, ◌++◌, map, length, take, drop, leb, ltb, eqb}
+use Rattle.std.specs.Prelude.{◌≡◌, ℕ, zero, suc, ◌+◌, ◌-◌, ◌*◌, Bool, not, cond, List, [], ◌∷◌, ◌++◌, map, length, take, drop, leb, ltb, eqb, Result, Err}
 use Rattle.sheet.specs.declared.Header.{Header}
 use Rattle.sheet.specs.declared.Record.{Record}
 use Rattle.sheet.specs.Refusals.{Answer, given, refused, told}
@@ -9,9 +9,9 @@ use Rattle.sheet.specs.Record.{read_record}
 use Rattle.verdict.specs.Judged.{Finding}
 use Rattle.hull.specs.Hull.{finding}
 use Rattle.checker.specs.declared.Entry.{Entry}
-use Rattle.checker.specs.declared.Checked.{Checked}
-use Rattle.checker.specs.declared.Checked.TheVariants.{Done, Refused as notDone}
 use Rattle.checker.specs.Entry.{entry_bytes}
+use Rattle.sheet.specs.declared.Refusal.{Refusal}
+use Rattle.checker.specs.declared.Checked.{Checked}
 
 infixr 20 ◌then◌
 -- what comes next where an answer is given; a refusal stays
@@ -120,10 +120,14 @@ pub record Totals : Type 0 where
   pub n : ℕ
   pub failed : ℕ
 
+-- the code's answer that n verdicts were given, of which so many have a rule
+abbrev pub tallied : (n failed : ℕ) → Result Checked Refusal
+tallied n failed = Ok (record { n = n; failed = failed })
+
 -- what the code's answer says
-abbrev pub told_checked : Checked → Answer Totals
-told_checked (Done n failed) = given (record { n = n; failed = failed })
-told_checked (notDone r) = told r
+abbrev pub told_checked : Result Checked Refusal → Answer Totals
+told_checked (Ok c) = given (record { n = c.n; failed = c.failed })
+told_checked (Err r) = told r
 
 -- the answer, from the sheet and the length of the output
 unfoldable pub answer_of : List ℕ → (room : ℕ) → Answer Totals
@@ -138,6 +142,6 @@ unfoldable pub output_of : List ℕ → List ℕ → List ℕ
 output_of s out = output_by (sheet_in s (length out)) out
 
 -- What the contract of `check` says: the answer, and the output's bytes as it returns.
-pub record Checks (s out : List ℕ) (r : Checked) (after : List ℕ) : Type 0 where
+pub record Checks (s out : List ℕ) (r : Result Checked Refusal) (after : List ℕ) : Type 0 where
   pub answer : told_checked r ≡ answer_of s (length out)
   pub bytes : after ≡ output_of s out

@@ -1,5 +1,5 @@
 -- A verdict in the output, bit by bit: its fields as values of the layout and back; its first fault; reading and writing one.
-use Rattle.std.specs.Prelude.{ℕ, Bool, true, cond, List, [], ◌∷◌, ◌++◌, length, get_or, take, drop, ltb, eqb}
+use Rattle.std.specs.Prelude.{ℕ, Bool, true, cond, List, [], ◌∷◌, ◌++◌, length, get_or, take, drop, ltb, eqb, Result, Ok, Err}
 use Rattle.quantity.specs.Range.{from, modulus}
 use Rattle.loads.specs.declared.Source.TheVariants.{Cargo}
 use Rattle.loads.specs.Sources.{number_of}
@@ -8,8 +8,7 @@ use Rattle.layout.specs.Line.{Line, line, widths, fault_from}
 use Rattle.sheet.specs.Lines.{ids}
 use Rattle.sheet.specs.Refusals.{Answer, given, refused, told, Wrote}
 use Rattle.checker.specs.declared.Entry.{Entry}
-use Rattle.checker.specs.declared.EntryRead.{EntryRead}
-use Rattle.checker.specs.declared.EntryRead.TheVariants.{Good as goodEntry, Refused as noEntry}
+use Rattle.sheet.specs.declared.Refusal.{Refusal}
 
 -- a verdict: id, rule, required, source; a pass (rule 0) requires nothing, and no gauge goes higher than that of W
 abbrev pub verdict_table : (passed : Bool) → List Line
@@ -40,9 +39,9 @@ abbrev pub entry_refused : {A : Type 0} → ℕ → Answer A → Answer A
 entry_refused f fine = cond (eqb f 0) fine (refused 7 f)
 
 -- what the code's answer says
-abbrev pub told_entry : EntryRead → Answer Entry
-told_entry (goodEntry e) = given e
-told_entry (noEntry r) = told r
+abbrev pub told_entry : Result Entry Refusal → Answer Entry
+told_entry (Ok e) = given e
+told_entry (Err r) = told r
 
 -- the entry in a number of 32 bits
 unfoldable pub entry_in : ℕ → Answer Entry

@@ -1,14 +1,13 @@
 -- What the functions of the pass over the records say. The promise of `check` rests on none of it.
-use Rattle.std.specs.Prelude.{◌≡◌, ℕ, ◌*◌, ◌≤◌, List, [], ◌∷◌, ◌++◌, map, length, drop}
+use Rattle.std.specs.Prelude.{◌≡◌, ℕ, ◌*◌, ◌≤◌, List, [], ◌∷◌, ◌++◌, map, length, drop, Result, Ok, Err}
 use Rattle.layout.specs.Layout.{unpack, bytes}
 use Rattle.sheet.specs.declared.Header.{Header}
 use Rattle.sheet.specs.Refusals.{Answer, given, told}
 use Rattle.sheet.specs.Header.{header_fault}
 use Rattle.checker.specs.declared.Entry.{Entry}
-use Rattle.checker.specs.declared.Passed.{Passed}
-use Rattle.checker.specs.declared.Passed.TheVariants.{Fine, Refused as notPassed}
 use Rattle.checker.specs.Entry.{entry_number}
 use Rattle.checker.specs.Check.{◌then◌, parts_from, sound_after, records_in, entry_of, failures}
+use Rattle.sheet.specs.declared.Refusal.{Refusal}
 
 -- nothing is given
 abbrev pub Refuses : {A : Type 0} → Answer A → Type 0
@@ -30,9 +29,9 @@ pub record Pass : Type 0 where
   pub draft : List ℕ
 
 -- what the code's answer says, with the draft as it is left; after a refusal that is nobody's
-abbrev pub told_passed : Passed → List ℕ → Answer Pass
-told_passed (Fine failed) draft = given (record { failed = failed; draft = draft })
-told_passed (notPassed r) draft = told r
+abbrev pub told_passed : Result ℕ Refusal → List ℕ → Answer Pass
+told_passed (Ok failed) draft = given (record { failed = failed; draft = draft })
+told_passed (Err r) draft = told r
 
 -- the pass of verdicts over a draft
 abbrev pub pass_of : ℕ → List Entry → List ℕ → Pass

@@ -4,9 +4,8 @@ use Rattle.sheet.specs.Exactly.{Exactly}
 use Rattle.hull.specs.Hull.{finding}
 use Rattle.hull.specs.Raising.{put_record, InGauge}
 use Rattle.checker.specs.declared.Entry.{Entry}
-use Rattle.checker.specs.declared.Checked.TheVariants.{Done}
 use Rattle.checker.specs.Entry.{entry_bytes}
-use Rattle.checker.specs.Check.{entry_with, four_at}
+use Rattle.checker.specs.Check.{entry_with, four_at, tallied}
 use Rattle.demands.specs.Table.{head_size, count_of, kind_of, id_of, HeaderSound, TooSlender, Row, Accepted}
 use Rattle.demands.specs.Program.{Program, Refuses, Leaves}
 use Rattle.demands.specs.Raise.{the_header, the_record, with_scantling, Reaches, meets_rule, raised_times}
@@ -24,12 +23,12 @@ pub record First (P : Program) (s out : List ℕ) : Type 0 where
   -- refusal k with place p exactly when row k of the table holds with place p and no earlier row does
   pub refused_exactly : (k p : ℕ) → Exactly (Refuses P s out k p) (Row s (length out) k p)
   -- n and the number of failed records exactly when no row holds
-  pub accepted_exactly : Exactly ((n failed : ℕ) × (P.answer s out ≡ Done n failed)) (Accepted s (length out))
+  pub accepted_exactly : Exactly ((n failed : ℕ) × (P.answer s out ≡ tallied n failed)) (Accepted s (length out))
   pub accepted_otherwise : Exactly (Accepted s (length out)) ((k p : ℕ) → Row s (length out) k p → ⊥)
   -- a refusal writes nothing
   pub refusal_writes_nothing : (k p : ℕ) → Refuses P s out k p → P.after s out ≡ out
   -- with n = 0 every sound header of a hull that is not too slender is accepted, and nothing is judged or written
-  pub none_judged : length s ≡ head_size s → HeaderSound s → (TooSlender s → ⊥) → count_of s ≡ 0 → (P.answer s out ≡ Done 0 0) × (P.after s out ≡ out)
+  pub none_judged : length s ≡ head_size s → HeaderSound s → (TooSlender s → ⊥) → count_of s ≡ 0 → (P.answer s out ≡ tallied 0 0) × (P.after s out ≡ out)
 
 -- the verdict on record i under the sheet's header and what its pressure comes from, with its id
 abbrev pub entry_on : List ℕ → ℕ → Entry
@@ -84,7 +83,7 @@ pub record Third (P : Program) (s out : List ℕ) (n i : ℕ) (e : Entry) : Type
   -- record i of that sheet is the record as it was with x in that place
   pub with_record : (x : ℕ) → InGauge e.rule x → the_record (with_scantling i e.rule x s) i ≡ put_record e.rule x (the_record s i)
   -- the sheet is accepted, with n again
-  pub with_accepted : (x : ℕ) → InGauge e.rule x → (failed : ℕ) × (P.answer (with_scantling i e.rule x s) out ≡ Done n failed)
+  pub with_accepted : (x : ℕ) → InGauge e.rule x → (failed : ℕ) × (P.answer (with_scantling i e.rule x s) out ≡ tallied n failed)
   -- what is read at 4i then is a pass or a later rule exactly when x is not below the number
   pub with_verdict : (x : ℕ) → InGauge e.rule x → (f : Entry) × Leaves P (with_scantling i e.rule x s) out i f × Exactly (Later e.rule f) (Reaches e.required x)
   -- and no other verdict's bytes change
@@ -100,7 +99,7 @@ pub data Settled (s : List ℕ) (i : ℕ) (e : Entry) : Type 0 where
 -- at most three raisings: of record i of such a sheet, each to the number that is read at 4i
 pub record ThreeRaisings (P : Program) (s out : List ℕ) (n i : ℕ) : Type 0 where
   -- the sheet is accepted, with n again
-  pub three_accepted : (failed : ℕ) × (P.answer (raised_times P out 3 i s) out ≡ Done n failed)
+  pub three_accepted : (failed : ℕ) × (P.answer (raised_times P out 3 i s) out ≡ tallied n failed)
   -- what is read at 4i then is a pass, or names a rule that no number of the gauge meets
   pub three_enough : (e : Entry) × Leaves P (raised_times P out 3 i s) out i e × Settled (raised_times P out 3 i s) i e
   -- and no other verdict's bytes have changed
@@ -109,6 +108,6 @@ pub record ThreeRaisings (P : Program) (s out : List ℕ) (n i : ℕ) : Type 0 w
 -- all of them
 pub record Demands (P : Program) : Type 0 where
   pub first : (s out : List ℕ) → First P s out
-  pub second : (s out : List ℕ) (n failed : ℕ) → P.answer s out ≡ Done n failed → Second P s out n failed
-  pub third : (s out : List ℕ) (n failed i : ℕ) (e : Entry) → P.answer s out ≡ Done n failed → i < n → Leaves P s out i e → 1 ≤ e.rule → Third P s out n i e
-  pub three : (s out : List ℕ) (n failed i : ℕ) → P.answer s out ≡ Done n failed → i < n → ThreeRaisings P s out n i
+  pub second : (s out : List ℕ) (n failed : ℕ) → P.answer s out ≡ tallied n failed → Second P s out n failed
+  pub third : (s out : List ℕ) (n failed i : ℕ) (e : Entry) → P.answer s out ≡ tallied n failed → i < n → Leaves P s out i e → 1 ≤ e.rule → Third P s out n i e
+  pub three : (s out : List ℕ) (n failed i : ℕ) → P.answer s out ≡ tallied n failed → i < n → ThreeRaisings P s out n i

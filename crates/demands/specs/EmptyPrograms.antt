@@ -1,19 +1,19 @@
 -- The checker as a program, and empty programs made of it.
-use Rattle.std.specs.Prelude.{ℕ, zero, suc, ◌*◌, cond, List, [], ◌∷◌, ◌++◌, length, take, drop, eqb}
+use Rattle.std.specs.Prelude.{ℕ, zero, suc, ◌*◌, cond, List, [], ◌∷◌, ◌++◌, length, take, drop, eqb, Result, Err}
 use Rattle.sheet.specs.declared.Refusal.TheVariants.{SheetShort}
 use Rattle.sheet.specs.Refusals.{Answer, given, refused}
 use Rattle.sheet.specs.laws.RefusalLaws.{refusal_of}
 use Rattle.checker.specs.declared.Entry.{Entry}
-use Rattle.checker.specs.declared.Checked.{Checked}
-use Rattle.checker.specs.declared.Checked.TheVariants.{Done, Refused as notDone}
-use Rattle.checker.specs.Check.{Sheet, sheet_in, verdicts, bytes_of, failures}
+use Rattle.checker.specs.Check.{Sheet, sheet_in, verdicts, bytes_of, failures, tallied}
 use Rattle.demands.specs.Table.{head_size}
 use Rattle.demands.specs.Program.{Program}
+use Rattle.sheet.specs.declared.Refusal.{Refusal}
+use Rattle.checker.specs.declared.Checked.{Checked}
 
 -- its answer to a sheet that was read, with this count of failures
-abbrev pub answer_by : (Sheet → ℕ) → Answer Sheet → Checked
-answer_by count (given t) = Done t.header.count (count t)
-answer_by count (refused k p) = notDone (refusal_of k p)
+abbrev pub answer_by : (Sheet → ℕ) → Answer Sheet → Result Checked Refusal
+answer_by count (given t) = tallied t.header.count (count t)
+answer_by count (refused k p) = Err (refusal_of k p)
 
 -- its output, with these verdicts
 abbrev pub after_by : (Sheet → List Entry) → Answer Sheet → List ℕ → List ℕ
@@ -60,7 +60,7 @@ idle = record { answer = checker.answer; after = λ s out. out }
 
 -- 2: it refuses everything
 abbrev pub refusing : Program
-refusing = record { answer = λ s out. notDone SheetShort; after = λ s out. out }
+refusing = record { answer = λ s out. Err SheetShort; after = λ s out. out }
 
 -- 3: it passes every member
 abbrev pub passing : Program

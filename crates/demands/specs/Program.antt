@@ -1,14 +1,15 @@
 -- A program that checks sheets, and what it does on one.
-use Rattle.std.specs.Prelude.{ℕ, ◌*◌, ◌≡◌, List, take, drop}
+use Rattle.std.specs.Prelude.{ℕ, ◌*◌, ◌≡◌, List, take, drop, Result}
 use Rattle.sheet.specs.Refusals.{given, refused}
 use Rattle.checker.specs.declared.Entry.{Entry}
-use Rattle.checker.specs.declared.Checked.{Checked}
 use Rattle.checker.specs.Entry.{read_entry}
 use Rattle.checker.specs.Check.{four_at, told_checked, Checks}
+use Rattle.sheet.specs.declared.Refusal.{Refusal}
+use Rattle.checker.specs.declared.Checked.{Checked}
 
 -- what it answers to a sheet and a lent output, and what it leaves in the output
 pub record Program : Type 0 where
-  pub answer : List ℕ → List ℕ → Checked
+  pub answer : List ℕ → List ℕ → Result Checked Refusal
   pub after : List ℕ → List ℕ → List ℕ
 
 -- it meets the promise of `check` on every sheet and every output

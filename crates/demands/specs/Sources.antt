@@ -8,10 +8,9 @@ use Rattle.hull.specs.Hull.{verdict}
 use Rattle.hull.specs.Raising.{InGauge, OwnRule}
 use Rattle.hull.specs.Sources.{loads_on, pressure_on}
 use Rattle.checker.specs.declared.Entry.{Entry}
-use Rattle.checker.specs.declared.Checked.TheVariants.{Done}
 use Rattle.checker.specs.Entry.{verdict_widths}
 use Rattle.demands.specs.Table.{id_of}
-use Rattle.checker.specs.Check.{four_at, Totals}
+use Rattle.checker.specs.Check.{four_at, Totals, tallied}
 use Rattle.demands.specs.Program.{Program, Leaves}
 use Rattle.demands.specs.Raise.{the_header, the_record, with_scantling, raised_times}
 
@@ -40,7 +39,7 @@ pub record SourceSaid (P : Program) (s out : List ℕ) (i : ℕ) (e : Entry) : T
   pub right : Decides (record { pressure = pressure_on (the_header s) (the_record s i); source = e.source }) (loads_on (the_header s) (the_record s i))
   -- with any x of its gauge in place of any of the record's scantlings the sheet is accepted, and what is read at 4i names the same source
   pub with_source : (k x : ℕ) → OwnRule (the_record s i).body k → InGauge k x
-      → (m failed : ℕ) × (P.answer (with_scantling i k x s) out ≡ Done m failed) × ((f : Entry) → Leaves P (with_scantling i k x s) out i f → f.source ≡ e.source)
+      → (m failed : ℕ) × (P.answer (with_scantling i k x s) out ≡ tallied m failed) × ((f : Entry) → Leaves P (with_scantling i k x s) out i f → f.source ≡ e.source)
   -- and after any number of raisings
   pub raised_source : (count : ℕ) (f : Entry) → Leaves P (raised_times P out count i s) out i f → f.source ≡ e.source
   -- without the source the four bytes are those of the verdict by the rules alone
@@ -48,4 +47,4 @@ pub record SourceSaid (P : Program) (s out : List ℕ) (i : ℕ) (e : Entry) : T
 
 -- of every verdict that it leaves
 abbrev pub SaysSources : Program → Type 0
-SaysSources P = (s out : List ℕ) (n failed i : ℕ) (e : Entry) → P.answer s out ≡ Done n failed → i < n → Leaves P s out i e → SourceSaid P s out i e
+SaysSources P = (s out : List ℕ) (n failed i : ℕ) (e : Entry) → P.answer s out ≡ tallied n failed → i < n → Leaves P s out i e → SourceSaid P s out i e

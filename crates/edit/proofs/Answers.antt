@@ -1,5 +1,6 @@
 -- Which answer an edit gives in each case, and what it leaves.
 -- Assumes nothing.
+use Rattle.std.specs.Prelude.{Ok, Err}
 use Prim.Native.Nat.{ℕ, ◌+◌, ◌-◌, ◌≤◌, ◌<◌}
 use mathlib.Core.Path.{◌≡◌, sym, ap, ap₂, subst, ◌∙◌}
 use mathlib.Core.Bool.{true, false}
@@ -20,7 +21,6 @@ use Rattle.numbers.specs.From.{record_from}
 use Rattle.checker.specs.Check.{◌then◌, demand, sheet_size, records_part, Sheet}
 use Rattle.checker.specs.laws.ThenLaws.{then_given}
 use Rattle.checker.specs.Unjudged.{sound_header}
-use Rattle.edit.specs.declared.Edited.TheVariants.{Length, Refused as notEdited}
 use Rattle.keyed.specs.Keyed.{position_of, has_of}
 use Rattle.keyed.specs.laws.Places.{place_le, has_lt}
 use Rattle.edit.specs.Edit.{sheet_at, header_of, highest, id_of, counting, replacing, inserting, removing, After, has_room, placing, put_in, put_numbers_in, remove_in, size_by, bytes_by, Edits}
@@ -81,20 +81,20 @@ module _ (h : Header) (z : header_fault h ≡ 0) where
 
 -- ---- refusals
 
-refused_edits : (a : Answer After) (b : List ℕ) (x : Refusal) → a ≡ told x → Edits a b (notEdited x) b
+refused_edits : (a : Answer After) (b : List ℕ) (x : Refusal) → a ≡ told x → Edits a b (Err x) b
 unfolding size_by bytes_by
 refused_edits a b x e = record { answer = rw e; bytes = rw e }
 
-given_edits : (a : Answer After) (b after : List ℕ) (size : ℕ) → a ≡ given (record { size = size; bytes = after }) → Edits a b (Length size) after
+given_edits : (a : Answer After) (b after : List ℕ) (size : ℕ) → a ≡ given (record { size = size; bytes = after }) → Edits a b (Ok size) after
 unfolding size_by bytes_by
 given_edits a b after size e = record { answer = rw e; bytes = rw e }
 
 module _ (b : List ℕ) (len : ℕ) where
-  pub numbers_turned : (ns : List ℕ) (x : Refusal) → told x ≡ header_of b len → Edits (put_numbers_in b len ns) b (notEdited x) b
+  pub numbers_turned : (ns : List ℕ) (x : Refusal) → told x ≡ header_of b len → Edits (put_numbers_in b len ns) b (Err x) b
   unfolding put_numbers_in ◌then◌
   numbers_turned ns x e = refused_edits (put_numbers_in b len ns) b x (rw (sym e))
 
-  pub remove_refused : (id : ℕ) (x : Refusal) → told x ≡ header_of b len → Edits (remove_in b len id) b (notEdited x) b
+  pub remove_refused : (id : ℕ) (x : Refusal) → told x ≡ header_of b len → Edits (remove_in b len id) b (Err x) b
   unfolding remove_in ◌then◌
   remove_refused id x e = refused_edits (remove_in b len id) b x (rw (sheet_refused b len (number_of x) (place_of x) e))
 
@@ -145,11 +145,11 @@ module _ (b : List ℕ) (len : ℕ) where
 
       -- ---- a removal
 
-      pub remove_none : has_in rs n id ≡ false → Edits (remove_in b len id) b (notEdited NoSuchId) b
+      pub remove_none : has_in rs n id ≡ false → Edits (remove_in b len id) b (Err NoSuchId) b
       unfolding remove_in ◌then◌ demand
       remove_none e = refused_edits (remove_in b len id) b NoSuchId (rw (k.found, sym has_is ∙ e))
 
-      pub remove_done : has_in rs n id ≡ true → (g : Header) → g ≡ counting (n - 1) h → (after : List ℕ) → after ≡ removing g (place_in rs n id) len b → Edits (remove_in b len id) b (Length (len - 16)) after
+      pub remove_done : has_in rs n id ≡ true → (g : Header) → g ≡ counting (n - 1) h → (after : List ℕ) → after ≡ removing g (place_in rs n id) len b → Edits (remove_in b len id) b (Ok (len - 16)) after
       unfolding remove_in ◌then◌ demand
       remove_done e g f after w =
           let counted : g ≡ counting (t.header.count - 1) t.header = f ∙ ap (λ (x : Header). counting (x.count - 1) x) k.header in
@@ -163,7 +163,7 @@ module _ (b : List ℕ) (len : ℕ) where
       unfolding put_numbers_in header_of ◌then◌
       numbers_are x e = rw k.found (ap (λ (m : ℕ). record_from m ns then λ r. put_in b len r) same_count ∙ ap (λ (y : Answer Record). y then λ r. put_in b len r) e)
 
-      pub numbers_refused : (x : Refusal) → told x ≡ record_from n ns → Edits (put_numbers_in b len ns) b (notEdited x) b
+      pub numbers_refused : (x : Refusal) → told x ≡ record_from n ns → Edits (put_numbers_in b len ns) b (Err x) b
       unfolding ◌then◌
       numbers_refused x e = refused_edits (put_numbers_in b len ns) b x (numbers_are (told x) (sym e))
 
@@ -179,7 +179,7 @@ module _ (b : List ℕ) (len : ℕ) where
         unfolding put_in ◌then◌
         put_is = rw (k.found, eq-eqb (record_fault r 0) 0 z)
 
-        pub put_replaced : has_in rs n r.id ≡ true → (after : List ℕ) → after ≡ replacing h (place_in rs n r.id) r b → Edits (put_in b len r) b (Length len) after
+        pub put_replaced : has_in rs n r.id ≡ true → (after : List ℕ) → after ≡ replacing h (place_in rs n r.id) r b → Edits (put_in b len r) b (Ok len) after
         unfolding placing
         put_replaced e after w =
             given_edits (put_in b len r) b after len
@@ -189,12 +189,12 @@ module _ (b : List ℕ) (len : ℕ) where
           room_is : has_room t.header len (length b) ≡ has_room h len (length b)
           room_is = ap (λ (g : Header). has_room g len (length b)) (sym k.header)
 
-          pub put_full : has_room h len (length b) ≡ false → Edits (put_in b len r) b (notEdited NoRoom) b
+          pub put_full : has_room h len (length b) ≡ false → Edits (put_in b len r) b (Err NoRoom) b
           unfolding placing ◌then◌ demand
           put_full e = refused_edits (put_in b len r) b NoRoom (put_is ∙ rw (sym (has_is r.id) ∙ new, room_is ∙ e))
 
           pub put_inserted : has_room h len (length b) ≡ true → (g : Header) → g ≡ counting (n + 1) h → (after : List ℕ) → after ≡ inserting g (place_in rs n r.id) len r b
-              → Edits (put_in b len r) b (Length (len + 16)) after
+              → Edits (put_in b len r) b (Ok (len + 16)) after
           unfolding placing ◌then◌ demand
           put_inserted e g f after w =
               let counted : g ≡ counting (t.header.count + 1) t.header = f ∙ ap (λ (x : Header). counting (x.count + 1) x) k.header in

@@ -1,5 +1,5 @@
 -- What an edit of a sheet answers, and what it leaves in the buffer. The sheet is the first bytes of the buffer; how many they are is given beside it.
-use Rattle.std.specs.Prelude.{ℕ, ◌+◌, ◌-◌, ◌*◌, ◌≡◌, Bool, cond, ◌&&◌, List, ◌++◌, length, take, drop, replicate, leb, ltb}
+use Rattle.std.specs.Prelude.{ℕ, ◌+◌, ◌-◌, ◌*◌, ◌≡◌, Bool, cond, ◌&&◌, List, ◌++◌, length, take, drop, replicate, leb, ltb, Result, Ok, Err}
 use Rattle.sheet.specs.declared.Header.{Header}
 use Rattle.sheet.specs.declared.Record.{Record}
 use Rattle.sheet.specs.Versions.{version_of}
@@ -9,9 +9,8 @@ use Rattle.sheet.specs.Record.{record_fault, record_bytes}
 use Rattle.numbers.specs.From.{record_from}
 use Rattle.checker.specs.Check.{◌then◌, demand, part, Sheet}
 use Rattle.checker.specs.Unjudged.{sound_sheet}
-use Rattle.edit.specs.declared.Edited.{Edited}
-use Rattle.edit.specs.declared.Edited.TheVariants.{Length, Refused as notEdited}
 use Rattle.keyed.specs.Keyed.{position_of, has_of}
+use Rattle.sheet.specs.declared.Refusal.{Refusal}
 
 -- ---- the sheet in the buffer
 
@@ -103,9 +102,9 @@ remove_in b len id =
     then λ u. given (record { size = len - 16; bytes = removing (counting (t.header.count - 1) t.header) (position_of id_of id t.records) len b })
 
 -- what the code's answer says
-abbrev pub told_edited : Edited → Answer ℕ
-told_edited (Length n) = given n
-told_edited (notEdited r) = told r
+abbrev pub told_edited : Result ℕ Refusal → Answer ℕ
+told_edited (Ok n) = given n
+told_edited (Err r) = told r
 
 -- the new length, or the refusal
 unfoldable pub size_by : Answer After → Answer ℕ
@@ -118,6 +117,6 @@ bytes_by (given a) before = a.bytes
 bytes_by (refused k p) before = before
 
 -- What the contracts of `put` and `remove` say: the answer, and every byte of the buffer as it returns.
-pub record Edits (a : Answer After) (before : List ℕ) (r : Edited) (after : List ℕ) : Type 0 where
+pub record Edits (a : Answer After) (before : List ℕ) (r : Result ℕ Refusal) (after : List ℕ) : Type 0 where
   pub answer : told_edited r ≡ size_by a
   pub bytes : after ≡ bytes_by a before

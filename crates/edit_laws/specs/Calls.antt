@@ -1,5 +1,5 @@
 -- Calls of the functions that edit a sheet, as people make them: one after another, on one buffer.
-use Rattle.std.specs.Prelude.{ℕ, ◌+◌, ◌/◌, ◌%◌, max, ◌≤◌, ◌<◌, ◌≡◌, Bool, true, cond, List, [], ◌∷◌, length, get_or, take, ltb}
+use Rattle.std.specs.Prelude.{ℕ, ◌+◌, ◌/◌, ◌%◌, max, ◌≤◌, ◌<◌, ◌≡◌, Bool, true, cond, List, [], ◌∷◌, length, get_or, take, ltb, Result}
 use Rattle.std.proofs.Math.Option.{Option}
 use Rattle.numbers.specs.From.{record_of_numbers}
 use Rattle.sheet.specs.declared.Record.{Record}
@@ -7,11 +7,11 @@ use Rattle.sheet.specs.Refusals.{given}
 use Rattle.sheet.specs.Header.{header_size}
 use Rattle.checker.specs.Check.{part, Sheet}
 use Rattle.keyed.specs.Keyed.{rises, position_of, lookup, Edit, put, out, map_all}
-use Rattle.edit.specs.declared.Edited.{Edited}
 use Rattle.edit.specs.Edit.{sheet_at, start, id_of, counting, After, put_numbers_in, remove_in, told_edited, Edits}
 use Rattle.yard.specs.Packed.{number_unit}
 use Rattle.yard.specs.Editing.{resized, EditsPacked}
 use Rattle.edit_laws.specs.Edits.{edited}
+use Rattle.sheet.specs.declared.Refusal.{Refusal}
 
 -- ---- the functions
 
@@ -34,7 +34,7 @@ pub record MeetsEditor (E : Editor) : Type 0 where
 
 -- the same of the crate `edit`, whose answers are not packed yet
 pub record Office : Type 0 where
-  pub answer : Call → (buffer : List ℕ) (len : ℕ) → Edited
+  pub answer : Call → (buffer : List ℕ) (len : ℕ) → Result ℕ Refusal
   pub after : Call → (buffer : List ℕ) (len : ℕ) → List ℕ
 
 -- they meet the promises of `put_numbers` and `remove`

@@ -1,5 +1,5 @@
 -- How a member's scantlings are worked out: the numbers that its rules go by, and the shapes that they take.
-use Rattle.std.specs.Prelude.{ℕ}
+use Rattle.std.specs.Prelude.{ℕ, Result, Ok, Err}
 use Rattle.gauge.specs.declared.Shape.{Shape}
 use Rattle.loads.specs.Sources.{Named, told_load}
 use Rattle.sheet.specs.declared.Header.{Header}
@@ -7,10 +7,9 @@ use Rattle.sheet.specs.declared.Member.{Member}
 use Rattle.sheet.specs.Refusals.{Answer, given, told}
 use Rattle.verdict.specs.declared.Verdict.{Verdict}
 use Rattle.framing.specs.declared.MemberWork.{MemberWork}
-use Rattle.framing.specs.declared.MemberWorked.{MemberWorked}
-use Rattle.framing.specs.declared.MemberWorked.TheVariants.{Work as isWork, Refused as notWorked}
 use Rattle.framing.specs.Rules.{member_named, member_line, member_verdict}
 use Rattle.framing.specs.Shapes.{shape4, shape5, shape6}
+use Rattle.sheet.specs.declared.Refusal.{Refusal}
 
 -- the load that the member bears, q, the shapes of rules 4, 5 and 6, and the verdict
 pub record Work : Type 0 where
@@ -38,6 +37,6 @@ work_of h kind m =
 abbrev pub told_work : MemberWork → Work
 told_work w = record { load = told_load w.load; line = w.line.0; web = w.web; bending = w.bending; shear = w.shear; verdict = w.verdict }
 
-abbrev pub told_worked : MemberWorked → Answer Work
-told_worked (isWork w) = given (told_work w)
-told_worked (notWorked r) = told r
+abbrev pub told_worked : Result MemberWork Refusal → Answer Work
+told_worked (Ok w) = given (told_work w)
+told_worked (Err r) = told r

@@ -16,7 +16,7 @@ ghost use Rattle.framing.specs.Bounds.{Product, Bounded};
 use gauge::Shape;
 use loads::{Line, Load};
 use quantity::{LineLoad, Modulus, ShearArea, Spacing, Span, SteelFactor, Thickness};
-use sheet::{Header, Member, Outcome, Refusal};
+use sheet::{Header, Member, Refusal};
 use verdict::{Judged, Verdict};
 
 // a·x ≥ p.
@@ -140,12 +140,6 @@ pub struct MemberWork {
     pub verdict: Verdict,
 }
 
-#[derive(Clone, Copy)]
-pub enum MemberWorked {
-    Work(MemberWork),
-    Refused(Refusal),
-}
-
 fn member_work(h: Header, kind: u8, m: Member, load: Load) -> MemberWork
     requires { HeaderRanges h × MemberRanges kind m × (told_load load ≡ member_named h kind m) }
     ensures { told_work result ≡ work_of h kind m }
@@ -170,10 +164,7 @@ fn member_work(h: Header, kind: u8, m: Member, load: Load) -> MemberWork
 pub fn worked(h: Header, kind: u8, id: u16, m: Member) -> Result<MemberWork, Refusal>
     ensures { told_worked result ≡ judged_by h (of_member kind id m) (work_of h kind m) }
 {
-    let admitted = verdict::admitted_member(h, kind, id, m);
-    if let Err(r) = admitted {
-        return Err(r);
-    }
+    verdict::admitted_member(h, kind, id, m)?;
     Ok(member_work(h, kind, m, member_load(h, kind, m)))
 }
 
@@ -181,11 +172,10 @@ pub fn worked(h: Header, kind: u8, id: u16, m: Member) -> Result<MemberWork, Ref
 pub fn judge(h: Header, kind: u8, id: u16, m: Member) -> Result<Judged, Refusal>
     ensures { told_judged result ≡ judged_by h (of_member kind id m) (member_finding h kind m) }
 {
-    let admitted = verdict::admitted_member(h, kind, id, m);
-    if let Err(r) = admitted {
-        return Err(r);
-    }
+    verdict::admitted_member(h, kind, id, m)?;
     let load = member_load(h, kind, m);
-    let source = load.source;
-    Judged::Verdict(member_verdict(h, kind, m, load), source)
+    Ok(Judged {
+        verdict: member_verdict(h, kind, m, load),
+        source: load.source,
+    })
 }

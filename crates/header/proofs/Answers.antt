@@ -1,5 +1,6 @@
 -- Which answer is given in each case.
 -- Assumes nothing.
+use Rattle.std.specs.Prelude.{Ok, Err}
 use Prim.Native.Nat.{ℕ, ◌+◌, ◌-◌, ◌%◌, ◌^◌, ◌<◌, ◌≤◌}
 use mathlib.Core.Path.{◌≡◌, refl, sym, ap, ap₂, ◌∙◌}
 use mathlib.Core.Bool.{Bool, true, false, cond}
@@ -30,8 +31,6 @@ use Rattle.sheet.specs.declared.Own.TheVariants.{One, Two}
 use Rattle.sheet.specs.declared.Section.{Section}
 use Rattle.sheet.specs.declared.Refusal.{Refusal}
 use Rattle.sheet.specs.declared.Refusal.TheVariants.{SheetShort, Version as OtherVersion, HeaderField, OutputShort}
-use Rattle.sheet.specs.declared.Outcome.TheVariants.{Fine, Refused as notFine}
-use Rattle.sheet.specs.declared.HeaderRead.TheVariants.{Good as goodHeader, Refused as no_header}
 
 -- what the refusal of a faulty field says
 abbrev pub refusal_of : ℕ → Refusal
@@ -44,15 +43,15 @@ fine_says : {A : Type 0} (f : ℕ) (fine : Answer A) → f ≡ 0 → fine ≡ he
 fine_says f fine z = sym (at_none (refused 2 0) (λ k. refused 3 k) f fine z)
 
 module _ (h : Header) (f : ℕ) (ef : f ≡ header_fault h) where
-  pub fault_fine : f ≡ 0 → told_outcome Fine ≡ header_refused (header_fault h) (given tt)
+  pub fault_fine : f ≡ 0 → told_outcome (Ok tt) ≡ header_refused (header_fault h) (given tt)
   fault_fine z = fine_says f (given tt) z ∙ ap (λ (n : ℕ). header_refused n (given tt)) ef
 
-  pub fault_refused : (r : Refusal) → r ≡ refusal_of f → (f ≡ 0 → ⊥) → told_outcome (notFine r) ≡ header_refused (header_fault h) (given tt)
+  pub fault_refused : (r : Refusal) → r ≡ refusal_of f → (f ≡ 0 → ⊥) → told_outcome (Err r) ≡ header_refused (header_fault h) (given tt)
   fault_refused r er z = ap (λ (x : Refusal). told x) er ∙ refused_says f (given tt) z ∙ ap (λ (n : ℕ). header_refused n (given tt)) ef
 
 -- ---- reading
 
-pub read_few : (s : List ℕ) → length s < first_bytes → told_header (no_header SheetShort) ≡ read_header s
+pub read_few : (s : List ℕ) → length s < first_bytes → told_header (Err SheetShort) ≡ read_header s
 read_few s l = sym ((header_read_1 s 0).1 (under_first l, refl))
 
 -- what was read: the first bytes as a number of 96 bits, the next as one of 64, and the header that they are
@@ -70,7 +69,7 @@ module _ (s : List ℕ) (l : first_bytes ≤ length s) (n w : ℕ) (h : Header) 
   same_needs : header_needs h ≡ bytes_needed (version_field s) (version_in s)
   same_needs = ap₂ bytes_needed named kept
 
-  pub read_under : length s < header_needs h → told_header (no_header SheetShort) ≡ read_header s
+  pub read_under : length s < header_needs h → told_header (Err SheetShort) ≡ read_header s
   unfolding read_header
   read_under u = rw (lt-ltb (length s) (bytes_needed (version_field s) (version_in s)) (omega (arith, same_needs)))
 
@@ -118,21 +117,21 @@ module _ (s : List ℕ) (l : first_bytes ≤ length s) (n w : ℕ) (h : Header) 
           rw (le-ltb (length s) (bytes_needed (version_field s) (version_in s)) (omega (arith, same_needs)))
           (ap₂ (λ (k : ℕ) (a : Header). header_refused k (given a)) found is_header)
 
-      pub read_good : f ≡ 0 → told_header (goodHeader h) ≡ read_header s
+      pub read_good : f ≡ 0 → told_header (Ok h) ≡ read_header s
       read_good z = fine_says f (given h) z ∙ read_as
 
-      pub read_bad : (r : Refusal) → r ≡ refusal_of f → (f ≡ 0 → ⊥) → told_header (no_header r) ≡ read_header s
+      pub read_bad : (r : Refusal) → r ≡ refusal_of f → (f ≡ 0 → ⊥) → told_header (Err r) ≡ read_header s
       read_bad r er z = ap (λ (x : Refusal). told x) er ∙ refused_says f (given h) z ∙ read_as
 
 -- ---- writing
 
 module _ (h : Header) (o : List ℕ) where
-  pub write_under : length o < header_needs h → Writes (write_header h o) (told_outcome (notFine OutputShort)) o
+  pub write_under : length o < header_needs h → Writes (write_header h o) (told_outcome (Err OutputShort)) o
   unfolding write_header
   write_under l = record { answer = rw (lt-ltb _ _ l); bytes = rw (lt-ltb _ _ l) }
 
   module _ (f : ℕ) (l : header_needs h ≤ length o) (ef : f ≡ header_fault h) where
-    pub write_bad : (r : Refusal) → r ≡ refusal_of f → (f ≡ 0 → ⊥) → Writes (write_header h o) (told_outcome (notFine r)) o
+    pub write_bad : (r : Refusal) → r ≡ refusal_of f → (f ≡ 0 → ⊥) → Writes (write_header h o) (told_outcome (Err r)) o
     unfolding write_header
     write_bad r er z =
         record {
@@ -145,7 +144,7 @@ module _ (h : Header) (o : List ℕ) where
       pub room : header_size h ≤ length o
       room = omega (arith, fine_needs h (sym ef ∙ z))
 
-      pub write_good : (after : List ℕ) → after ≡ header_bytes h ++ drop (header_size h) o → Writes (write_header h o) (told_outcome Fine) after
+      pub write_good : (after : List ℕ) → after ≡ header_bytes h ++ drop (header_size h) o → Writes (write_header h o) (told_outcome (Ok tt)) after
       unfolding write_header
       write_good after ea =
           record {

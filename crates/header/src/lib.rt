@@ -14,7 +14,7 @@ ghost use Rattle.sheet.specs.Writes.{Writes};
 use layout::Short;
 use layout::powers::{P3, P7, P12, P20, P27, P28, P36, P37, P46, P60};
 use quantity::Span;
-use sheet::{Header, HeaderRead, Outcome, Own, Refusal, Section};
+use sheet::{Header, Own, Refusal, Section};
 
 // How many bytes hold what every version has.
 const FIRST: usize = 12;
@@ -59,9 +59,8 @@ fn own_fault(own: Own, rest: u32) -> u8
 fn fault(h: Header, spare: u32, rest: u32) -> u8
     ensures { result ≡ raw_fault h spare rest }
 {
-    let own = h.own;
-    let version = own.version();
-    let f = own_fault(own, rest);
+    let version = h.own.version();
+    let f = own_fault(h.own, rest);
     let f = layout::fault_unless(spare, 0, 0, 9, f);
     let f = layout::fault_unless(h.count as u32, 0, version.most as u32, 8, f);
     let f = layout::fault_unless(h.bottom_modulus, 1, MODULUS_HIGH, 7, f);
@@ -154,8 +153,7 @@ pub fn header_fault(h: Header) -> Result<(), Refusal>
 fn needs(h: Header) -> usize
     ensures { result ≡ header_needs h }
 {
-    let own = h.own;
-    let version = own.version();
+    let version = h.own.version();
     if h.version == version.number {
         version.size
     } else {
@@ -173,8 +171,7 @@ pub fn read_header(s: &[u8]) -> Result<Header, Refusal>
     let n = layout::read_short(s);
     let rest = layout::read_word(&s[FIRST..]);
     let h = header_of(n, rest);
-    let least = needs(h);
-    if s.len() < least {
+    if s.len() < needs(h) {
         return Err(Refusal::SheetShort);
     }
     let f = fault(h, n.lo % 8, (rest % P27) as u32);
@@ -200,10 +197,8 @@ fn write_own(own: Own, out: &mut [u8])
     requires { Fit (own_widths (version_of own)) (own_values own 0) × (own_bytes (version_of own) ≤ length out.old) }
     ensures { out.new ≡ unpack (bytes (own_bytes (version_of own))) (pack (own_widths (version_of own)) (own_values own 0)) ++ drop (own_bytes (version_of own)) out.old }
 {
-    let n = own_number(own);
-    let version = own.version();
-    if FIRST < version.size {
-        layout::write_word(out, n);
+    if FIRST < own.version().size {
+        layout::write_word(out, own_number(own));
     }
 }
 
@@ -211,8 +206,7 @@ fn write_own(own: Own, out: &mut [u8])
 pub fn write_header(h: Header, out: &mut [u8]) -> Result<(), Refusal>
     ensures { Writes (write_header h out.old) (told_outcome result) out.new }
 {
-    let least = needs(h);
-    if out.len() < least {
+    if out.len() < needs(h) {
         return Err(Refusal::OutputShort);
     }
     let f = fault(h, 0, 0);
@@ -220,7 +214,6 @@ pub fn write_header(h: Header, out: &mut [u8]) -> Result<(), Refusal>
         return Err(refuse(f));
     }
     layout::write_short(out, number_of(h));
-    let own = h.own;
-    write_own(own, &mut out[FIRST..]);
+    write_own(h.own, &mut out[FIRST..]);
     Ok(())
 }

@@ -1,5 +1,5 @@
 -- How a plate's thickness is worked out: the numbers that its rules go by, and the shapes that they take.
-use Rattle.std.specs.Prelude.{ℕ, Bool, cond}
+use Rattle.std.specs.Prelude.{ℕ, Bool, cond, Result, Ok, Err}
 use Rattle.gauge.specs.declared.Shape.{Shape}
 use Rattle.loads.specs.Sources.{Named, told_load}
 use Rattle.sheet.specs.declared.Header.{Header}
@@ -8,10 +8,9 @@ use Rattle.sheet.specs.Kinds.{is_long}
 use Rattle.sheet.specs.Refusals.{Answer, given, told}
 use Rattle.verdict.specs.declared.Verdict.{Verdict}
 use Rattle.plating.specs.declared.PlateWork.{PlateWork}
-use Rattle.plating.specs.declared.PlateWorked.{PlateWorked}
-use Rattle.plating.specs.declared.PlateWorked.TheVariants.{Work as isWork, Refused as notWorked}
 use Rattle.plating.specs.Rules.{R, plate_modulus, K2, is_second, plate_pressure, plate_named, plate_verdict}
 use Rattle.plating.specs.Shapes.{shape1, shape2, shape3}
+use Rattle.sheet.specs.declared.Refusal.{Refusal}
 
 -- the load that decides, the modulus at the plate, R, K2, whether rule 3 takes its second form, the shapes of rules 1, 2 and 3, and the verdict
 pub record Work : Type 0 where
@@ -60,6 +59,6 @@ told_work w =
       verdict = w.verdict;
     }
 
-abbrev pub told_worked : PlateWorked → Answer Work
-told_worked (isWork w) = given (told_work w)
-told_worked (notWorked r) = told r
+abbrev pub told_worked : Result PlateWork Refusal → Answer Work
+told_worked (Ok w) = given (told_work w)
+told_worked (Err r) = told r

@@ -19,7 +19,7 @@ use gauge::Shape;
 use loads::Load;
 use quantity::{Spacing, Span, SteelFactor, Thickness};
 use sheet::kinds::{is_bottom, is_long};
-use sheet::{Header, Outcome, Plate, Refusal};
+use sheet::{Header, Plate, Refusal};
 use verdict::{Judged, Verdict};
 
 // The stress R at which the hull's bending leaves nothing for the plate's own.
@@ -235,12 +235,6 @@ pub struct PlateWork {
     pub verdict: Verdict,
 }
 
-#[derive(Clone, Copy)]
-pub enum PlateWorked {
-    Work(PlateWork),
-    Refused(Refusal),
-}
-
 // K2 where the plate's framing is transverse.
 fn panel_k2(kind: u8, b1: Span, b2: Span) -> u64
     requires { is_long kind ≡ false → 0 < b1.0 }
@@ -281,10 +275,7 @@ fn plate_work(h: Header, kind: u8, p: Plate, load: Load) -> PlateWork
 pub fn worked(h: Header, kind: u8, id: u16, p: Plate) -> Result<PlateWork, Refusal>
     ensures { told_worked result ≡ judged_by h (of_plate kind id p) (work_of h kind p) }
 {
-    let admitted = verdict::admitted_plate(h, kind, id, p);
-    if let Err(r) = admitted {
-        return Err(r);
-    }
+    verdict::admitted_plate(h, kind, id, p)?;
     Ok(plate_work(h, kind, p, load(h, kind, p)))
 }
 
@@ -292,11 +283,10 @@ pub fn worked(h: Header, kind: u8, id: u16, p: Plate) -> Result<PlateWork, Refus
 pub fn judge(h: Header, kind: u8, id: u16, p: Plate) -> Result<Judged, Refusal>
     ensures { told_judged result ≡ judged_by h (of_plate kind id p) (plate_finding h kind p) }
 {
-    let admitted = verdict::admitted_plate(h, kind, id, p);
-    if let Err(r) = admitted {
-        return Err(r);
-    }
+    verdict::admitted_plate(h, kind, id, p)?;
     let load = load(h, kind, p);
-    let source = load.source;
-    Judged::Verdict(plate_verdict(h, kind, p, load), source)
+    Ok(Judged {
+        verdict: plate_verdict(h, kind, p, load),
+        source: load.source,
+    })
 }

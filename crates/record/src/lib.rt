@@ -14,18 +14,15 @@ ghost use Rattle.sheet.specs.Writes.{Writes};
 
 use layout::Long;
 use layout::powers::{P20, P50, P60};
-use sheet::{Body, Member, Outcome, Plate, Raw, Record, RecordRead, Refusal};
+use sheet::{Body, Member, Plate, Raw, Record, Refusal};
 
 // The first field outside its values, kind being 1, or 0, with what stands in the bits that carry nothing.
 fn fault(r: Record, spare: u32) -> u8
     ensures { result ≡ record_fault r spare }
 {
-    let kind = r.kind;
-    let id = r.id;
-    let body = r.body;
-    match body {
-        Body::Plate(p) => plate::fault(kind, id, p, spare),
-        Body::Member(m) => member::fault(kind, id, m),
+    match r.body {
+        Body::Plate(p) => plate::fault(r.kind, r.id, p, spare),
+        Body::Member(m) => member::fault(r.kind, r.id, m),
     }
 }
 
@@ -36,21 +33,12 @@ fn record_of(n: Long) -> Record
     let hi = n.hi;
     let kind = (hi / P60 % 16) as u8;
     let id = (hi / P50 % 1024) as u16;
-    if kind < 5 {
-        let p = plate::of_number(n);
-        Record {
-            kind,
-            id,
-            body: Body::Plate(p),
-        }
+    let body = if kind < 5 {
+        Body::Plate(plate::of_number(n))
     } else {
-        let m = member::of_number(n);
-        Record {
-            kind,
-            id,
-            body: Body::Member(m),
-        }
-    }
+        Body::Member(member::of_number(n))
+    };
+    Record { kind, id, body }
 }
 
 // What stands in the bits that carry nothing.
@@ -65,12 +53,9 @@ fn number_of(r: Record) -> Long
     requires { Fit (widths_in r.body) (values_in r.kind r.id r.body) }
     ensures { long_of result ≡ record_number r }
 {
-    let kind = r.kind;
-    let id = r.id;
-    let body = r.body;
-    match body {
-        Body::Plate(p) => plate::number(kind, id, p),
-        Body::Member(m) => member::number(kind, id, m),
+    match r.body {
+        Body::Plate(p) => plate::number(r.kind, r.id, p),
+        Body::Member(m) => member::number(r.kind, r.id, m),
     }
 }
 
@@ -137,9 +122,10 @@ pub fn record_in(s: &[u8]) -> Raw
     ensures { result ≡ raw_at (read_of 16 s.now) }
 {
     let n = layout::read_long(s);
-    let values = record_of(n);
-    let spare = spare_of(n);
-    Raw { values, spare }
+    Raw {
+        values: record_of(n),
+        spare: spare_of(n),
+    }
 }
 
 // `read_record_as` of a record alone, which is record 0.

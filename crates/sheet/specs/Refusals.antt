@@ -1,15 +1,9 @@
 -- When the sheet is turned away: the number and the place of each refusal, as the document counts them.
-use Rattle.std.specs.Prelude.{ℕ, ◌+◌, ◌*◌, cond, List, eqb}
+use Rattle.std.specs.Prelude.{ℕ, ◌+◌, ◌*◌, cond, List, eqb, Result, Ok, Err}
 use Rattle.sheet.specs.declared.Header.{Header}
 use Rattle.sheet.specs.declared.Record.{Record}
 use Rattle.sheet.specs.declared.Refusal.{Refusal}
 use Rattle.sheet.specs.declared.Refusal.TheVariants.{SheetShort, Version, HeaderField, TooSlender, SheetLength, OutputShort, Kind, Field, Order, NoSuchId, NoRoom, Text, FieldCount}
-use Rattle.sheet.specs.declared.Outcome.{Outcome}
-use Rattle.sheet.specs.declared.Outcome.TheVariants.{Fine, Refused as notFine}
-use Rattle.sheet.specs.declared.HeaderRead.{HeaderRead}
-use Rattle.sheet.specs.declared.HeaderRead.TheVariants.{Good as goodHeader, Refused as no_header}
-use Rattle.sheet.specs.declared.RecordRead.{RecordRead}
-use Rattle.sheet.specs.declared.RecordRead.TheVariants.{Good as goodRecord, Refused as noRecord}
 
 -- what was asked for, or a refusal's number and place
 pub data Answer (A : Type 0) : Type 0 where
@@ -52,17 +46,17 @@ place_of (FieldCount p) = p
 abbrev pub told : {A : Type 0} → Refusal → Answer A
 told r = refused (number_of r) (place_of r)
 
-abbrev pub told_outcome : Outcome → Answer (Unit {0})
-told_outcome Fine = given tt
-told_outcome (notFine r) = told r
+abbrev pub told_outcome : Result (Unit {0}) Refusal → Answer (Unit {0})
+told_outcome (Ok tt) = given tt
+told_outcome (Err r) = told r
 
-abbrev pub told_header : HeaderRead → Answer Header
-told_header (goodHeader h) = given h
-told_header (no_header r) = told r
+abbrev pub told_header : Result Header Refusal → Answer Header
+told_header (Ok h) = given h
+told_header (Err r) = told r
 
-abbrev pub told_record : RecordRead → Answer Record
-told_record (goodRecord r) = given r
-told_record (noRecord r) = told r
+abbrev pub told_record : Result Record Refusal → Answer Record
+told_record (Ok r) = given r
+told_record (Err r) = told r
 
 -- by the first faulty field, 0 being none: one refusal for the first field of all, another, by the field, for a later one
 abbrev pub refused_at : {A : Type 0} → Answer A → (ℕ → Answer A) → ℕ → Answer A → Answer A

@@ -263,22 +263,3 @@ impl Refusal {
         }
     }
 }
-
-// Nothing is at fault, or the first thing that is.
-#[derive(Clone, Copy)]
-pub enum Outcome {
-    Fine,
-    Refused(Refusal),
-}
-
-#[derive(Clone, Copy)]
-pub enum HeaderRead {
-    Good(Header),
-    Refused(Refusal),
-}
-
-#[derive(Clone, Copy)]
-pub enum RecordRead {
-    Good(Record),
-    Refused(Refusal),
-}

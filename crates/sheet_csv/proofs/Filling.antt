@@ -1,5 +1,6 @@
 -- The lines of records put one after another: those left, behind the bytes that are there, make what all of them make.
 -- Assumes nothing.
+use Rattle.std.specs.Prelude.{Result, Ok, Err}
 use Prim.Native.Nat.{ℕ, ◌+◌, ◌-◌, ◌≤◌}
 use mathlib.Core.Path.{◌≡◌, refl, sym, ap, subst, ◌∙◌}
 use mathlib.Core.Logic.{inl, ⊎_elim}
@@ -20,7 +21,6 @@ use Rattle.rows.specs.declared.Row.{Row}
 use Rattle.rows.specs.declared.RowEnd.TheVariants as RowEnd
 use Rattle.rows.specs.Rows.{header_row, record_row, told_row, shown}
 use Rattle.checker.specs.Check.{◌then◌}
-use Rattle.sheet_csv.specs.declared.Made.{Made}
 use Rattle.sheet_csv.specs.Read.{next_line, records_made, sheet_made}
 use Rattle.sheet_csv.specs.Steps.{draft_size, Held, PutsBehind, Fills}
 use Rattle.sheet_csv.specs.laws.ReadLaws.{sheet_by_row, header_twenty, in_front, nothing_in_front, given_in_front, refused_in_front, records_by_row, record_sixteen, Goes, Stops, row_more, row_last, row_refused}
@@ -93,29 +93,29 @@ module _ (whole : Answer (List ℕ)) (front : List ℕ) (filled : Bool) (s : Lis
             ∙ ap (λ (k : ℕ). records_made k (lines_left filled s n) then λ bs. given ((f.made ++ b) ++ bs)) (sym z);
       }
 
-  pub finish : r.end ≡ RowEnd.Last → (next : ℕ) (after : List ℕ) → PutsBehind (take r.size r.bytes) draft end next after → Fills whole front (Made.Length next) after
+  pub finish : r.end ≡ RowEnd.Last → (next : ℕ) (after : List ℕ) → PutsBehind (take r.size r.bytes) draft end next after → Fills whole front (Ok next) after
   finish e next after u =
       let g = ends e in
       let b = g.made in
       let v : PutsBehind b draft end next after = subst (λ (x : List ℕ). PutsBehind x draft end next after) g.bytes.front u in
       let h = held_more (front ++ f.made) b draft end next after f.held f.size (record_sixteen p (line_left filled s here) _ g.line) v in
-      subst (λ (x : Answer (List ℕ)). Fills x front (Made.Length next) after) (sym (f.rest ∙ given_in_front (records_made p (lines_left filled s here)) f.made b g.rest))
+      subst (λ (x : Answer (List ℕ)). Fills x front (Ok next) after) (sym (f.rest ∙ given_in_front (records_made p (lines_left filled s here)) f.made b g.rest))
       (subst (λ (x : List ℕ). Held x next after) (append_assoc front f.made b) h.0)
 
-  pub turned_away : (x : Refusal) → r.end ≡ RowEnd.Refused x → Fills whole front (Made.Refused x) draft
+  pub turned_away : (x : Refusal) → r.end ≡ RowEnd.Refused x → Fills whole front (Err x) draft
   turned_away x e =
       let g = row_refused (records_made (next_line p)) (records_made p (lines_left filled s here)) filled s here r (record_row p (line_left filled s here)) shows (records_by_row p filled s here) x e in
-      subst (λ (y : Answer (List ℕ)). Fills y front (Made.Refused x) draft) (sym (f.rest ∙ refused_in_front (records_made p (lines_left filled s here)) f.made _ _ g)) refl
+      subst (λ (y : Answer (List ℕ)). Fills y front (Err x) draft) (sym (f.rest ∙ refused_in_front (records_made p (lines_left filled s here)) f.made _ _ g)) refl
 
 -- ---- the header
 
 -- what is filled behind the header's bytes is filled from the front
-behind : (x : Answer (List ℕ)) (front : List ℕ) (m : Made) (draft : List ℕ) → Fills x front m draft → Fills (x then λ bs. given (front ++ bs)) [] m draft
+behind : (x : Answer (List ℕ)) (front : List ℕ) (m : Result ℕ Refusal) (draft : List ℕ) → Fills x front m draft → Fills (x then λ bs. given (front ++ bs)) [] m draft
 unfolding ◌then◌
-behind (given b) front (Made.Refused x) draft f = elim f [ ]
-behind (refused k p) front (Made.Length end) draft f = elim f [ ]
-behind (given b) front (Made.Length end) draft f = f
-behind (refused k p) front (Made.Refused x) draft f = f
+behind (given b) front (Err x) draft f = elim f [ ]
+behind (refused k p) front (Ok end) draft f = elim f [ ]
+behind (given b) front (Ok end) draft f = f
+behind (refused k p) front (Err x) draft f = f
 
 module _ (filled : Bool) (s draft : List ℕ) (size : length draft ≡ draft_size) (r : Row) (shows : told_row r ≡ shown (header_row 1 (line_left filled s 0))) where
   pub head_on : (n : ℕ) → r.end ≡ RowEnd.More n → Goes (records_made 2) (sheet_made (lines_left filled s 0)) filled s 0 r (header_row 1 (line_left filled s 0)) shows (sheet_by_row filled s) n
@@ -124,17 +124,17 @@ module _ (filled : Bool) (s draft : List ℕ) (size : length draft ≡ draft_siz
   pub head_ends : r.end ≡ RowEnd.Last → Stops (records_made 2) (sheet_made (lines_left filled s 0)) filled s 0 r (header_row 1 (line_left filled s 0)) shows (sheet_by_row filled s)
   head_ends e = row_last (records_made 2) (sheet_made (lines_left filled s 0)) filled s 0 r (header_row 1 (line_left filled s 0)) shows (sheet_by_row filled s) e
 
-  pub head_refused : (x : Refusal) → r.end ≡ RowEnd.Refused x → Fills (sheet_made (lines_left filled s 0)) [] (Made.Refused x) draft
+  pub head_refused : (x : Refusal) → r.end ≡ RowEnd.Refused x → Fills (sheet_made (lines_left filled s 0)) [] (Err x) draft
   head_refused x e =
-      subst (λ (y : Answer (List ℕ)). Fills y [] (Made.Refused x) draft)
+      subst (λ (y : Answer (List ℕ)). Fills y [] (Err x) draft)
       (sym (row_refused (records_made 2) (sheet_made (lines_left filled s 0)) filled s 0 r (header_row 1 (line_left filled s 0)) shows (sheet_by_row filled s) x e)) refl
 
-  pub head_alone : r.end ≡ RowEnd.Last → (next : ℕ) (after : List ℕ) → PutsBehind (take r.size r.bytes) draft 0 next after → Fills (sheet_made (lines_left filled s 0)) [] (Made.Length next) after
+  pub head_alone : r.end ≡ RowEnd.Last → (next : ℕ) (after : List ℕ) → PutsBehind (take r.size r.bytes) draft 0 next after → Fills (sheet_made (lines_left filled s 0)) [] (Ok next) after
   head_alone e next after u =
       let g = head_ends e in
       let small = header_twenty 1 (line_left filled s 0) _ g.line in
       let v : PutsBehind g.made draft 0 next after = subst (λ (x : List ℕ). PutsBehind x draft 0 next after) g.bytes.front u in
-      subst (λ (x : Answer (List ℕ)). Fills x [] (Made.Length next) after) (sym g.rest) (held_first g.made draft next after (omega arith) v).0
+      subst (λ (x : Answer (List ℕ)). Fills x [] (Ok next) after) (sym g.rest) (held_first g.made draft next after (omega arith) v).0
 
   module _ (n : ℕ) (e : r.end ≡ RowEnd.More n) (next : ℕ) (after : List ℕ) (u : PutsBehind (take r.size r.bytes) draft 0 next after) where
     held : Held (head_on n e).made next after × (length after ≡ length draft)
@@ -145,7 +145,7 @@ module _ (filled : Bool) (s draft : List ℕ) (size : length draft ≡ draft_siz
     pub head_room : (length after ≡ draft_size) × (next ≤ length after)
     head_room = (held.1 ∙ size, held.0.inside)
 
-    pub head_and_records : (m : Made) (done : List ℕ) → Fills (records_made 2 (lines_left filled s n)) (take next after) m done → Fills (sheet_made (lines_left filled s 0)) [] m done
+    pub head_and_records : (m : Result ℕ Refusal) (done : List ℕ) → Fills (records_made 2 (lines_left filled s n)) (take next after) m done → Fills (sheet_made (lines_left filled s 0)) [] m done
     head_and_records m done f =
         let g = head_on n e in
         let small = header_twenty 1 (line_left filled s 0) _ g.line in

@@ -1,5 +1,6 @@
 -- What is answered and written, by the answer.
 -- Assumes nothing.
+use Rattle.std.specs.Prelude.{Result, Ok, Err}
 use Prim.Native.Nat.{ℕ, ◌≤◌, ◌<◌}
 use mathlib.Core.Path.{◌≡◌, refl, sym, ap, ap₂, subst, ◌∙◌}
 use mathlib.Core.List.{List, [], ◌++◌}
@@ -12,23 +13,21 @@ use Rattle.sheet.specs.laws.RefusalLaws.{given_refused, refused_number, refused_
 use Rattle.checker.specs.Check.{◌then◌, demand, Sheet}
 use Rattle.checker.specs.Unjudged.{sound_sheet, sound_header}
 use Rattle.fields.specs.Lines.{Lines}
-use Rattle.sheet_csv.specs.declared.Converted.{Converted}
-use Rattle.sheet_csv.specs.declared.Made.{Made}
 use Rattle.sheet_csv.specs.Read.{sheet_made, sheet_of, length_of, output_by, Converts}
 use Rattle.sheet_csv.specs.Write.{text_of, text_from}
 use Rattle.sheet_csv.specs.Steps.{Fills, fits_in, sound_in}
 use Rattle.sheet_csv.specs.laws.HeldLaws.{held_sound}
 
 -- a refusal, with every byte as it was lent
-pub refuses : (a : Answer (List ℕ)) (o : List ℕ) (x : Refusal) → a ≡ told x → Converts a o (Converted.Refused x) o
-refuses a o x e = subst (λ (y : Answer (List ℕ)). Converts y o (Converted.Refused x) o) (sym e) (record { answer = refl; bytes = refl })
+pub refuses : (a : Answer (List ℕ)) (o : List ℕ) (x : Refusal) → a ≡ told x → Converts a o (Err x) o
+refuses a o x e = subst (λ (y : Answer (List ℕ)). Converts y o (Err x) o) (sym e) (record { answer = refl; bytes = refl })
 
 -- bytes in front
-pub converts : (a : Answer (List ℕ)) (b o after : List ℕ) → a ≡ given b → after ≡ b ++ drop (length b) o → Converts a o (Converted.Length (length b)) after
+pub converts : (a : Answer (List ℕ)) (b o after : List ℕ) → a ≡ given b → after ≡ b ++ drop (length b) o → Converts a o (Ok (length b)) after
 converts a b o after e f = record { answer = ap length_of (sym e); bytes = f ∙ ap (λ (y : Answer (List ℕ)). output_by y o) (sym e) }
 
 -- another answer that is the same
-pub converts_same : (a b : Answer (List ℕ)) (o : List ℕ) (r : Converted) (after : List ℕ) → a ≡ b → Converts a o r after → Converts b o r after
+pub converts_same : (a b : Answer (List ℕ)) (o : List ℕ) (r : Result ℕ Refusal) (after : List ℕ) → a ≡ b → Converts a o r after → Converts b o r after
 converts_same a b o r after e c = subst (λ (y : Answer (List ℕ)). Converts y o r after) e c
 
 -- ---- an output with room, and one without
@@ -64,20 +63,20 @@ module _ (b : List ℕ) (room : ℕ) where
 
 module _ (ls : Lines) (room : ℕ) (draft : List ℕ) where
   -- a line that is turned away
-  pub lines_refused : (x : Refusal) → Fills (sheet_made ls) [] (Made.Refused x) draft → sheet_of ls room ≡ told x
+  pub lines_refused : (x : Refusal) → Fills (sheet_made ls) [] (Err x) draft → sheet_of ls room ≡ told x
   unfolding ◌then◌
   lines_refused x f = go (sheet_made ls) f
     where
-      go : (y : Answer (List ℕ)) → Fills y [] (Made.Refused x) draft → (y then λ b. sound_in b room) ≡ told x
+      go : (y : Answer (List ℕ)) → Fills y [] (Err x) draft → (y then λ b. sound_in b room) ≡ told x
       go (given _) e = elim e [ ]
       go (refused k p) e = ap₂ refused (refused_number (sym e)) (refused_place (sym e))
 
   -- lines that make bytes: within the draft, and answered as what it holds
-  pub lines_made : (end : ℕ) → Fills (sheet_made ls) [] (Made.Length end) draft → (end ≤ length draft) × (sound_in (take end draft) room ≡ sheet_of ls room)
+  pub lines_made : (end : ℕ) → Fills (sheet_made ls) [] (Ok end) draft → (end ≤ length draft) × (sound_in (take end draft) room ≡ sheet_of ls room)
   unfolding ◌then◌
   lines_made end f = go (sheet_made ls) f
     where
-      go : (y : Answer (List ℕ)) → Fills y [] (Made.Length end) draft → (end ≤ length draft) × (sound_in (take end draft) room ≡ (y then λ b. sound_in b room))
+      go : (y : Answer (List ℕ)) → Fills y [] (Ok end) draft → (end ≤ length draft) × (sound_in (take end draft) room ≡ (y then λ b. sound_in b room))
       go (refused number place) h = elim h [ ]
       go (given b) h = (h.inside, held_sound b end draft h room)
 

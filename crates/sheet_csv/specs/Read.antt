@@ -1,13 +1,12 @@
 -- A sheet from comma-separated text: the lines in turn, the first faulty one decides; then the table's own refusals on the sheet that they make; then 5.
-use Rattle.std.specs.Prelude.{ℕ, ◌+◌, ◌≡◌, cond, List, [], ◌++◌, map, length, drop, leb, ltb}
+use Rattle.std.specs.Prelude.{ℕ, ◌+◌, ◌≡◌, cond, List, [], ◌++◌, map, length, drop, leb, ltb, Result, Ok, Err}
 use Rattle.sheet.specs.Refusals.{Answer, given, refused, told}
 use Rattle.fields.specs.Lines.{Lines, none, bad, row, lines_in}
 use Rattle.text.specs.laws.LinesLaws.{value_in}
 use Rattle.rows.specs.Rows.{header_line, record_line}
 use Rattle.checker.specs.Check.{◌then◌, demand}
 use Rattle.checker.specs.Unjudged.{sound_sheet}
-use Rattle.sheet_csv.specs.declared.Converted.{Converted}
-use Rattle.sheet_csv.specs.declared.Converted.TheVariants.{Length, Refused as notConverted}
+use Rattle.sheet.specs.declared.Refusal.{Refusal}
 
 -- ---- the sheet that the lines make
 
@@ -43,9 +42,9 @@ sheet_from s room = sheet_of (lines_in s) room
 
 -- ---- what is answered and written
 
-abbrev pub told_converted : Converted → Answer ℕ
-told_converted (Length n) = given n
-told_converted (notConverted r) = told r
+abbrev pub told_converted : Result ℕ Refusal → Answer ℕ
+told_converted (Ok n) = given n
+told_converted (Err r) = told r
 
 abbrev pub length_of : Answer (List ℕ) → Answer ℕ
 length_of (given b) = given (length b)
@@ -57,6 +56,6 @@ output_by (given b) o = b ++ drop (length b) o
 output_by (refused k p) o = o
 
 -- What the contracts say: how many bytes were written, or why none were, and the output's bytes as the function returns.
-pub record Converts (a : Answer (List ℕ)) (o : List ℕ) (r : Converted) (after : List ℕ) : Type 0 where
+pub record Converts (a : Answer (List ℕ)) (o : List ℕ) (r : Result ℕ Refusal) (after : List ℕ) : Type 0 where
   pub answer : told_converted r ≡ length_of a
   pub bytes : after ≡ output_by a o

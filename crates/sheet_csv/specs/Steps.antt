@@ -1,5 +1,5 @@
 -- What the functions of this crate say to each other. No promise to a caller rests on this.
-use Rattle.std.specs.Prelude.{ℕ, zero, suc, ◌+◌, ◌≤◌, ◌⊎◌, ◌≡◌, List, [], ◌++◌, length, take, drop, leb}
+use Rattle.std.specs.Prelude.{ℕ, zero, suc, ◌+◌, ◌≤◌, ◌⊎◌, ◌≡◌, List, [], ◌++◌, length, take, drop, leb, Result, Ok, Err}
 use Rattle.decimal.specs.Put.{put_count, put_on}
 use Rattle.sheet.specs.declared.Record.{Record}
 use Rattle.sheet.specs.Refusals.{Answer, given, refused, told}
@@ -9,8 +9,8 @@ use Rattle.checker.specs.Check.{◌then◌, demand, record_part}
 use Rattle.checker.specs.Unjudged.{sound_sheet}
 use Rattle.rows.specs.Pack.{fields_of}
 use Rattle.rows.specs.Rows.{zeros}
-use Rattle.sheet_csv.specs.declared.Made.{Made}
 use Rattle.sheet_csv.specs.Write.{line, record_cells}
+use Rattle.sheet.specs.declared.Refusal.{Refusal}
 
 -- ---- reading
 
@@ -31,11 +31,11 @@ pub record PutsBehind (b draft : List ℕ) (end next : ℕ) (after : List ℕ) :
   pub bytes : after ≡ take end draft ++ put_on b (drop end draft)
 
 -- what is answered of the bytes that the lines make, behind `front`
-abbrev pub Fills : Answer (List ℕ) → (front : List ℕ) → Made → (draft : List ℕ) → Type 0
-Fills (given b) front (Made.Length end) draft = Held (front ++ b) end draft
-Fills (given b) front (Made.Refused x) draft = ⊥
-Fills (refused k p) front (Made.Length end) draft = ⊥
-Fills (refused k p) front (Made.Refused x) draft = told {A = ℕ} x ≡ refused k p
+abbrev pub Fills : Answer (List ℕ) → (front : List ℕ) → Result ℕ Refusal → (draft : List ℕ) → Type 0
+Fills (given b) front (Ok end) draft = Held (front ++ b) end draft
+Fills (given b) front (Err x) draft = ⊥
+Fills (refused k p) front (Ok end) draft = ⊥
+Fills (refused k p) front (Err x) draft = told {A = ℕ} x ≡ refused k p
 
 -- bytes in an output of so many: 5 where it is too short for them
 abbrev pub fits_in : List ℕ → (room : ℕ) → Answer (List ℕ)

@@ -1,5 +1,5 @@
 -- Judging a record: a header or a record outside its values is refused by the table, and every other pair gets its verdict.
-use Rattle.std.specs.Prelude.{ℕ, ◌≡◌}
+use Rattle.std.specs.Prelude.{ℕ, ◌≡◌, Result, Ok, Err}
 use Rattle.sheet.specs.declared.Header.{Header}
 use Rattle.sheet.specs.declared.Record.{Record}
 use Rattle.sheet.specs.Header.{header_fault}
@@ -7,8 +7,8 @@ use Rattle.sheet.specs.Record.{record_fault}
 use Rattle.sheet.specs.Refusals.{Answer, given, told, header_refused, record_refused}
 use Rattle.loads.specs.Sources.{number_of}
 use Rattle.verdict.specs.declared.Verdict.{Verdict}
+use Rattle.sheet.specs.declared.Refusal.{Refusal}
 use Rattle.verdict.specs.declared.Judged.{Judged}
-use Rattle.verdict.specs.declared.Judged.TheVariants.{Verdict as isVerdict, Refused as notJudged}
 
 -- the verdict on a record, and the number of what its pressure comes from
 pub record Finding : Type 0 where
@@ -16,9 +16,9 @@ pub record Finding : Type 0 where
   pub source : ℕ
 
 -- what the code's answer says
-abbrev pub told_judged : Judged → Answer Finding
-told_judged (isVerdict v s) = given (record { verdict = v; source = number_of s })
-told_judged (notJudged r) = told r
+abbrev pub told_judged : Result Judged Refusal → Answer Finding
+told_judged (Ok j) = given (record { verdict = j.verdict; source = number_of j.source })
+told_judged (Err r) = told r
 
 -- 2 and 3 for the header, then 6 and 7 for the record as record 0, and else what is given
 unfoldable pub judged_by : {A : Type 0} → Header → Record → A → Answer A

@@ -9,7 +9,7 @@ ghost use Rattle.verdict.specs.Judged.{judged_by};
 
 use gauge::Shape;
 use loads::Source;
-use sheet::{Header, Member, Outcome, Plate, Refusal};
+use sheet::{Header, Member, Plate, Refusal};
 
 // Rule 0 is a pass. Required is 0 on a pass, and where nothing in the gauge will do.
 #[derive(Clone, Copy)]
@@ -18,12 +18,11 @@ pub struct Verdict {
     pub required: u32,
 }
 
-// What judging a record gives.
+// What judging a record gives: the verdict, and what the record's pressure comes from.
 #[derive(Clone, Copy)]
-pub enum Judged {
-    // the verdict, and what the record's pressure comes from
-    Verdict(Verdict, Source),
-    Refused(Refusal),
+pub struct Judged {
+    pub verdict: Verdict,
+    pub source: Source,
 }
 
 // The verdict where the rule of this number fails: the least of the gauge 1, 2, .., top that meets its shape.
@@ -38,20 +37,14 @@ pub fn failed(rule: u8, d: Shape, top: u32) -> Verdict
 pub fn admitted_plate(h: Header, kind: u8, id: u16, p: Plate) -> Result<(), Refusal>
     ensures { told_outcome result ≡ judged_by h (of_plate kind id p) tt }
 {
-    let first = header::header_fault(h);
-    match first {
-        Err(x) => Err(x),
-        Ok(()) => record::plate_outcome(kind, id, p),
-    }
+    header::header_fault(h)?;
+    record::plate_outcome(kind, id, p)
 }
 
 // The same for a member's record.
 pub fn admitted_member(h: Header, kind: u8, id: u16, m: Member) -> Result<(), Refusal>
     ensures { told_outcome result ≡ judged_by h (of_member kind id m) tt }
 {
-    let first = header::header_fault(h);
-    match first {
-        Err(x) => Err(x),
-        Ok(()) => record::member_outcome(kind, id, m),
-    }
+    header::header_fault(h)?;
+    record::member_outcome(kind, id, m)
 }

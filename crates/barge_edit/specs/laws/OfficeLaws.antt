@@ -1,6 +1,6 @@
 -- An edit of a file: how many records are printed, its new sheet is in the buffer, and what was read of it turns it away as the whole would be.
 -- Assumes nothing.
-use Rattle.std.specs.Prelude.{ℕ, ◌≤◌, ◌≡◌, Bool, true, false, cond, List, length, take, ltb}
+use Rattle.std.specs.Prelude.{ℕ, ◌≤◌, ◌≡◌, Bool, true, false, cond, List, length, take, ltb, Result, Ok, Err}
 use Rattle.std.proofs.Common.{sym, ap₂, ◌∙◌, arith, take_all, take-take, le-leb}
 use Rattle.std.proofs.Math.Path.{ap}
 use Rattle.sheet.specs.declared.Header.{Header}
@@ -11,11 +11,10 @@ use Rattle.checker.specs.Check.{◌then◌, demand, sheet_size, Sheet, sheet_in}
 use Rattle.checker.specs.Unjudged.{room, sound_sheet}
 use Rattle.checker.specs.laws.Longer.{sheet_cut}
 use Rattle.sheet.specs.Versions.{enough}
-use Rattle.edit.specs.declared.Edited.{Edited}
-use Rattle.edit.specs.declared.Edited.TheVariants.{Length, Refused as notEdited}
 use Rattle.edit.specs.Edit.{sheet_at, header_of, After, put_numbers_in, remove_in, told_edited, size_by, Edits}
 use Rattle.edit.specs.laws.Within.{numbers_within, remove_within, length_within}
 use Rattle.barge_edit.specs.Office.{fields_of, record_count, EditInside, OfFile}
+use Rattle.sheet.specs.declared.Refusal.{Refusal}
 
 -- no record is more than 13 numbers
 pub fields_most : (kind : ℕ) → fields_of kind ≤ 13
@@ -31,14 +30,14 @@ pub records_counted : (h : Header) → record_count (sheet_size h) ≡ h.count
 records_counted h = let v = regular h.own in omega (arith, v.least, v.less)
 
 -- the new sheet is in the buffer
-inside : (x : Answer After) (b : List ℕ) (e : Edited) (after : List ℕ) → ((a : After) → x ≡ given a → a.size ≤ length b) → Edits x b e after → EditInside e (length b)
-inside x b (Length n) after l d = length_within x b n after l d
-inside x b (notEdited r) after l d = tt
+inside : (x : Answer After) (b : List ℕ) (e : Result ℕ Refusal) (after : List ℕ) → ((a : After) → x ≡ given a → a.size ≤ length b) → Edits x b e after → EditInside e (length b)
+inside x b (Ok n) after l d = length_within x b n after l d
+inside x b (Err r) after l d = tt
 
-pub put_inside : (b : List ℕ) (len : ℕ) (ns : List ℕ) (e : Edited) (after : List ℕ) → Edits (put_numbers_in b len ns) b e after → EditInside e (length b)
+pub put_inside : (b : List ℕ) (len : ℕ) (ns : List ℕ) (e : Result ℕ Refusal) (after : List ℕ) → Edits (put_numbers_in b len ns) b e after → EditInside e (length b)
 put_inside b len ns e after d = inside (put_numbers_in b len ns) b e after (numbers_within b len ns) d
 
-pub remove_inside : (b : List ℕ) (len id : ℕ) (e : Edited) (after : List ℕ) → Edits (remove_in b len id) b e after → EditInside e (length b)
+pub remove_inside : (b : List ℕ) (len id : ℕ) (e : Result ℕ Refusal) (after : List ℕ) → Edits (remove_in b len id) b e after → EditInside e (length b)
 remove_inside b len id e after d = inside (remove_in b len id) b e after (remove_within b len id) d
 
 -- ---- the whole file
@@ -74,11 +73,11 @@ module _ (b : List ℕ) (got : ℕ) (l : enough ≤ length b) (m : got ≤ lengt
   unfolding remove_in ◌then◌
   remove_away id = rw away
 
-  told_away : (x : Answer After) (r : Edited) (after : List ℕ) → Edits x b r after → x ≡ refused k p → told_edited r ≡ refused k p
+  told_away : (x : Answer After) (r : Result ℕ Refusal) (after : List ℕ) → Edits x b r after → x ≡ refused k p → told_edited r ≡ refused k p
   unfolding size_by
   told_away x r after d f = d.answer ∙ ap size_by f
 
-module _ (b : List ℕ) (got : ℕ) (l : enough ≤ length b) (m : got ≤ length b) (r : Edited) (after : List ℕ) where
+module _ (b : List ℕ) (got : ℕ) (l : enough ≤ length b) (m : got ≤ length b) (r : Result ℕ Refusal) (after : List ℕ) where
   pub put_of_file : (ns : List ℕ) → Edits (put_numbers_in b got ns) b r after → OfFile (put_numbers_in b got ns) b got r after
   put_of_file ns d = record { edits = d; whole = λ input e k p t. told_away b got l m input e k p t _ r after d (put_away b got l m input e k p t ns) }
 

@@ -1,11 +1,9 @@
 -- What is read of an input says all; a sheet that is not turned away has the bytes that its header says; and a trail is within its page.
 -- Assumes nothing.
-use Rattle.std.specs.Prelude.{ℕ, ◌+◌, ◌-◌, ◌≤◌, ◌≡◌, refl, List, ◌++◌, length, take, drop, replicate}
+use Rattle.std.specs.Prelude.{ℕ, ◌+◌, ◌-◌, ◌≤◌, ◌≡◌, refl, List, ◌++◌, length, take, drop, replicate, Result, Ok, Err}
 use Rattle.std.proofs.Common.{sym, ap, subst, ◌∙◌, arith, length-append, take_at, take-take}
 use Rattle.std.proofs.lemmas.List.{length-replicate}
 use Rattle.sheet.specs.declared.Header.{Header}
-use Rattle.sheet.specs.declared.HeaderRead.{HeaderRead}
-use Rattle.sheet.specs.declared.HeaderRead.TheVariants.{Good, Refused as notRead}
 use Rattle.sheet.specs.declared.Record.{Record}
 use Rattle.sheet.specs.Refusals.{Answer, given, told_header}
 use Rattle.sheet.specs.laws.RefusalLaws.{given_same}
@@ -22,6 +20,7 @@ use Rattle.decimal.specs.laws.LaidLaws.{laid_front}
 use Rattle.wording.specs.Writes.{Spot, spot, Writes, text_of}
 use Rattle.wording.specs.laws.WritesLaws.{all_laid}
 use Rattle.barge_explain.specs.Explain.{Sized, room}
+use Rattle.sheet.specs.declared.Refusal.{Refusal}
 
 -- what is read of an input up to `enough` bytes or more says what the whole of it says
 pub header_cut : (k : ℕ) (s : List ℕ) → enough ≤ k → sound_header (take k s) ≡ sound_header s
@@ -31,12 +30,12 @@ header_cut k s l =
     = sym (sheet_cut (take k s) sheetRoom) ∙ ap (λ (b : List ℕ). sheet_in b sheetRoom) (take-take enough k s l) ∙ sheet_cut s sheetRoom in
     ap (λ (x : Answer Sheet). x then λ t. given t.header) cut
 
-pub sized : (s : List ℕ) (r : HeaderRead) → told_header r ≡ sound_header s → Sized r (length s)
+pub sized : (s : List ℕ) (r : Result Header Refusal) → told_header r ≡ sound_header s → Sized r (length s)
 unfolding sound_header sound_sheet
-sized s (Good h) e =
+sized s (Ok h) e =
     let a = then_given (sheet_in s sheetRoom) (λ t. given t.header) h (sym e) in
     subst (λ (g : Header). sheet_size g ≡ length s) (given_same a.2) (sym (sheet_whole s sheetRoom a.0 a.1).header.whole)
-sized s (notRead r) e = tt
+sized s (Err r) e = tt
 
 pub trail_inside : (h : Header) (r : Record) (t : Trail) → Trails h r t → t.len ≤ length t.bytes
 trail_inside h r t w =

@@ -1,4 +1,5 @@
 -- `barge_text::refusal_page` meets its contract: a page has room for the line.
+use Rattle.std.specs.Prelude.{Result}
 use mathlib.Core.Path.{◌≡◌, sym, ap, ◌∙◌}
 use mathlib.Core.List.{List, ◌++◌}
 use Prim.Native.Nat.{ℕ}
@@ -11,10 +12,9 @@ use Rattle.report.specs.Page.{longest, told_length}
 use Rattle.report.specs.laws.PageLaws.{refusal_told}
 use Rattle.report.specs.Pieces.{refusal_text, TellsRefusal}
 use Rattle.sheet.specs.declared.Refusal.{Refusal}
-use Rattle.report.specs.declared.Told.{Told}
 use Rattle.barge_text.proofs.refusal_page.Goals as goal
 
-module _ (r : Refusal) {told : Told} {text : List ℕ} (t : TellsRefusal r (replicate longest 0) told text) where
+module _ (r : Refusal) {told : Result ℕ Refusal} {text : List ℕ} (t : TellsRefusal r (replicate longest 0) told text) where
   spelled : (told_length told ≡ given (length (refusal_text r))) × (text ≡ refusal_text r ++ drop (length (refusal_text r)) (replicate longest 0))
   spelled = refusal_told r (replicate longest 0) told text (omega arith) t
 

@@ -1,6 +1,6 @@
 -- What is made of the input is in the output, what is printed of a text is what is printed of its sheet, and no more of a sheet has to be read than is.
 -- Assumes nothing.
-use Rattle.std.specs.Prelude.{ℕ, ◌≤◌, ◌≡◌, refl, List, [], ◌∷◌, ◌++◌, length, take, drop}
+use Rattle.std.specs.Prelude.{ℕ, ◌≤◌, ◌≡◌, refl, List, [], ◌∷◌, ◌++◌, length, take, drop, Result, Ok, Err}
 use Rattle.std.proofs.Common.{sym, ap, ap₂, ◌∙◌, arith, length-append, take_at, take-take}
 use Rattle.sheet.specs.declared.Refusal.{Refusal}
 use Rattle.sheet.specs.Versions.{longest_sheet, enough}
@@ -11,8 +11,6 @@ use Rattle.checker.specs.Unjudged.{room, sound_sheet}
 use Rattle.checker.specs.laws.Longer.{sheet_cut}
 use Rattle.report.specs.Text.{line, refused_word, printed, text_by, text_of}
 use Rattle.report.specs.Pieces.{refusal_text}
-use Rattle.sheet_csv.specs.declared.Converted.{Converted}
-use Rattle.sheet_csv.specs.declared.Converted.TheVariants.{Length, Refused as notConverted}
 use Rattle.sheet_csv.specs.Read.{length_of, output_by, Converts}
 use Rattle.sheet_csv.specs.Table.{table_from}
 use Rattle.sheet_csv.specs.Write.{text_from}
@@ -21,16 +19,16 @@ use Rattle.barge_text.specs.Convert.{MadeInside, printed_text, printed_by}
 -- ---- the output
 
 -- what stands in front of it has no more bytes than it
-within : (a : Answer (List ℕ)) (o : List ℕ) (n : ℕ) (after : List ℕ) → length after ≡ length o → Converts a o (Length n) after → n ≤ length o
+within : (a : Answer (List ℕ)) (o : List ℕ) (n : ℕ) (after : List ℕ) → length after ≡ length o → Converts a o (Ok n) after → n ≤ length o
 within a o n after k d = go a refl
   where
     go : (x : Answer (List ℕ)) → a ≡ x → n ≤ length o
     go (given b) e = omega (arith, given_same (d.answer ∙ ap length_of e), ap length (d.bytes ∙ ap (λ (x : Answer (List ℕ)). output_by x o) e), length-append b (drop (length b) o))
     go (refused m p) e = given_refused (d.answer ∙ ap length_of e)
 
-pub made_inside : (a : Answer (List ℕ)) (o : List ℕ) (r : Converted) (after : List ℕ) → length after ≡ length o → Converts a o r after → MadeInside r (length after)
-made_inside a o (Length n) after k d = omega (arith, within a o n after k d)
-made_inside a o (notConverted x) after k d = tt
+pub made_inside : (a : Answer (List ℕ)) (o : List ℕ) (r : Result ℕ Refusal) (after : List ℕ) → length after ≡ length o → Converts a o r after → MadeInside r (length after)
+made_inside a o (Ok n) after k d = omega (arith, within a o n after k d)
+made_inside a o (Err x) after k d = tt
 
 -- ---- what is printed of a text
 
@@ -38,14 +36,14 @@ refusal_text_lem : (r : Refusal) (k p : ℕ) → number_of r ≡ k → place_of 
 unfolding refusal_text text_by
 refusal_text_lem r k p e f = ap₂ {C = List ℕ} (λ x y. refused_word ++ line (x ∷ y ∷ [])) e f
 
-by_answer : (a : Answer (List ℕ)) (o : List ℕ) (r : Converted) (after : List ℕ) → Converts a o r after → printed_by r after ≡ text_by (a then printed)
+by_answer : (a : Answer (List ℕ)) (o : List ℕ) (r : Result ℕ Refusal) (after : List ℕ) → Converts a o r after → printed_by r after ≡ text_by (a then printed)
 unfolding ◌then◌ text_of
-by_answer (given b) o (Length n) after d = ap text_of (ap (take n) d.bytes ∙ take_at b (drop (length b) o) n (sym (given_same d.answer)))
-by_answer (given b) o (notConverted x) after d = given_refused (sym d.answer)
-by_answer (refused k p) o (Length n) after d = given_refused d.answer
-by_answer (refused k p) o (notConverted x) after d = refusal_text_lem x k p (refused_number d.answer) (refused_place d.answer)
+by_answer (given b) o (Ok n) after d = ap text_of (ap (take n) d.bytes ∙ take_at b (drop (length b) o) n (sym (given_same d.answer)))
+by_answer (given b) o (Err x) after d = given_refused (sym d.answer)
+by_answer (refused k p) o (Ok n) after d = given_refused d.answer
+by_answer (refused k p) o (Err x) after d = refusal_text_lem x k p (refused_number d.answer) (refused_place d.answer)
 
-pub made_printed : (s o : List ℕ) (r : Converted) (after : List ℕ) → Converts (table_from s longest_sheet) o r after → printed_by r after ≡ printed_text s
+pub made_printed : (s o : List ℕ) (r : Result ℕ Refusal) (after : List ℕ) → Converts (table_from s longest_sheet) o r after → printed_by r after ≡ printed_text s
 unfolding printed_text
 made_printed s o r after d = by_answer (table_from s longest_sheet) o r after d
 

@@ -1,12 +1,10 @@
 -- The verdict on a sound record can be written.
 -- Assumes nothing.
-use Rattle.std.specs.Prelude.{ℕ, ◌+◌, ◌≤◌, ◌≡◌, refl, Bool, true, false, cond, ◌&&◌, List, [], ◌∷◌, leb, eqb}
+use Rattle.std.specs.Prelude.{ℕ, ◌+◌, ◌≤◌, ◌≡◌, refl, Bool, true, false, cond, ◌&&◌, List, [], ◌∷◌, leb, eqb, Option, Some, None}
 use Rattle.std.proofs.Common.{arith, leb-true, ne_eqb}
 use Rattle.truth.specs.laws.Tests.{both}
 use Rattle.quantity.specs.Range.{from, within, modulus}
 use Rattle.quantity.specs.laws.RangeLaws.{lies_within}
-use Rattle.gauge.specs.declared.Least.{Least}
-use Rattle.gauge.specs.declared.Least.TheVariants.{At, Nothing}
 use Rattle.gauge.specs.Least.{least_in, number_of, Answer as LeastAnswer}
 use Rattle.gauge.specs.laws.LeastLaws.{least_answers}
 use Rattle.loads.specs.declared.Source.TheVariants.{Cargo}
@@ -45,9 +43,9 @@ rules_fit (r ∷ rs) = rule_fits r && rules_fit rs
 least_most : (test : ℕ → Bool) (top : ℕ) → number_of (least_in test top) ≤ top
 least_most test top = go (least_in test top) (least_answers test top)
   where
-    go : (l : Least) → LeastAnswer test 1 (top + 1) l → number_of l ≤ top
-    go (At k) a = omega (arith, a.within)
-    go Nothing a = omega arith
+    go : (l : Option ℕ) → LeastAnswer test 1 (top + 1) l → number_of l ≤ top
+    go (Some k) a = omega (arith, a.within)
+    go None a = omega arith
 
 up_to : (high v : ℕ) → v ≤ high → within (from 0 high) v ≡ true
 up_to high v l = lies_within (from 0 high) v (omega arith) l

@@ -3,9 +3,8 @@
 use Rattle.std.specs.Prelude.{ℕ, zero, suc, ◌≡◌, refl, true, List, [], ◌∷◌, ◌++◌, take, set}
 use Rattle.std.proofs.Common.{ap, ◌∙◌, arith, lit≤, lit<}
 use Rattle.hull.specs.Raising.{InGauge}
-use Rattle.checker.specs.declared.Checked.TheVariants.{Done}
 use Rattle.checker.specs.Entry.{entry_bytes, read_entry}
-use Rattle.checker.specs.Check.{four_at}
+use Rattle.checker.specs.Check.{four_at, tallied}
 use Rattle.checker.specs.laws.Computing.{checking}
 use Rattle.demands.specs.Table.{Row, HeaderSound}
 use Rattle.demands.specs.laws.SlenderRead.{later_version}
@@ -45,12 +44,12 @@ each_row = (
 bare_sound : HeaderSound bare
 bare_sound = record { long = lit≤ tt; fields = (refl, (refl, (refl, (refl, (refl, (refl, (refl, (refl, (refl, tt))))))))) }
 
-pub bare_accepted : (P : Program) → Demands P → (out : List ℕ) → (P.answer bare out ≡ Done 0 0) × (P.after bare out ≡ out)
+pub bare_accepted : (P : Program) → Demands P → (out : List ℕ) → (P.answer bare out ≡ tallied 0 0) × (P.after bare out ≡ out)
 bare_accepted P d out = (d.first bare out).none_judged refl bare_sound (λ z. omega (arith, later_version bare z)) refl
 
 -- what the checker answers and leaves on a sheet with a number and on one with none
-checker_numbers : (checker.answer example lent ≡ Done 2 2) × Leaves checker example lent 0 (record { id = 7; rule = 3; required = 617; source = 0 })
-    × (checker.answer stressed lent ≡ Done 1 1) × Leaves checker stressed lent 0 (record { id = 12; rule = 5; required = 0; source = 0 })
+checker_numbers : (checker.answer example lent ≡ tallied 2 2) × Leaves checker example lent 0 (record { id = 7; rule = 3; required = 617; source = 0 })
+    × (checker.answer stressed lent ≡ tallied 1 1) × Leaves checker stressed lent 0 (record { id = 12; rule = 5; required = 0; source = 0 })
 unfolding checking
 checker_numbers = (refl, refl, refl, refl)
 
@@ -64,8 +63,8 @@ no_number_example x g e =
     omega (arith, w.0)
 
 -- what it answers and leaves on a plate under ballast: at T 620 it fails rule 2, at 676 it passes, both with source 2
-flooded_numbers : (checker.answer (flooded 155) lent ≡ Done 1 1) × Leaves checker (flooded 155) lent 0 (record { id = 5; rule = 2; required = 676; source = 2 })
-    × (checker.answer (flooded 169) lent ≡ Done 1 0) × Leaves checker (flooded 169) lent 0 (record { id = 5; rule = 0; required = 0; source = 2 })
+flooded_numbers : (checker.answer (flooded 155) lent ≡ tallied 1 1) × Leaves checker (flooded 155) lent 0 (record { id = 5; rule = 2; required = 676; source = 2 })
+    × (checker.answer (flooded 169) lent ≡ tallied 1 0) × Leaves checker (flooded 169) lent 0 (record { id = 5; rule = 0; required = 0; source = 2 })
 unfolding checking
 flooded_numbers = (refl, refl, refl, refl)
 
@@ -99,12 +98,12 @@ two_raisings P d =
     ∙ two_not_enough.2
 
 -- what the empty programs answer and leave on the example, which they accept
-pub empty_on_example : (passing.answer example lent ≡ Done 2 0)
+pub empty_on_example : (passing.answer example lent ≡ tallied 2 0)
     × (passing.after example lent ≡ entry_bytes (record { id = 7; rule = 0; required = 0; source = 0 }) ++ (entry_bytes (record { id = 12; rule = 0; required = 0; source = 0 }) ++ (170 ∷ [])))
-    × ((naming 617).answer example lent ≡ Done 2 2)
+    × ((naming 617).answer example lent ≡ tallied 2 2)
     × ((naming 617).after example lent ≡ entry_bytes (record { id = 7; rule = 3; required = 617; source = 0 }) ++ (entry_bytes (record { id = 12; rule = 5; required = 617; source = 0 }) ++ (170 ∷ [])))
-    × (first_only.answer example lent ≡ Done 2 1)
+    × (first_only.answer example lent ≡ tallied 2 1)
     × (first_only.after example lent ≡ entry_bytes (record { id = 7; rule = 3; required = 617; source = 0 }) ++ (entry_bytes (record { id = 12; rule = 0; required = 0; source = 0 }) ++ (170 ∷ [])))
-    × ((counting (λ h. 1)).answer example lent ≡ Done 2 1)
+    × ((counting (λ h. 1)).answer example lent ≡ tallied 2 1)
 unfolding checking
 empty_on_example = (refl, refl, refl, refl, refl, refl, refl)

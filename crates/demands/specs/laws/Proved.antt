@@ -1,7 +1,7 @@
 -- Every program that meets the promise of `check` meets the three demands.
 -- Assumes nothing.
 use Prim.Native.Nat.{ℕ, zero, suc, ◌+◌, ◌*◌, ◌≤◌, ◌<◌}
-use Rattle.std.specs.Prelude.{◌≡◌, Bool, length, drop}
+use Rattle.std.specs.Prelude.{◌≡◌, Bool, length, drop, Result, Err}
 use Rattle.std.proofs.Math.Path.{refl, ap, ap₂, subst}
 use Rattle.std.proofs.Common.{sym, ◌∙◌, length-append, length-drop}
 use Rattle.std.proofs.Math.Bool.{true, false, cond}
@@ -26,10 +26,8 @@ use Rattle.hull.specs.Raising.{raised, put_record, InGauge, OwnRule, raised_once
 use Rattle.hull.specs.laws.PutLaws.{own_sound}
 use Rattle.hull.specs.laws.RaisingLaws.{with_number, three_raisings}
 use Rattle.checker.specs.declared.Entry.{Entry}
-use Rattle.checker.specs.declared.Checked.{Checked}
-use Rattle.checker.specs.declared.Checked.TheVariants.{Done, Refused as notDone}
 use Rattle.checker.specs.Entry.{entry_bytes, read_entry}
-use Rattle.checker.specs.Check.{◌then◌, records_part, record_part, record_of, Sheet, sheet_in, entry_with, entry_of, verdicts, bytes_of, failures, Totals, told_checked, answer_of, output_of, four_at}
+use Rattle.checker.specs.Check.{◌then◌, records_part, record_part, record_of, Sheet, sheet_in, entry_with, entry_of, verdicts, bytes_of, failures, Totals, told_checked, answer_of, output_of, four_at, tallied}
 use Rattle.checker.specs.Whole.{Taken, none, next}
 use Rattle.checker.specs.laws.CheckLaws.{sheet_whole, record_given, verdict_at, verdict_read, verdicts_count, rest_as_lent, answer_done, answer_sheet, output_done, bytes_length, refused_as_lent}
 use Rattle.demands.specs.Table.{head_size, count_of, HeaderSound, TooSlender, Row, Accepted}
@@ -41,6 +39,8 @@ use Rattle.demands.specs.laws.FirstUnmet.{rule_passes, rule_fails}
 use Rattle.demands.specs.laws.Rows as rows
 use Rattle.demands.specs.laws.Scantling.{rule_above, named_own, number_in_gauge, met_exactly, later_exactly}
 use Rattle.demands.specs.laws.Exchange as exchange
+use Rattle.sheet.specs.declared.Refusal.{Refusal}
+use Rattle.checker.specs.declared.Checked.{Checked}
 
 -- ---- a sheet that is not refused
 
@@ -97,22 +97,22 @@ rule_of h r l = rule_above h r (with_number h r l)
 
 module _ (P : Program) (meets : Meets P) where
   -- what it answers and what it leaves
-  done_given : (s out : List ℕ) (n failed : ℕ) → P.answer s out ≡ Done n failed → answer_of s (length out) ≡ given (record { n = n; failed = failed })
-  done_given s out n failed e = sym (meets s out).answer ∙ ap (λ (c : Checked). told_checked c) e
+  done_given : (s out : List ℕ) (n failed : ℕ) → P.answer s out ≡ tallied n failed → answer_of s (length out) ≡ given (record { n = n; failed = failed })
+  done_given s out n failed e = sym (meets s out).answer ∙ ap (λ (c : Result Checked Refusal). told_checked c) e
 
-  given_done : (s out : List ℕ) (w : Totals) → answer_of s (length out) ≡ given w → P.answer s out ≡ Done w.n w.failed
+  given_done : (s out : List ℕ) (w : Totals) → answer_of s (length out) ≡ given w → P.answer s out ≡ tallied w.n w.failed
   given_done s out w e = go (P.answer s out) refl
     where
-      go : (c : Checked) → P.answer s out ≡ c → P.answer s out ≡ Done w.n w.failed
-      go (Done m x) f =
-          let same = given_same (sym (done_given s out m x f) ∙ e) in
-          f ∙ ap₂ Done (ap (λ (u : Totals). u.n) same) (ap (λ (u : Totals). u.failed) same)
-      go (notDone r) f = given_refused (sym e ∙ sym (meets s out).answer ∙ ap (λ (c : Checked). told_checked c) f)
+      go : (c : Result Checked Refusal) → P.answer s out ≡ c → P.answer s out ≡ tallied w.n w.failed
+      go (Ok k) f =
+          let same = given_same (sym (done_given s out k.n k.failed f) ∙ e) in
+          f ∙ ap₂ tallied (ap (λ (u : Totals). u.n) same) (ap (λ (u : Totals). u.failed) same)
+      go (Err r) f = given_refused (sym e ∙ sym (meets s out).answer ∙ ap (λ (c : Result Checked Refusal). told_checked c) f)
 
   left : (s out : List ℕ) → P.after s out ≡ output_of s out
   left s out = (meets s out).bytes
 
-  sheet_done : (s out : List ℕ) (t : Sheet) → sheet_in s (length out) ≡ given t → P.answer s out ≡ Done t.header.count (failures (verdicts t))
+  sheet_done : (s out : List ℕ) (t : Sheet) → sheet_in s (length out) ≡ given t → P.answer s out ≡ tallied t.header.count (failures (verdicts t))
   sheet_done s out t e = given_done s out (record { n = t.header.count; failed = failures (verdicts t) }) (answer_done s out t e)
 
   -- ---- demand 2
@@ -127,7 +127,7 @@ module _ (P : Program) (meets : Meets P) where
     rule_left : (f : Entry) → Leaves P s out i f → f.rule ≡ (verdict (the_header s) (the_record s i)).rule
     rule_left f leaves = ap (λ (x : Entry). x.rule) (given_same (sym leaves ∙ verdict_left))
 
-  pub second_demand : (s out : List ℕ) (n failed : ℕ) → P.answer s out ≡ Done n failed → Second P s out n failed
+  pub second_demand : (s out : List ℕ) (n failed : ℕ) → P.answer s out ≡ tallied n failed → Second P s out n failed
   second_demand s out n failed e =
       let q = answer_sheet s (length out) (record { n = n; failed = failed }) (done_given s out n failed e) in
       let t = q.0 in
@@ -148,7 +148,7 @@ module _ (P : Program) (meets : Meets P) where
   -- ---- demand 1
 
   module _ (s out : List ℕ) where
-    fits_done : Accepted s (length out) → (n failed : ℕ) × (P.answer s out ≡ Done n failed)
+    fits_done : Accepted s (length out) → (n failed : ℕ) × (P.answer s out ≡ tallied n failed)
     fits_done a =
         let q = rows.accepted_given s (length out) a in
         (q.0.header.count, failures (verdicts q.0), sheet_done s out q.0 q.1)
@@ -180,11 +180,11 @@ module _ (P : Program) (meets : Meets P) where
         go (given t) f g = given_refused g
         go (refused l q) f g = refused_as_lent s out l q f
 
-    none_judged : (n failed : ℕ) → P.answer s out ≡ Done n failed → count_of s ≡ 0 → (P.answer s out ≡ Done 0 0) × (P.after s out ≡ out)
+    none_judged : (n failed : ℕ) → P.answer s out ≡ tallied n failed → count_of s ≡ 0 → (P.answer s out ≡ tallied 0 0) × (P.after s out ≡ out)
     none_judged n failed e z =
         let q = second_demand s out n failed e in
         let m : n ≡ 0 = q.number ∙ z in
-        (e ∙ ap₂ Done m (q.counted ∙ ap (failed_from s 0) m), subst (λ (k : ℕ). drop (4 * k) (P.after s out) ≡ drop (4 * k) out) m q.others_as_lent)
+        (e ∙ ap₂ tallied m (q.counted ∙ ap (failed_from s 0) m), subst (λ (k : ℕ). drop (4 * k) (P.after s out) ≡ drop (4 * k) out) m q.others_as_lent)
 
     no_records : length s ≡ head_size s → HeaderSound s → (TooSlender s → ⊥) → count_of s ≡ 0 → Accepted s (length out)
     no_records l f slim z =
@@ -229,10 +229,10 @@ module _ (P : Program) (meets : Meets P) where
       pub holds_leaves : Leaves P s' out i (entry_of t.header r)
       holds_leaves = ap (λ (o : List ℕ). read_entry (four_at i o)) (left s' out) ∙ exchange.own_verdict s out t given_t i inside s' r holds
 
-      pub holds_done : (failed : ℕ) × (P.answer s' out ≡ Done t.header.count failed)
+      pub holds_done : (failed : ℕ) × (P.answer s' out ≡ tallied t.header.count failed)
       holds_done = (
         failures (verdicts holds.sheet),
-        sheet_done s' out holds.sheet holds.taken ∙ ap (λ (h : Header). Done h.count (failures (verdicts holds.sheet))) holds.header,
+        sheet_done s' out holds.sheet holds.taken ∙ ap (λ (h : Header). tallied h.count (failures (verdicts holds.sheet))) holds.header,
       )
 
       holds_others : (j : ℕ) → j < t.header.count → (j ≡ i → ⊥) → four_at j (P.after s' out) ≡ four_at j (P.after s out)
@@ -332,7 +332,7 @@ module _ (P : Program) (meets : Meets P) where
             three_others = holds_others (raised_times P out 3 i s) q after;
           }
 
-  module _ (s out : List ℕ) (n failed i : ℕ) (e : P.answer s out ≡ Done n failed) (l : i < n) where
+  module _ (s out : List ℕ) (n failed i : ℕ) (e : P.answer s out ≡ tallied n failed) (l : i < n) where
     pub taken : (t : Sheet) × (sheet_in s (length out) ≡ given t) × (n ≡ t.header.count)
     taken = let q = answer_sheet s (length out) (record { n = n; failed = failed }) (done_given s out n failed e) in (q.0, q.1, ap (λ (w : Totals). w.n) q.2)
 

@@ -1,7 +1,7 @@
 -- The five empty programs are of their kinds, and the demands shut each kind out; the checker meets the demands.
 -- Assumes nothing.
 use Prim.Native.Nat.{ℕ, zero, suc, ◌+◌, ◌*◌, ◌≤◌, ◌<◌}
-use Rattle.std.specs.Prelude.{◌≡◌, Bool, true, false, cond, length, get_or, drop, eqb}
+use Rattle.std.specs.Prelude.{◌≡◌, Bool, true, false, cond, length, get_or, drop, eqb, Result, Err}
 use Rattle.std.proofs.Math.Path.{refl, sym, ap, subst}
 use Rattle.std.proofs.Common.{ap₂, ◌∙◌, add-zero, le-leb, eq-eqb, ne_eqb}
 use mathlib.Core.List.{List, [], ◌∷◌, ◌++◌, map, append-nil}
@@ -17,12 +17,10 @@ use Rattle.sheet.specs.Refusals.{Answer, given, refused}
 use Rattle.sheet.specs.laws.RefusalLaws.{refusal_of, given_refused, given_same}
 use Rattle.sheet.specs.laws.RecordBack.{record_read_fine}
 use Rattle.checker.specs.declared.Entry.{Entry}
-use Rattle.checker.specs.declared.Checked.{Checked}
-use Rattle.checker.specs.declared.Checked.TheVariants.{Done, Refused as notDone}
 use Rattle.checker.specs.Entry.{verdict_lines, entry_values, entry_fault, entry_bytes, read_entry}
 use Rattle.checker.specs.laws.EntryLaws.{allowed_entry, bytes_read}
 use Rattle.checker.specs.laws.Sound.{entry_sound}
-use Rattle.checker.specs.Check.{◌then◌, records_part, record_part, Sheet, sheet_in, entry_of, verdicts, bytes_of, failures, Totals, told_checked, answer_of, output_by, output_of, four_at}
+use Rattle.checker.specs.Check.{◌then◌, records_part, record_part, Sheet, sheet_in, entry_of, verdicts, bytes_of, failures, Totals, told_checked, answer_of, output_by, output_of, four_at, tallied}
 use Rattle.checker.specs.Whole.{Taken, none, next}
 use Rattle.checker.specs.laws.CheckLaws.{sheet_whole, verdicts_count, answer_done}
 use Rattle.hull.specs.laws.Computing.{judging}
@@ -35,11 +33,13 @@ use Rattle.demands.specs.EmptyPrograms.{answer_by, after_by, checker, changed_fr
 use Rattle.demands.specs.laws.Rows.{refused_exactly}
 use Rattle.demands.specs.laws.Proved.{given_fits, demands_met}
 use Rattle.demands.specs.laws.Example.{example, mended, lent, example_answer, mended_answer}
+use Rattle.sheet.specs.declared.Refusal.{Refusal}
+use Rattle.checker.specs.declared.Checked.{Checked}
 
 -- ---- the checker
 
 -- the refusal of a row has its number and its place
-row_told : (s : List ℕ) (room k p : ℕ) → Row s room k p → told_checked (notDone (refusal_of k p)) ≡ refused k p
+row_told : (s : List ℕ) (room k p : ℕ) → Row s room k p → told_checked (Err (refusal_of k p)) ≡ refused k p
 row_told s room k p (sheet_short l) = refl
 row_told s room k p (version l n) = refl
 row_told s room k p (header_short l v m) = refl
@@ -117,17 +117,17 @@ module _ (change : ℕ → Entry → Entry) (Says : ℕ → Entry → Type 0) (s
   unfolding verdicts
   changing_says s out n failed i e done l leaves = go (sheet_in s (length out)) refl done leaves
     where
-      go : (a : Answer Sheet) → sheet_in s (length out) ≡ a → answer_by (λ t. failures (changed_from change 0 (verdicts t))) a ≡ Done n failed
+      go : (a : Answer Sheet) → sheet_in s (length out) ≡ a → answer_by (λ t. failures (changed_from change 0 (verdicts t))) a ≡ tallied n failed
           → read_entry (four_at i (after_by (λ t. changed_from change 0 (verdicts t)) a out)) ≡ given e → Says i e
       go (given t) f d r =
-          let count : t.header.count ≡ n = ap (λ (w : Totals). w.n) (given_same (ap (λ (c : Checked). told_checked c) d)) in
+          let count : t.header.count ≡ n = ap (λ (w : Totals). w.n) (given_same (ap (λ (c : Result Checked Refusal). told_checked c) d)) in
           let w = sheet_whole s (length out) t f in
           let q = changed_at 0 (verdicts t) (drop (4 * t.header.count) out) (taken_sound t.header (records_part t.header s) 0 0 t.records w.records) i (omega (arith, verdicts_count s out t f)) in
           let read : read_entry (four_at i (after_by (λ t. changed_from change 0 (verdicts t)) (given t) out)) ≡ given q.0 = ap read_entry (q.3 ∙ sym (append-nil (entry_bytes q.0))) ∙ bytes_read q.0 [] q.1 in
           let same : q.0 ≡ e = given_same (sym read ∙ r) in
           let m : 0 + i ≡ i = omega arith in
           subst (λ (x : Entry). Says i x) same (subst (λ (k : ℕ). Says k q.0) m q.2)
-      go (refused k p) f d r = given_refused (sym (ap (λ (c : Checked). told_checked c) d))
+      go (refused k p) f d r = given_refused (sym (ap (λ (c : Result Checked Refusal). told_checked c) d))
 
 pass_sound : (i : ℕ) (e : Entry) → entry_fault e ≡ 0 → entry_fault (pass_instead i e) ≡ 0
 pass_sound i e z = allowed_entry (pass_instead i e) (id_within e z, (refl, (refl, (source_within e z, tt))))
@@ -174,9 +174,9 @@ dropping_is = changing_says source_dropped (λ i e. e.rule ≡ 0 → e.source �
 pub counting_is : (count : List ℕ → ℕ) → MakesUpCount count (counting count)
 counting_is count s out n failed e = go (sheet_in s (length out)) e
   where
-    go : (a : Answer Sheet) → answer_by (λ t. count (take (head_size s) s)) a ≡ Done n failed → failed ≡ count (take (head_size s) s)
-    go (given t) f = sym (ap (λ (w : Totals). w.failed) (given_same (ap (λ (c : Checked). told_checked c) f)))
-    go (refused k p) f = given_refused (sym (ap (λ (c : Checked). told_checked c) f))
+    go : (a : Answer Sheet) → answer_by (λ t. count (take (head_size s) s)) a ≡ tallied n failed → failed ≡ count (take (head_size s) s)
+    go (given t) f = sym (ap (λ (w : Totals). w.failed) (given_same (ap (λ (c : Result Checked Refusal). told_checked c) f)))
+    go (refused k p) f = given_refused (sym (ap (λ (c : Result Checked Refusal). told_checked c) f))
 
 -- one that always says 1 failure says so of the example, where it leaves two
 pub counting_miscounts : Miscounts (counting (λ h. 1))
@@ -214,7 +214,7 @@ module _ (P : Program) (d : Demands P) where
   record Answers (s : List ℕ) : Type 0 where
     pub n : ℕ
     pub failed : ℕ
-    pub done : P.answer s lent ≡ Done n failed
+    pub done : P.answer s lent ≡ tallied n failed
     pub judged : Second P s lent n failed
 
   answers : (s : List ℕ) → Accepted s 9 → Answers s
@@ -244,7 +244,7 @@ not_as_lent P d f =
     absurd (omega (arith, ap (λ (o : List ℕ). get_or o 0 0) bytes))
 
 pub not_refusing_all : ShutOut RefusesAll
-not_refusing_all P d f = given_refused (ap (λ (c : Checked). told_checked c) (sym (on_example P d).done ∙ (f example lent).1))
+not_refusing_all P d f = given_refused (ap (λ (c : Result Checked Refusal). told_checked c) (sym (on_example P d).done ∙ (f example lent).1))
 
 pub not_passing_all : ShutOut PassesAll
 not_passing_all P d f = omega (arith, on_first P d (λ i e. e.rule ≡ 0) f)
@@ -257,7 +257,7 @@ pub not_first_only : ShutOut PassesRest
 not_first_only P d f = omega (arith, on_second P d (λ i e. 1 ≤ i → e.rule ≡ 0) f (omega arith))
 
 -- the count of demand 2 is that of the verdicts with a rule in the output
-own_count_lem : (P : Program) → Demands P → (s out : List ℕ) (n failed : ℕ) → P.answer s out ≡ Done n failed → failed ≡ failed_in (P.after s out) 0 n
+own_count_lem : (P : Program) → Demands P → (s out : List ℕ) (n failed : ℕ) → P.answer s out ≡ tallied n failed → failed ≡ failed_in (P.after s out) 0 n
 own_count_lem P d s out n failed e = judged.counted ∙ sym (go n 0 (omega arith))
   where
     judged : Second P s out n failed

@@ -13,9 +13,8 @@ use Rattle.hull.specs.Raising.{put_record, OwnRule, raised_times as raisedRecord
 use Rattle.hull.specs.Sources.{loads_on, pressure_on}
 use Rattle.hull.specs.laws.SourceLaws.{source_right, source_most, raising_source, times_source}
 use Rattle.checker.specs.declared.Entry.{Entry}
-use Rattle.checker.specs.declared.Checked.TheVariants.{Done}
 use Rattle.checker.specs.Entry.{verdict_widths, entry_bytes}
-use Rattle.checker.specs.Check.{Sheet, entry_with, entry_of}
+use Rattle.checker.specs.Check.{Sheet, entry_with, entry_of, tallied}
 use Rattle.demands.specs.Program.{Program, Meets, Leaves}
 use Rattle.demands.specs.Raise.{the_header, the_record, with_scantling, raised_times}
 use Rattle.demands.specs.Demands.{entry_on}
@@ -44,7 +43,7 @@ entry_cleared h r id =
 
 -- ---- the verdicts
 
-module _ (P : Program) (meets : Meets P) (s out : List ℕ) (n failed i : ℕ) (done : P.answer s out ≡ Done n failed) (l : i < n) where
+module _ (P : Program) (meets : Meets P) (s out : List ℕ) (n failed i : ℕ) (done : P.answer s out ≡ tallied n failed) (l : i < n) where
   abbrev t : Sheet
   t = (taken P meets s out n failed i done l).0
 

@@ -1,6 +1,6 @@
 -- The sheet that an edit leaves is in the buffer.
 -- Assumes nothing.
-use Rattle.std.specs.Prelude.{ℕ, ◌≤◌, ◌≡◌, refl, List, length}
+use Rattle.std.specs.Prelude.{ℕ, ◌≤◌, ◌≡◌, refl, List, length, Ok}
 use Rattle.std.proofs.Math.Path.{ap}
 use Rattle.std.proofs.Common.{◌∙◌, arith}
 use Rattle.sheet.specs.declared.Record.{Record}
@@ -9,7 +9,6 @@ use Rattle.sheet.specs.laws.RefusalLaws.{given_same, given_refused}
 use Rattle.numbers.specs.From.{record_from}
 use Rattle.checker.specs.Check.{Sheet}
 use Rattle.checker.specs.laws.ThenLaws.{then_given}
-use Rattle.edit.specs.declared.Edited.TheVariants.{Length}
 use Rattle.edit.specs.Edit.{sheet_at, header_of, After, put_in, put_numbers_in, remove_in, size_by, Edits}
 use Rattle.edit.specs.laws.Taken.{taken_at}
 use Rattle.edit.specs.laws.Done.{Put, replaces, inserts, put_done, remove_done}
@@ -39,7 +38,7 @@ module _ (b : List ℕ) (len : ℕ) where
       omega (arith, (taken_at b len s.0 s.1).fits, ap (λ (x : After). x.size) (remove_done b len s.0 s.1 id a e).after)
 
 -- so the length that an edit gives back is within, if that of what it comes to is
-pub length_within : (x : Answer After) (b : List ℕ) (n : ℕ) (after : List ℕ) → ((a : After) → x ≡ given a → a.size ≤ length b) → Edits x b (Length n) after → n ≤ length b
+pub length_within : (x : Answer After) (b : List ℕ) (n : ℕ) (after : List ℕ) → ((a : After) → x ≡ given a → a.size ≤ length b) → Edits x b (Ok n) after → n ≤ length b
 unfolding size_by
 length_within x b n after l e = go x refl
   where

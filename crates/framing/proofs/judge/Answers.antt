@@ -1,21 +1,23 @@
 -- `framing::judge` meets its contract.
+use Rattle.std.specs.Prelude.{Err}
+use Rattle.std.proofs.Common.{rules}
 use mathlib.Core.Path.{◌≡◌, ap, ◌∙◌}
 use Rattle.loads.specs.Sources.{Named, told_load}
 use Rattle.sheet.specs.Record.{of_member}
 use Rattle.sheet.specs.laws.HeaderLaws.{header_ranges}
 use Rattle.sheet.specs.laws.RecordLaws.{member_ranges}
-use Rattle.verdict.specs.Judged.{Sound}
+use Rattle.verdict.specs.Judged.{Sound, told_judged}
 use Rattle.verdict.specs.laws.JudgedLaws.{admitted_sound, turned_away, found_given}
 use Rattle.framing.specs.Rules.{member_pressure, member_named, member_verdict, member_finding}
 use Rattle.framing.specs.laws.Laws.{member_pressure_lem}
-use Rattle.framing.proofs.judge.Goals.{After-member_load-load, In_default}
+use Rattle.framing.proofs.judge.Goals.{After-member_load-load, In_ok-admitted_member}
 use Rattle.framing.proofs.judge.Goals as goal
 
 -- `framing::judge` meets its contract.
 -- Assumes nothing.
 -- where nothing is at fault
-sound : (c : In_default) → let a = c.args in Sound a.h (of_member a.kind a.id a.m)
-sound c = admitted_sound _ _ _ c.admitted_member-admitted.ensures c.in_default.is
+sound : (c : In_ok-admitted_member) → let a = c.args in Sound a.h (of_member a.kind a.id a.m)
+sound c = admitted_sound _ _ _ c.admitted_member.ensures c.in_ok-admitted_member.was
 
 -- the load's pressure is the one that the rules go by
 load_pressure : (c : After-member_load-load) → let a = c.args in c.member_load-load.result.pressure.0 ≡ member_pressure a.h a.kind a.m
@@ -25,16 +27,17 @@ load_pressure c =
     ap (λ (n : Named). n.pressure) named ∙ member_pressure_lem a.h a.kind a.m
 
 -- src/lib.rt:186:9
-pub returns-in-Refused : goal.returns-in-Refused
-returns-in-Refused c =
+pub returns-in_err-admitted_member : goal.returns-in_err-admitted_member
+returns-in_err-admitted_member c =
     let a = c.args in
-    turned_away a.h (of_member a.kind a.id a.m) _ c.admitted_member-admitted.ensures (member_finding a.h a.kind a.m) _ c.in-Refused.is
+    let passed_on : c.from_residual.result ≡ Err c.in_err-admitted_member.field-0.0 = search rules in
+    ap told_judged passed_on ∙ turned_away a.h (of_member a.kind a.id a.m) _ c.admitted_member.ensures (member_finding a.h a.kind a.m) _ c.in_err-admitted_member.was
 
 -- src/lib.rt:190:21
 pub member_verdict-requires : goal.member_verdict-requires
 member_verdict-requires c =
     let a = c.args in
-    let s = sound (goal.at.member_verdict-requires c).In_default in
+    let s = sound (goal.at.member_verdict-requires c).In_ok-admitted_member in
     (header_ranges a.h s.header, member_ranges a.kind a.id a.m s.body, load_pressure c)
 
 -- src/lib.rt:181:1
@@ -44,4 +47,4 @@ returns c =
     let a = c.args in
     let judged : c.member_verdict.result ≡ member_verdict a.h a.kind a.m = c.member_verdict.ensures in
     let named : told_load c.member_load-load.result ≡ member_named a.h a.kind a.m = c.member_load-load.ensures in
-    found_given a.h (of_member a.kind a.id a.m) (sound (goal.at.returns c).In_default) judged (ap (λ (n : Named). n.source) named)
+    found_given a.h (of_member a.kind a.id a.m) (sound (goal.at.returns c).In_ok-admitted_member) judged (ap (λ (n : Named). n.source) named)

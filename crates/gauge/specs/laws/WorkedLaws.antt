@@ -1,6 +1,6 @@
 -- The least number that meets a shape is the first that may meet it, or the one after it.
 -- Assumes nothing.
-use Rattle.std.specs.Prelude.{ℕ, zero, suc, ◌+◌, ◌-◌, ◌*◌, ◌≤◌, ◌<◌, true, false, ◌≡◌, refl, leb}
+use Rattle.std.specs.Prelude.{ℕ, zero, suc, ◌+◌, ◌-◌, ◌*◌, ◌≤◌, ◌<◌, true, false, ◌≡◌, refl, leb, Some, None}
 use Rattle.std.proofs.Common.{arith, mul-le-mul_left, mul-add, mul-one, le-leb, leb-true, leb-false}
 use Rattle.std.proofs.Math.Decide.{dec_le}
 use Rattle.std.proofs.lemmas.Bool.{lt-leb}
@@ -8,7 +8,6 @@ use Rattle.root.specs.Root.{root_of}
 use Rattle.root.specs.laws.RootLaws.{root_is, root_least, root_past}
 use Rattle.gauge.specs.declared.Shape.{Shape}
 use Rattle.gauge.specs.declared.Shape.TheVariants.{Never, Floor, Square}
-use Rattle.gauge.specs.declared.Least.TheVariants.{At, Nothing}
 use Rattle.gauge.specs.Ceil.{ceil_of}
 use Rattle.gauge.specs.laws.CeilLaws.{ceil_most, ceil_covers, ceil_zero}
 use Rattle.gauge.specs.Shape.{meets_of, least_of}
@@ -21,12 +20,12 @@ use Rattle.gauge.specs.Worked.{first_in, LastStep}
 
 module _ (d : Shape) (first top : ℕ) (s : LastStep d first) where
   -- a first number past the gauge
-  pub past_top : least_of (Floor first) top ≡ Nothing → Nothing ≡ least_of d top
+  pub past_top : least_of (Floor first) top ≡ None → None ≡ least_of d top
   past_top e =
-      least_only (meets_of d) top Nothing
+      least_only (meets_of d) top None
       (λ j l h. s.below j (leb-false first j (none_passes (leb first) top e j l (omega arith))))
 
-  module _ (x : ℕ) (e : least_of (Floor first) top ≡ At x) where
+  module _ (x : ℕ) (e : least_of (Floor first) top ≡ Some x) where
     -- no number of the gauge below the one that is tested meets the shape
     least_below : (j : ℕ) → 1 ≤ j → j < x → meets_of d j ≡ false
     least_below j l h = s.below j (leb-false first j ((least_is_lem (leb first) top x e).least j l h))
@@ -39,22 +38,22 @@ module _ (d : Shape) (first top : ℕ) (s : LastStep d first) where
         go (yes h) = omega (arith, leb-true first x (least_is_lem (leb first) top x e).passes)
         go (no h) = clash (monotone d (first + 1) x (omega arith) s.next) f
 
-    pub tested_at : meets_of d x ≡ true → At x ≡ least_of d top
+    pub tested_at : meets_of d x ≡ true → Some x ≡ least_of d top
     tested_at p =
         let i = least_is_lem (leb first) top x e in
-        least_only (meets_of d) top (At x) (record { from = i.from; within = i.within; passes = p; least = least_below })
+        least_only (meets_of d) top (Some x) (record { from = i.from; within = i.within; passes = p; least = least_below })
 
-    pub tested_last : x ≡ top → meets_of d x ≡ false → Nothing ≡ least_of d top
+    pub tested_last : x ≡ top → meets_of d x ≡ false → None ≡ least_of d top
     tested_last t f =
-        least_only (meets_of d) top Nothing (λ j l h. none_below (meets_of d) (monotone d) x f j (omega arith))
+        least_only (meets_of d) top None (λ j l h. none_below (meets_of d) (monotone d) x f j (omega arith))
 
-    pub tested_next : x < top → meets_of d x ≡ false → At (x + 1) ≡ least_of d top
+    pub tested_next : x < top → meets_of d x ≡ false → Some (x + 1) ≡ least_of d top
     tested_next t f =
         let z = first_tested f in
-        least_only (meets_of d) top (At (x + 1)) (record { from = omega arith; within = omega arith; passes = rw z s.next; least = λ j l h. none_below (meets_of d) (monotone d) x f j (omega arith) })
+        least_only (meets_of d) top (Some (x + 1)) (record { from = omega arith; within = omega arith; passes = rw z s.next; least = λ j l h. none_below (meets_of d) (monotone d) x f j (omega arith) })
 
   -- the least number is the first, or the one after it
-  pub near_first : (k : ℕ) → least_of d top ≡ At k → (first ≤ k) × (k ≤ first + 1)
+  pub near_first : (k : ℕ) → least_of d top ≡ Some k → (first ≤ k) × (k ≤ first + 1)
   near_first k e =
       let i = least_is_lem (meets_of d) top k e in
       (go (dec_le first k), no_less (meets_of d) 1 (top + 1) k (first + 1) i (omega arith) s.next)
@@ -84,9 +83,9 @@ module _ (step short n : ℕ) where
       rw (le-leb short (step * x) l, le-leb n ((step * x - short) * (step * x - short)) m)
 
   -- no number where the gauge's last does not reach them
-  pub none_over : (top : ℕ) → step * top < short + root_of n → Nothing ≡ least_of (Square step short n) top
+  pub none_over : (top : ℕ) → step * top < short + root_of n → None ≡ least_of (Square step short n) top
   none_over top h =
-      least_only (meets_of (Square step short n)) top Nothing
+      least_only (meets_of (Square step short n)) top None
       (λ j l k. under_root j (omega (arith, mul-le-mul_left {m = j} {n = top} step (omega arith))))
 
 -- a step of 0 reaches short and the root only where both are 0, and then every number meets the square
@@ -120,7 +119,7 @@ floor_step : (n : ℕ) → LastStep (Floor n) n
 floor_step n = record { below = λ j l. lt-leb n j l; next = le-leb n (n + 1) (omega arith) }
 
 -- the least number that meets a shape is the first that may, or the one after it
-pub first_near : (d : Shape) (top k : ℕ) → least_of d top ≡ At k → (first_in d ≤ k) × (k ≤ first_in d + 1)
+pub first_near : (d : Shape) (top k : ℕ) → least_of d top ≡ Some k → (first_in d ≤ k) × (k ≤ first_in d + 1)
 first_near Never top k e = clash (least_is_lem (meets_of Never) top k e).passes refl
 first_near (Floor n) top k e = near_first (Floor n) n top (floor_step n) k e
 first_near (Square step short n) top k e = go (dec_le (short + root_of n) (step * top))

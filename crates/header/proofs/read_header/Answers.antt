@@ -28,11 +28,11 @@ pub returns-then-s-lt-FIRST : goal.returns-then-s-lt-FIRST
 returns-then-s-lt-FIRST c = read_few _ c.if-s-lt-FIRST.true
 
 -- src/lib.rt:178:9
-pub returns-then-s-least : goal.returns-then-s-least
-returns-then-s-least c =
+pub returns-then-s-needs : goal.returns-then-s-needs
+returns-then-s-needs c =
     let a = c.args in
-    read_under a.s.now c.if-s-lt-FIRST.false _ _ _ c.read_short-n.ensures (word (goal.at.returns-then-s-least c).After-read_word-rest) c.header_of-h.ensures
-    (omega (arith, c.if-s-least.true, c.needs-least.ensures))
+    read_under a.s.now c.if-s-lt-FIRST.false _ _ _ c.read_short-n.ensures (word (goal.at.returns-then-s-needs c).After-read_word-rest) c.header_of-h.ensures
+    (omega (arith, c.if-s-needs.true, c.needs.ensures))
 
 -- src/lib.rt:182:9
 -- LOOK: κs/given
@@ -40,7 +40,7 @@ pub returns-then-f-eq0 : goal.returns-then-f-eq0
 returns-then-f-eq0 c =
     let a = c.args in
     read_good a.s.now c.if-s-lt-FIRST.false _ _ _ c.read_short-n.ensures (word (goal.at.returns-then-f-eq0 c).After-read_word-rest) c.header_of-h.ensures
-    (omega (arith, c.if-s-least.false, c.needs-least.ensures)) _ _ _
+    (omega (arith, c.if-s-needs.false, c.needs.ensures)) _ _ _
     (spare c.read_short-n.result.hi c.read_short-n.result.lo (omega (arith, c.struct_known-1.given))) refl c.fault-f.ensures c.if-f-eq0.true
 
 -- src/lib.rt:167:1
@@ -49,5 +49,5 @@ pub returns : goal.returns
 returns c =
     let a = c.args in
     read_bad a.s.now c.if-s-lt-FIRST.false _ _ _ c.read_short-n.ensures (word (goal.at.returns c).After-read_word-rest) c.header_of-h.ensures
-    (omega (arith, c.if-s-least.false, c.needs-least.ensures)) _ _ _
+    (omega (arith, c.if-s-needs.false, c.needs.ensures)) _ _ _
     (spare c.read_short-n.result.hi c.read_short-n.result.lo (omega (arith, c.struct_known-1.given))) refl c.fault-f.ensures _ c.refuse.ensures c.if-f-eq0.false

@@ -18,17 +18,17 @@ fine c = sym c.fault-f.ensures ∙ c.if-f-ne0.false
 fits : (c : Else-f-ne0) → let a = c.args in (header_size a.h ≤ length a.out.now) × (12 ≤ header_size a.h)
 fits c =
     let a = c.args in
-    (room a.h a.out.now _ (omega (arith, c.if-out-least.false, c.needs-least.ensures)) c.fault-f.ensures c.if-f-ne0.false, (regular a.h.own).least)
+    (room a.h a.out.now _ (omega (arith, c.if-out-needs.false, c.needs.ensures)) c.fault-f.ensures c.if-f-ne0.false, (regular a.h.own).least)
 
 -- src/lib.rt:216:9
-pub returns-then-out-least : goal.returns-then-out-least
-returns-then-out-least c = write_under _ _ (omega (arith, c.if-out-least.true, c.needs-least.ensures))
+pub returns-then-out-needs : goal.returns-then-out-needs
+returns-then-out-needs c = write_under _ _ (omega (arith, c.if-out-needs.true, c.needs.ensures))
 
 -- src/lib.rt:220:9
 pub returns-then-f-ne0 : goal.returns-then-f-ne0
 returns-then-f-ne0 c =
     let a = c.args in
-    write_bad a.h a.out.now _ (omega (arith, c.if-out-least.false, c.needs-least.ensures)) c.fault-f.ensures _ c.refuse.ensures c.if-f-ne0.true
+    write_bad a.h a.out.now _ (omega (arith, c.if-out-needs.false, c.needs.ensures)) c.fault-f.ensures _ c.refuse.ensures c.if-f-ne0.true
 
 -- src/lib.rt:222:30
 pub number_of-requires : goal.number_of-requires
@@ -45,5 +45,5 @@ write_own-requires c =
 pub returns : goal.returns
 returns c =
     let a = c.args in
-    write_good a.h a.out.now _ (omega (arith, c.if-out-least.false, c.needs-least.ensures)) c.fault-f.ensures c.if-f-ne0.false _
+    write_good a.h a.out.now _ (omega (arith, c.if-out-needs.false, c.needs.ensures)) c.fault-f.ensures c.if-f-ne0.false _
     (both_parts a.h a.out.now _ _ _ (fits (goal.at.returns c).Else-f-ne0).0 c.number_of.ensures c.write_short.ensures c.write_own.ensures)

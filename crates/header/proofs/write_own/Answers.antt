@@ -28,8 +28,8 @@ left o b k = unpack (bytes k) (pack (own_widths (version_of o)) (own_values o 0)
 pub returns-then-version-gt-FIRST : goal.returns-then-version-gt-FIRST
 returns-then-version-gt-FIRST c =
     let a = c.args in
-    let eight : own_bytes (version_of a.own) ≡ 8 = own_eight a.own (omega (arith, c.if-version-gt-FIRST.true, c.version-version.ensures.size)) in
+    let eight : own_bytes (version_of a.own) ≡ 8 = own_eight a.own (omega (arith, c.if-version-gt-FIRST.true, c.version.ensures.size)) in
     c.write_word.ensures
     ∙ write_all_lem 8 _ a.out.now (omega (arith, eight, c.requires.1))
-    ∙ ap (λ (n : ℕ). unpack (bytes 8) n ++ drop 8 a.out.now) c.own_number-n.ensures
+    ∙ ap (λ (n : ℕ). unpack (bytes 8) n ++ drop 8 a.out.now) c.own_number.ensures
     ∙ sym (ap (left a.own a.out.now) eight)

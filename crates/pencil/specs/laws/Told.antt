@@ -1,11 +1,10 @@
 -- A rule whose test a shape says: what is told of its least number is so.
 -- Assumes nothing.
-use Rattle.std.specs.Prelude.{ℕ, suc, ◌+◌, ◌≤◌, Bool, true, false, ◌≡◌, leb}
+use Rattle.std.specs.Prelude.{ℕ, suc, ◌+◌, ◌≤◌, Bool, true, false, ◌≡◌, leb, Some}
 use Rattle.std.proofs.Common.{sym, ap, ◌∙◌, arith, le-leb}
 use Rattle.std.proofs.Math.Decide.{dec_le}
 use Rattle.std.proofs.lemmas.Bool.{lt-leb}
 use Rattle.gauge.specs.declared.Shape.{Shape}
-use Rattle.gauge.specs.declared.Least.TheVariants.{At}
 use Rattle.gauge.specs.Least.{least_in, number_of, IsLeast}
 use Rattle.gauge.specs.laws.LeastLaws.{least_is_lem, smaller_fails, larger_passes, none_passes, number_zero, number_least}
 use Rattle.gauge.specs.Shape.{meets_of, least_of, Says}
@@ -39,7 +38,7 @@ module _ (d : Shape) (top : ℕ) (test : ℕ → Bool) (says : Says d top test) 
   pub told_met : (k : ℕ) → number_of (least_of d top) ≡ suc k → (x : ℕ) → 1 ≤ x → x ≤ top → test x ≡ leb (suc k) x
   told_met k e x l h = go (dec_le (suc k) x)
     where
-      at : least_in test top ≡ At (suc k)
+      at : least_in test top ≡ Some (suc k)
       at = number_least test top k (sym least_told ∙ e)
 
       go : Dec (suc k ≤ x) → test x ≡ leb (suc k) x

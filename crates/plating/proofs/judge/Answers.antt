@@ -1,21 +1,23 @@
 -- `plating::judge` meets its contract.
+use Rattle.std.specs.Prelude.{Err}
+use Rattle.std.proofs.Common.{rules}
 use mathlib.Core.Path.{◌≡◌, ap, ◌∙◌}
 use Rattle.loads.specs.Sources.{Named, told_load}
 use Rattle.sheet.specs.Record.{of_plate}
 use Rattle.sheet.specs.laws.HeaderLaws.{header_ranges}
 use Rattle.sheet.specs.laws.RecordLaws.{plate_ranges}
-use Rattle.verdict.specs.Judged.{Sound}
+use Rattle.verdict.specs.Judged.{Sound, told_judged}
 use Rattle.verdict.specs.laws.JudgedLaws.{admitted_sound, turned_away, found_given}
 use Rattle.plating.specs.Rules.{plate_pressure, plate_named, plate_verdict, plate_finding}
 use Rattle.plating.specs.laws.Laws.{plate_pressure_lem}
-use Rattle.plating.proofs.judge.Goals.{After-load-load, In_default}
+use Rattle.plating.proofs.judge.Goals.{After-load-load, In_ok-admitted_plate}
 use Rattle.plating.proofs.judge.Goals as goal
 
 -- `plating::judge` meets its contract.
 -- Assumes nothing.
 -- where nothing is at fault
-sound : (c : In_default) → let a = c.args in Sound a.h (of_plate a.kind a.id a.p)
-sound c = admitted_sound _ _ _ c.admitted_plate-admitted.ensures c.in_default.is
+sound : (c : In_ok-admitted_plate) → let a = c.args in Sound a.h (of_plate a.kind a.id a.p)
+sound c = admitted_sound _ _ _ c.admitted_plate.ensures c.in_ok-admitted_plate.was
 
 -- the load's pressure is the one that the rules go by
 load_pressure : (c : After-load-load) → let a = c.args in c.load-load.result.pressure.0 ≡ plate_pressure a.h a.kind a.p
@@ -25,16 +27,17 @@ load_pressure c =
     ap (λ (n : Named). n.pressure) named ∙ plate_pressure_lem a.h a.kind a.p
 
 -- src/lib.rt:297:9
-pub returns-in-Refused : goal.returns-in-Refused
-returns-in-Refused c =
+pub returns-in_err-admitted_plate : goal.returns-in_err-admitted_plate
+returns-in_err-admitted_plate c =
     let a = c.args in
-    turned_away a.h (of_plate a.kind a.id a.p) _ c.admitted_plate-admitted.ensures (plate_finding a.h a.kind a.p) _ c.in-Refused.is
+    let passed_on : c.from_residual.result ≡ Err c.in_err-admitted_plate.field-0.0 = search rules in
+    ap told_judged passed_on ∙ turned_away a.h (of_plate a.kind a.id a.p) _ c.admitted_plate.ensures (plate_finding a.h a.kind a.p) _ c.in_err-admitted_plate.was
 
 -- src/lib.rt:301:21
 pub plate_verdict-requires : goal.plate_verdict-requires
 plate_verdict-requires c =
     let a = c.args in
-    let s = sound (goal.at.plate_verdict-requires c).In_default in
+    let s = sound (goal.at.plate_verdict-requires c).In_ok-admitted_plate in
     (header_ranges a.h s.header, plate_ranges a.kind a.id a.p 0 s.body, load_pressure c)
 
 -- src/lib.rt:292:1
@@ -44,4 +47,4 @@ returns c =
     let a = c.args in
     let judged : c.plate_verdict.result ≡ plate_verdict a.h a.kind a.p = c.plate_verdict.ensures in
     let named : told_load c.load-load.result ≡ plate_named a.h a.kind a.p = c.load-load.ensures in
-    found_given a.h (of_plate a.kind a.id a.p) (sound (goal.at.returns c).In_default) judged (ap (λ (n : Named). n.source) named)
+    found_given a.h (of_plate a.kind a.id a.p) (sound (goal.at.returns c).In_ok-admitted_plate) judged (ap (λ (n : Named). n.source) named)

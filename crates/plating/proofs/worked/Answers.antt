@@ -1,4 +1,6 @@
 -- `plating::worked` meets its contract.
+use Rattle.std.specs.Prelude.{Err}
+use Rattle.std.proofs.Common.{rules}
 use mathlib.Core.Path.{◌≡◌, sym, ap, ◌∙◌}
 use Rattle.sheet.specs.Refusals.{given}
 use Rattle.sheet.specs.Record.{of_plate}
@@ -6,27 +8,28 @@ use Rattle.sheet.specs.laws.HeaderLaws.{header_ranges}
 use Rattle.sheet.specs.laws.RecordLaws.{plate_ranges}
 use Rattle.verdict.specs.Judged.{Sound}
 use Rattle.verdict.specs.laws.JudgedLaws.{admitted_sound, turned_away, sound_given}
-use Rattle.plating.specs.Work.{told_work, work_of}
-use Rattle.plating.proofs.worked.Goals.{In_default}
+use Rattle.plating.specs.Work.{told_work, work_of, told_worked}
+use Rattle.plating.proofs.worked.Goals.{In_ok-admitted_plate}
 use Rattle.plating.proofs.worked.Goals as goal
 
 -- `plating::worked` meets its contract.
 -- Assumes nothing.
 -- where nothing is at fault
-sound : (c : In_default) → let a = c.args in Sound a.h (of_plate a.kind a.id a.p)
-sound c = admitted_sound _ _ _ c.admitted_plate-admitted.ensures c.in_default.is
+sound : (c : In_ok-admitted_plate) → let a = c.args in Sound a.h (of_plate a.kind a.id a.p)
+sound c = admitted_sound _ _ _ c.admitted_plate.ensures c.in_ok-admitted_plate.was
 
 -- src/lib.rt:286:9
-pub returns-in-Refused : goal.returns-in-Refused
-returns-in-Refused c =
+pub returns-in_err-admitted_plate : goal.returns-in_err-admitted_plate
+returns-in_err-admitted_plate c =
     let a = c.args in
-    turned_away a.h (of_plate a.kind a.id a.p) _ c.admitted_plate-admitted.ensures (work_of a.h a.kind a.p) _ c.in-Refused.is
+    let passed_on : c.from_residual.result ≡ Err c.in_err-admitted_plate.field-0.0 = search rules in
+    ap told_worked passed_on ∙ turned_away a.h (of_plate a.kind a.id a.p) _ c.admitted_plate.ensures (work_of a.h a.kind a.p) _ c.in_err-admitted_plate.was
 
 -- src/lib.rt:288:23
 pub plate_work-requires : goal.plate_work-requires
 plate_work-requires c =
     let a = c.args in
-    let s = sound (goal.at.plate_work-requires c).In_default in
+    let s = sound (goal.at.plate_work-requires c).In_ok-admitted_plate in
     (header_ranges a.h s.header, plate_ranges a.kind a.id a.p 0 s.body, c.load.ensures)
 
 -- src/lib.rt:281:1
@@ -35,4 +38,4 @@ pub returns : goal.returns
 returns c =
     let a = c.args in
     let work : told_work c.plate_work.result ≡ work_of a.h a.kind a.p = c.plate_work.ensures in
-    ap given work ∙ sym (sound_given a.h (of_plate a.kind a.id a.p) (work_of a.h a.kind a.p) (sound (goal.at.returns c).In_default))
+    ap given work ∙ sym (sound_given a.h (of_plate a.kind a.id a.p) (work_of a.h a.kind a.p) (sound (goal.at.returns c).In_ok-admitted_plate))

@@ -1,6 +1,6 @@
 -- Two answers that meet the promise of `worked`, or of `is_long`, are equal.
 -- Assumes nothing.
-use Rattle.std.specs.Prelude.{◌≡◌, refl}
+use Rattle.std.specs.Prelude.{◌≡◌, refl, Result, Ok, Err}
 use Rattle.std.proofs.Common.{sym, ap, ap₂, ◌∙◌}
 use Rattle.loads.specs.declared.Load.{Load}
 use Rattle.loads.specs.laws.Only.{load_only}
@@ -8,9 +8,8 @@ use Rattle.loads.specs.Sources.{told_load}
 use Rattle.sheet.specs.Refusals.{Answer}
 use Rattle.sheet.specs.laws.RefusalLaws.{given_refused, refusal_only, refused_number, refused_place, given_same}
 use Rattle.plating.specs.declared.PlateWork.{PlateWork}
-use Rattle.plating.specs.declared.PlateWorked.{PlateWorked}
-use Rattle.plating.specs.declared.PlateWorked.TheVariants.{Work as isWork, Refused as notWorked}
 use Rattle.plating.specs.Work.{Work, told_work, told_worked}
+use Rattle.sheet.specs.declared.Refusal.{Refusal}
 
 -- a working with this load and, for the rest, what a told one says
 with_load : Load → Work → PlateWork
@@ -34,8 +33,8 @@ work_only v w e =
     let load : v.load ≡ w.load = load_only (told_load w.load) v.load w.load (ap (λ (x : Work). x.load) e) refl in
     ap₂ with_load load e
 
-pub plate_worked_only : (a : Answer Work) (i j : PlateWorked) → told_worked i ≡ a → told_worked j ≡ a → i ≡ j
-plate_worked_only a (isWork v) (isWork w) p q = ap isWork (work_only v w (given_same (p ∙ sym q)))
-plate_worked_only a (isWork v) (notWorked r) p q = given_refused (p ∙ sym q)
-plate_worked_only a (notWorked r) (isWork w) p q = given_refused (q ∙ sym p)
-plate_worked_only a (notWorked r) (notWorked s) p q = ap notWorked (refusal_only r s (refused_number (p ∙ sym q)) (refused_place (p ∙ sym q)))
+pub plate_worked_only : (a : Answer Work) (i j : Result PlateWork Refusal) → told_worked i ≡ a → told_worked j ≡ a → i ≡ j
+plate_worked_only a (Ok v) (Ok w) p q = ap Ok (work_only v w (given_same (p ∙ sym q)))
+plate_worked_only a (Ok v) (Err r) p q = given_refused (p ∙ sym q)
+plate_worked_only a (Err r) (Ok w) p q = given_refused (q ∙ sym p)
+plate_worked_only a (Err r) (Err s) p q = ap Err (refusal_only r s (refused_number (p ∙ sym q)) (refused_place (p ∙ sym q)))

@@ -1,8 +1,7 @@
 -- `report::put_checked` meets its contract: the verdicts' lines stand in front, and that of the totals behind them, for which there is room.
+use Rattle.std.specs.Prelude.{Result}
 use Rattle.std.proofs.Common.{◌≡◌, ℕ, ◌+◌, ◌*◌, ◌≤◌, List, [], ◌∷◌, ◌++◌, length, sym, ap, subst, arith, length-append}
 use Rattle.sheet.specs.Versions.{most_records}
-use Rattle.checker.specs.declared.Checked.{Checked}
-use Rattle.checker.specs.declared.Checked.TheVariants.{Done}
 use Rattle.decimal.specs.Laid.{Laid}
 use Rattle.decimal.specs.laws.LaidLaws.{second_fits, laid_both}
 use Rattle.report.specs.Text.{line}
@@ -10,9 +9,12 @@ use Rattle.report.specs.laws.TextLaws.{pair_most}
 use Rattle.report.specs.Pieces.{verdicts_text, checked_text, Counted, Roomy}
 use Rattle.report.specs.laws.PiecesLaws.{verdicts_most}
 use Rattle.report.proofs.put_checked.Goals as goal
+use Rattle.sheet.specs.declared.Refusal.{Refusal}
+use Rattle.checker.specs.declared.Checked.{Checked}
+use Rattle.checker.specs.Check.{tallied}
 
 -- the sheet was checked: its two counts, and the text in two pieces
-module _ (k : Checked) (out page : List ℕ) (n failed : ℕ) (done : k ≡ Done n failed) (pre : Roomy k out page) where
+module _ (k : Result Checked Refusal) (out page : List ℕ) (n failed : ℕ) (done : k ≡ tallied n failed) (pre : Roomy k out page) where
   abbrev totals : List ℕ
   totals = line (n ∷ failed ∷ [])
 
@@ -20,11 +22,11 @@ module _ (k : Checked) (out page : List ℕ) (n failed : ℕ) (done : k ≡ Done
   first = verdicts_text out 0 n
 
   counted : (4 * n ≤ length out) × (n ≤ most_records) × (failed ≤ most_records)
-  counted = subst (λ (x : Checked). Counted x out) done pre.counted
+  counted = subst (λ (x : Result Checked Refusal). Counted x out) done pre.counted
 
   split : checked_text k out ≡ first ++ totals
   unfolding checked_text
-  split = ap (λ (x : Checked). checked_text x out) done
+  split = ap (λ (x : Result Checked Refusal). checked_text x out) done
 
   fits : 0 + length (checked_text k out) ≤ length page
   fits =
@@ -50,7 +52,7 @@ put_pair-requires c =
 pub returns-in-Refused : goal.returns-in-Refused
 unfolding checked_text
 returns-in-Refused c =
-    subst (λ (x : Checked). Laid c.args.page.now 0 (checked_text x c.args.out.now) c.put_refusal.result c.put_refusal.new.page) (sym c.in-Refused.is) c.put_refusal.ensures
+    subst (λ (x : Result Checked Refusal). Laid c.args.page.now 0 (checked_text x c.args.out.now) c.put_refusal.result c.put_refusal.new.page) (sym c.in-Refused.is) c.put_refusal.ensures
 
 pub returns-in-Done : goal.returns-in-Done
 returns-in-Done c =

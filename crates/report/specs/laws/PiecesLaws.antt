@@ -1,6 +1,6 @@
 -- The pieces that are put together from a check's answer and its output are the text of the sheet, and none is too long.
 -- Assumes nothing.
-use Rattle.std.specs.Prelude.{ℕ, zero, suc, ◌+◌, ◌-◌, ◌*◌, ◌≤◌, ◌<◌, ◌≡◌, refl, List, [], ◌∷◌, ◌++◌, map, length, take, drop}
+use Rattle.std.specs.Prelude.{ℕ, zero, suc, ◌+◌, ◌-◌, ◌*◌, ◌≤◌, ◌<◌, ◌≡◌, refl, List, [], ◌∷◌, ◌++◌, map, length, take, drop, Result, Err}
 use Rattle.std.proofs.Common.{sym, ap₂, ◌∙◌, arith, length-append}
 use Rattle.std.proofs.Math.Path.{ap}
 use Rattle.sheet.specs.declared.Header.{Header}
@@ -10,8 +10,6 @@ use Rattle.sheet.specs.declared.Refusal.TheVariants.{SheetShort, Version, Header
 use Rattle.sheet.specs.Refusals.{Answer, given, refused, number_of, place_of}
 use Rattle.sheet.specs.laws.RefusalLaws.{given_refused, refused_number, refused_place}
 use Rattle.checker.specs.declared.Entry.{Entry}
-use Rattle.checker.specs.declared.Checked.{Checked}
-use Rattle.checker.specs.declared.Checked.TheVariants.{Done, Refused as notDone}
 use Rattle.checker.specs.Entry.{entry_values, read_entry}
 use Rattle.checker.specs.laws.EntryLaws.{read_sound}
 use Rattle.checker.specs.Check.{four_at, ◌then◌, part, records_part, record_of, Sheet, sheet_in, entry_of, verdicts, failures, Totals, answer_of, output_of, Checks}
@@ -23,6 +21,7 @@ use Rattle.report.specs.Text.{lines_of, printed, line, lines_text, refused_word,
 use Rattle.report.specs.Page.{longest_line}
 use Rattle.report.specs.laws.TextLaws.{entry_most, lines_last}
 use Rattle.report.specs.Pieces.{read_text, verdict_text, verdicts_text, refusal_text, checked_text, Counted}
+use Rattle.checker.specs.declared.Checked.{Checked}
 
 -- ---- how long they are
 
@@ -67,14 +66,14 @@ number_small (Text p) = omega arith
 number_small (FieldCount p) = omega arith
 
 -- so that the counts of a check are within their bounds
-pub checked_counted : (s out after : List ℕ) (r : Checked) → length after ≡ length out → Checks s out r after → Counted r after
-checked_counted s out after (Done n failed) l c =
+pub checked_counted : (s out after : List ℕ) (r : Result Checked Refusal) → length after ≡ length out → Checks s out r after → Counted r after
+checked_counted s out after (Ok x) l c =
     let a = answer_sheet s (length out) _ (sym c.answer) in
     let k = sheet_counts s (length out) a.0 a.1 in
     let same_n = ap (λ (w : Totals). w.n) a.2 in
     let same_failed = ap (λ (w : Totals). w.failed) a.2 in
     (omega (arith, k.inside), omega (arith, k.records), omega (arith, k.failed))
-checked_counted s out after (notDone r) l c = tt
+checked_counted s out after (Err r) l c = tt
 
 -- ---- the verdicts of a sheet
 
@@ -121,14 +120,14 @@ answer_refused s room k p e = go (sheet_in s room) e
     go (refused l q) f = ap₂ refused (refused_number f) (refused_place f)
 
 -- the pieces are the text
-pub text_checked : (s out after : List ℕ) (r : Checked) → Checks s out r after → length out ≡ room → checked_text r after ≡ text_of s
+pub text_checked : (s out after : List ℕ) (r : Result Checked Refusal) → Checks s out r after → length out ≡ room → checked_text r after ≡ text_of s
 unfolding checked_text refusal_text
-text_checked s out after (Done n failed) c l =
+text_checked s out after (Ok k) c l =
     let a = answer_sheet s (length out) _ (sym c.answer) in
     let t = a.0 in
-    let totals : ◌≡◌ {A = List ℕ} (n ∷ failed ∷ []) (t.header.count ∷ failures (verdicts t) ∷ []) = ap (λ (w : Totals). w.n ∷ w.failed ∷ []) a.2 in
-    ap₂ {C = List ℕ} (λ o k. verdicts_text o 0 k ++ line (n ∷ failed ∷ [])) c.bytes (ap (λ (w : Totals). w.n) a.2)
+    let totals : ◌≡◌ {A = List ℕ} (k.n ∷ k.failed ∷ []) (t.header.count ∷ failures (verdicts t) ∷ []) = ap (λ (w : Totals). w.n ∷ w.failed ∷ []) a.2 in
+    ap₂ {C = List ℕ} (λ o m. verdicts_text o 0 m ++ line (k.n ∷ k.failed ∷ [])) c.bytes (ap (λ (w : Totals). w.n) a.2)
     ∙ ap₂ {C = List ℕ} (λ x w. x ++ line w) (lines_verdicts s out t a.1) totals
     ∙ sym (lines_last (map entry_values (verdicts t)) (t.header.count ∷ failures (verdicts t) ∷ []))
     ∙ sym (printed_given s t (ap (sheet_in s) (sym l) ∙ a.1))
-text_checked s out after (notDone r) c l = sym (printed_refused s (number_of r) (place_of r) (ap (sheet_in s) (sym l) ∙ answer_refused s (length out) (number_of r) (place_of r) (sym c.answer)))
+text_checked s out after (Err r) c l = sym (printed_refused s (number_of r) (place_of r) (ap (sheet_in s) (sym l) ∙ answer_refused s (length out) (number_of r) (place_of r) (sym c.answer)))

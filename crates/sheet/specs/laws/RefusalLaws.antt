@@ -1,18 +1,12 @@
 -- Two answers of the code that say the same are equal; and what is refused by a first faulty field.
 -- Assumes nothing.
-use Rattle.std.specs.Prelude.{◌≡◌, refl, ℕ, ◌≤◌, Bool, true, false, cond, eqb}
+use Rattle.std.specs.Prelude.{◌≡◌, refl, ℕ, ◌≤◌, Bool, true, false, cond, eqb, Result, Ok, Err}
 use Rattle.std.proofs.Common.{sym, ap, ap₂, ◌∙◌, arith, eq-eqb, ne_eqb, eqb-true}
 use Rattle.std.proofs.lemmas.Bool.{eqb-false}
 use Rattle.sheet.specs.declared.Header.{Header}
 use Rattle.sheet.specs.declared.Record.{Record}
 use Rattle.sheet.specs.declared.Refusal.{Refusal}
 use Rattle.sheet.specs.declared.Refusal.TheVariants.{SheetShort, Version, HeaderField, TooSlender, SheetLength, OutputShort, Kind, Field, Order, NoSuchId, NoRoom, Text, FieldCount}
-use Rattle.sheet.specs.declared.Outcome.{Outcome}
-use Rattle.sheet.specs.declared.Outcome.TheVariants.{Fine, Refused as notFine}
-use Rattle.sheet.specs.declared.HeaderRead.{HeaderRead}
-use Rattle.sheet.specs.declared.HeaderRead.TheVariants.{Good as goodHeader, Refused as no_header}
-use Rattle.sheet.specs.declared.RecordRead.{RecordRead}
-use Rattle.sheet.specs.declared.RecordRead.TheVariants.{Good as goodRecord, Refused as noRecord}
 use Rattle.sheet.specs.Refusals.{Answer, given, refused, number_of, place_of, told, told_outcome, told_header, told_record, refused_at}
 
 -- the refusal of a number and a place
@@ -45,37 +39,37 @@ pub refusal_only : (r s : Refusal) → number_of r ≡ number_of s → place_of 
 refusal_only r s e f = sym (back r) ∙ ap₂ refusal_of e f ∙ back s
 
 -- an answer taken back to the code's
-abbrev outcome_of : Answer (Unit {0}) → Outcome
-outcome_of (given u) = Fine
-outcome_of (refused k p) = notFine (refusal_of k p)
+abbrev outcome_of : Answer (Unit {0}) → Result (Unit {0}) Refusal
+outcome_of (given u) = (Ok tt)
+outcome_of (refused k p) = Err (refusal_of k p)
 
-outcome_back : (o : Outcome) → outcome_of (told_outcome o) ≡ o
-outcome_back Fine = refl
-outcome_back (notFine r) = ap notFine (back r)
+outcome_back : (o : Result (Unit {0}) Refusal) → outcome_of (told_outcome o) ≡ o
+outcome_back (Ok tt) = refl
+outcome_back (Err r) = ap Err (back r)
 
-pub outcome_only : (a : Answer (Unit {0})) (o p : Outcome) → told_outcome o ≡ a → told_outcome p ≡ a → o ≡ p
+pub outcome_only : (a : Answer (Unit {0})) (o p : Result (Unit {0}) Refusal) → told_outcome o ≡ a → told_outcome p ≡ a → o ≡ p
 outcome_only a o p e f = sym (outcome_back o) ∙ ap outcome_of (e ∙ sym f) ∙ outcome_back p
 
-abbrev header_of : Answer Header → HeaderRead
-header_of (given h) = goodHeader h
-header_of (refused k p) = no_header (refusal_of k p)
+abbrev header_of : Answer Header → Result Header Refusal
+header_of (given h) = Ok h
+header_of (refused k p) = Err (refusal_of k p)
 
-header_back : (r : HeaderRead) → header_of (told_header r) ≡ r
-header_back (goodHeader h) = refl
-header_back (no_header r) = ap no_header (back r)
+header_back : (r : Result Header Refusal) → header_of (told_header r) ≡ r
+header_back (Ok h) = refl
+header_back (Err r) = ap Err (back r)
 
-pub header_only : (a : Answer Header) (r s : HeaderRead) → told_header r ≡ a → told_header s ≡ a → r ≡ s
+pub header_only : (a : Answer Header) (r s : Result Header Refusal) → told_header r ≡ a → told_header s ≡ a → r ≡ s
 header_only a r s e f = sym (header_back r) ∙ ap header_of (e ∙ sym f) ∙ header_back s
 
-abbrev record_of : Answer Record → RecordRead
-record_of (given r) = goodRecord r
-record_of (refused k p) = noRecord (refusal_of k p)
+abbrev record_of : Answer Record → Result Record Refusal
+record_of (given r) = Ok r
+record_of (refused k p) = Err (refusal_of k p)
 
-record_back : (r : RecordRead) → record_of (told_record r) ≡ r
-record_back (goodRecord r) = refl
-record_back (noRecord r) = ap noRecord (back r)
+record_back : (r : Result Record Refusal) → record_of (told_record r) ≡ r
+record_back (Ok r) = refl
+record_back (Err r) = ap Err (back r)
 
-pub record_only : (a : Answer Record) (r s : RecordRead) → told_record r ≡ a → told_record s ≡ a → r ≡ s
+pub record_only : (a : Answer Record) (r s : Result Record Refusal) → told_record r ≡ a → told_record s ≡ a → r ≡ s
 record_only a r s e f = sym (record_back r) ∙ ap record_of (e ∙ sym f) ∙ record_back s
 
 -- ---- what is refused by a first faulty field

@@ -1,29 +1,27 @@
 -- A table, by what the first look and the second answer.
 -- Assumes nothing.
-use Rattle.std.specs.Prelude.{ℕ, ◌≡◌, refl, Bool, true, false, cond, not, ◌&&◌, ◌||◌, List, eqb}
+use Rattle.std.specs.Prelude.{ℕ, ◌≡◌, refl, Bool, true, false, cond, not, ◌&&◌, ◌||◌, List, eqb, Result, Ok, Err}
 use Rattle.std.proofs.Common.{sym, ap, ap₂, subst, ◌∙◌, true≢false, eqb-true}
 use Rattle.sheet.specs.declared.Refusal.{Refusal}
 use Rattle.sheet.specs.Refusals.{Answer, given, refused, number_of, place_of}
 use Rattle.sheet.specs.laws.RefusalLaws.{given_refused, refused_number, refused_place}
 use Rattle.fields.specs.Lines.{Lines, lines_at}
 use Rattle.filling.specs.Filling.{lines_left}
-use Rattle.sheet_csv.specs.declared.Converted.{Converted}
-use Rattle.sheet_csv.specs.declared.Converted.TheVariants.{Length, Refused as notConverted}
 use Rattle.sheet_csv.specs.Read.{sheet_of, sheet_from, told_converted, length_of, output_by, Converts}
 use Rattle.sheet_csv.specs.Table.{unfilled_from, by_line, stands, of_both, table_from}
 
 -- ---- what the code answers
 
 -- the first look's answer is `first`, and it leaves `mid` in the output
-module _ (a b : Answer (List ℕ)) (o : List ℕ) (first : Converted) (mid : List ℕ) (h : Converts a o first mid) where
-  pub look_taken : (n : ℕ) → first ≡ Length n → Converts (of_both a b) o first mid
+module _ (a b : Answer (List ℕ)) (o : List ℕ) (first : Result ℕ Refusal) (mid : List ℕ) (h : Converts a o first mid) where
+  pub look_taken : (n : ℕ) → first ≡ Ok n → Converts (of_both a b) o first mid
   look_taken n e = subst (λ (x : Answer (List ℕ)). Converts x o first mid) (sym (go a h.answer)) h
     where
       go : (x : Answer (List ℕ)) → told_converted first ≡ length_of x → of_both x b ≡ x
       go (given c) f = refl
       go (refused k p) f = given_refused (sym (ap told_converted e) ∙ f)
 
-  module _ (x : Refusal) (e : first ≡ notConverted x) where
+  module _ (x : Refusal) (e : first ≡ Err x) where
     turned : a ≡ refused (number_of x) (place_of x)
     turned = go a h.answer
       where
@@ -34,10 +32,10 @@ module _ (a b : Answer (List ℕ)) (o : List ℕ) (first : Converted) (mid : Lis
     pub look_lent : mid ≡ o
     look_lent = h.bytes ∙ ap (λ (y : Answer (List ℕ)). output_by y o) turned
 
-    pub look_other : by_line (number_of x) ≡ false → Converts (of_both a b) o (notConverted x) mid
-    look_other f = subst (λ (c : Converted). Converts (of_both a b) o c mid) e (subst (λ (y : Answer (List ℕ)). Converts y o first mid) (turned ∙ sym (ap (λ (y : Answer (List ℕ)). of_both y b) turned ∙ rw f)) h)
+    pub look_other : by_line (number_of x) ≡ false → Converts (of_both a b) o (Err x) mid
+    look_other f = subst (λ (c : Result ℕ Refusal). Converts (of_both a b) o c mid) e (subst (λ (y : Answer (List ℕ)). Converts y o first mid) (turned ∙ sym (ap (λ (y : Answer (List ℕ)). of_both y b) turned ∙ rw f)) h)
 
-    module _ (f : by_line (number_of x) ≡ true) (second : Converted) (after : List ℕ) (g : Converts b o second after) where
+    module _ (f : by_line (number_of x) ≡ true) (second : Result ℕ Refusal) (after : List ℕ) (g : Converts b o second after) where
       -- the code goes by the answer that it has
       same : (y : Answer (List ℕ)) → told_converted second ≡ length_of y → stands (number_of x) (place_of x) (told_converted second) ≡ stands (number_of x) (place_of x) y
       same (given c) u = ap (stands (number_of x) (place_of x)) u
@@ -46,11 +44,11 @@ module _ (a b : Answer (List ℕ)) (o : List ℕ) (first : Converted) (mid : Lis
       pub look_again : stands (number_of x) (place_of x) (told_converted second) ≡ false → Converts (of_both a b) o second after
       look_again u = subst (λ (y : Answer (List ℕ)). Converts y o second after) (sym (ap (λ (y : Answer (List ℕ)). of_both y b) turned ∙ rw (f, sym (same b g.answer) ∙ u))) g
 
-      pub look_stands : stands (number_of x) (place_of x) (told_converted second) ≡ true → Converts (of_both a b) o (notConverted x) after
+      pub look_stands : stands (number_of x) (place_of x) (told_converted second) ≡ true → Converts (of_both a b) o (Err x) after
       look_stands u =
           let v = sym (same b g.answer) ∙ u in
           let w : of_both a b ≡ refused (number_of x) (place_of x) = ap (λ (y : Answer (List ℕ)). of_both y b) turned ∙ rw (f, v) in
-          subst (λ (y : Answer (List ℕ)). Converts y o (notConverted x) after) (sym w) (record { answer = refl; bytes = g.bytes ∙ left b v })
+          subst (λ (y : Answer (List ℕ)). Converts y o (Err x) after) (sym w) (record { answer = refl; bytes = g.bytes ∙ left b v })
         where
           left : (y : Answer (List ℕ)) → stands (number_of x) (place_of x) y ≡ true → output_by y o ≡ o
           left (given c) w = absurd (true≢false (sym w))

@@ -1,21 +1,22 @@
 -- `verdict::admitted_plate` meets its contract.
+use Rattle.std.specs.Prelude.{Err}
 use mathlib.Core.Path.{◌≡◌, sym, ap, ◌∙◌}
+use Rattle.std.proofs.Common.{rules}
 use Rattle.sheet.specs.Refusals.{told_outcome, record_refused, given}
 use Rattle.sheet.specs.Record.{of_plate, record_fault}
 use Rattle.verdict.specs.laws.JudgedLaws.{header_first, then_record}
 use Rattle.verdict.proofs.admitted_plate.Goals as goal
 
--- src/lib.rt:38:1
-pub returns-in-Refused : goal.returns-in-Refused
-returns-in-Refused c =
+pub returns-in_err-header_fault : goal.returns-in_err-header_fault
+returns-in_err-header_fault c =
     let a = c.args in
-    sym (header_first a.h (of_plate a.kind a.id a.p) _ _ (sym c.header_fault-first.ensures ∙ ap told_outcome c.in-Refused.is))
+    let passed_on : c.from_residual.result ≡ Err c.in_err-header_fault.field-0.0 = search rules in
+    ap told_outcome passed_on ∙ sym (header_first a.h (of_plate a.kind a.id a.p) _ _ (sym c.header_fault.ensures ∙ ap told_outcome c.in_err-header_fault.was))
 
--- src/lib.rt:38:1
 -- LOOK: κs/given
-pub returns-in-Fine : goal.returns-in-Fine
-returns-in-Fine c =
+pub returns : goal.returns
+returns c =
     let a = c.args in
     let r = of_plate a.kind a.id a.p in
     let second : told_outcome c.plate_outcome.result ≡ record_refused 0 (record_fault r 0) (given tt) = c.plate_outcome.ensures in
-    second ∙ then_record a.h r (sym c.header_fault-first.ensures ∙ ap told_outcome c.in-Fine.is)
+    second ∙ then_record a.h r (sym c.header_fault.ensures ∙ ap told_outcome c.in_ok-header_fault.was)

@@ -1,9 +1,7 @@
 -- What a verdict says of the rules, over any list of them.
 -- Assumes nothing.
-use Rattle.std.specs.Prelude.{ℕ, ◌≤◌, ◌<◌, ◌≡◌, refl, Bool, true, false, List, [], ◌∷◌}
+use Rattle.std.specs.Prelude.{ℕ, ◌≤◌, ◌<◌, ◌≡◌, refl, Bool, true, false, List, [], ◌∷◌, Option, Some, None}
 use Rattle.std.proofs.Common.{sym, ap, subst, ◌∙◌, arith}
-use Rattle.gauge.specs.declared.Least.{Least}
-use Rattle.gauge.specs.declared.Least.TheVariants.{At, Nothing}
 use Rattle.gauge.specs.Least.{least_in, number_of, Monotone}
 use Rattle.gauge.specs.laws.LeastLaws.{least_is_lem, smaller_fails, none_passes, none_given, larger_passes, fails_below}
 use Rattle.verdict.specs.declared.Verdict.{Verdict}
@@ -15,8 +13,8 @@ use Rattle.verdict.specs.Raising.{Required, All, AllMonotone, Failing, here, the
 pub required : (asks : ℕ → Bool) (top : ℕ) → Monotone asks → Required asks top (number_of (least_in asks top))
 required asks top m = go (least_in asks top) refl
   where
-    go : (l : Least) → least_in asks top ≡ l → Required asks top (number_of l)
-    go (At k) e =
+    go : (l : Option ℕ) → least_in asks top ≡ l → Required asks top (number_of l)
+    go (Some k) e =
         let i = least_is_lem asks top k e in
         record {
           within = λ h. omega (arith, i.within);
@@ -24,9 +22,9 @@ required asks top m = go (least_in asks top) refl
           larger = λ h. larger_passes asks m top k e;
           smaller = smaller_fails asks top k e;
           none = λ z. absurd (omega (arith, i.from));
-          zero = λ f. let z : At k ≡ Nothing = sym e ∙ none_given asks top f in ap number_of z;
+          zero = λ f. let z : Some k ≡ None = sym e ∙ none_given asks top f in ap number_of z;
         }
-    go Nothing e =
+    go None e =
         record {
           within = λ h. absurd (omega arith);
           meets = λ h. absurd (omega arith);
@@ -40,9 +38,9 @@ required asks top m = go (least_in asks top) refl
 pub fails_under : (asks : ℕ → Bool) (top x : ℕ) → Monotone asks → asks x ≡ false → 1 ≤ number_of (least_in asks top) → x < number_of (least_in asks top)
 fails_under asks top x m f = go (least_in asks top) refl
   where
-    go : (l : Least) → least_in asks top ≡ l → 1 ≤ number_of l → x < number_of l
-    go (At k) e h = fails_below asks m top k x e f
-    go Nothing e h = absurd (omega arith)
+    go : (l : Option ℕ) → least_in asks top ≡ l → 1 ≤ number_of l → x < number_of l
+    go (Some k) e h = fails_below asks m top k x e f
+    go None e h = absurd (omega arith)
 
 -- ---- the first rule that fails
 

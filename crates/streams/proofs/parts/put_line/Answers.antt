@@ -1,4 +1,5 @@
 -- `streams::parts::put_line` meets its contract.
+use Rattle.std.specs.Prelude.{Result}
 use Prim.Native.Nat.{ℕ, ◌≤◌}
 use mathlib.Core.Path.{◌≡◌, refl, sym, ap, subst, ◌∙◌}
 use mathlib.Core.List.{List, [], ◌∷◌, ◌++◌}
@@ -15,7 +16,6 @@ use Rattle.decimal.specs.laws.LaidLaws.{laid_front, put_front}
 use Rattle.report.specs.Page.{told_length}
 use Rattle.report.specs.laws.PageLaws.{refusal_told}
 use Rattle.report.specs.Pieces.{refusal_text}
-use Rattle.sheet_csv.specs.declared.Converted.{Converted}
 use Rattle.sheet_csv.specs.Read.{told_converted}
 use Rattle.streams.specs.Parts.{line_for, ShortLine}
 use Rattle.streams.proofs.parts.put_line.Goals.{After-write_refusal-told, In-Length}
@@ -28,7 +28,7 @@ length_line n = refl
 
 -- a length has five digits at most
 inside : (c : In-Length) → c.in-Length.n ≤ 65536
-inside c = subst (λ (x : Converted). ShortLine (told_converted x)) c.in-Length.is c.requires.1
+inside c = subst (λ (x : Result ℕ Refusal). ShortLine (told_converted x)) c.in-Length.is c.requires.1
 
 few : (c : In-Length) → length (decimal_of c.in-Length.n ++ (10 ∷ [])) ≤ 6
 few c = omega (arith, length-append (decimal_of c.in-Length.n) (10 ∷ []), decimal_most 4 c.in-Length.n (omega (arith, (inside c))))
@@ -50,14 +50,14 @@ returns-in-Length c =
     let o = c.args.line.now in
     let put : Puts (decimal_of n ++ (10 ∷ [])) o c.write_number.result c.write_number.new.out = c.write_number.ensures in
     let l = put_front o (decimal_of n ++ (10 ∷ [])) (omega (arith, few (goal.at.returns-in-Length c).In-Length, c.requires.0)) put in
-    subst (λ (x : List ℕ). Laid o 0 x c.write_number.result c.write_number.new.out) (length_line n ∙ ap (λ (x : Converted). line_for (told_converted x)) (sym c.in-Length.is)) l
+    subst (λ (x : List ℕ). Laid o 0 x c.write_number.result c.write_number.new.out) (length_line n ∙ ap (λ (x : Result ℕ Refusal). line_for (told_converted x)) (sym c.in-Length.is)) l
 
 pub returns-in-Length-told : goal.returns-in-Length-told
 returns-in-Length-told c =
     let o = c.args.line.now in
     let len_is = given_same (sym (ap told_length c.in-Length-told.is) ∙ (spelled (goal.at.returns-in-Length-told c).After-write_refusal-told).0) in
     let l : Laid o 0 (line (goal.at.returns-in-Length-told c).After-write_refusal-told) c.in-Length-told.len c.write_refusal-told.new.text = record { place = len_is ∙ omega arith; bytes = (spelled (goal.at.returns-in-Length-told c).After-write_refusal-told).1 ∙ sym (laid_front o (line (goal.at.returns-in-Length-told c).After-write_refusal-told)) } in
-    subst (λ (x : List ℕ). Laid o 0 x c.in-Length-told.len c.write_refusal-told.new.text) (refusal_line c.in-Refused.x ∙ ap (λ (x : Converted). line_for (told_converted x)) (sym c.in-Refused.is)) l
+    subst (λ (x : List ℕ). Laid o 0 x c.in-Length-told.len c.write_refusal-told.new.text) (refusal_line c.in-Refused.x ∙ ap (λ (x : Result ℕ Refusal). line_for (told_converted x)) (sym c.in-Refused.is)) l
 
 pub returns-in-Refused-told : goal.returns-in-Refused-told
 returns-in-Refused-told c =

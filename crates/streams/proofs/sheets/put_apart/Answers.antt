@@ -1,27 +1,27 @@
 -- `streams::sheets::put_apart` meets its contract: the text is told, and there is room behind it.
+use Rattle.std.specs.Prelude.{Result, Ok}
 use Rattle.std.proofs.Common.{◌≡◌, ℕ, ◌<◌, List, [], ◌∷◌, ◌++◌, length, take, drop, sym, ap, ◌∙◌, arith, add-one, take_at}
 use lib.ListN.{set, length-set}
 use lib.Seq.{take-suc-set}
 use Rattle.sheet.specs.Refusals.{given}
 use Rattle.sheet.specs.laws.RefusalLaws.{given_same, given_refused}
-use Rattle.report.specs.declared.Told.{Told}
-use Rattle.report.specs.declared.Told.TheVariants.{Length}
 use Rattle.report.specs.Text.{text_of}
 use Rattle.report.specs.Page.{longest, told_length, Tells}
 use Rattle.report.specs.laws.Longest.{text_most, answer_told}
 use Rattle.streams.proofs.sheets.put_apart.Goals as goal
+use Rattle.sheet.specs.declared.Refusal.{Refusal}
 
 -- the text stands in front, and its length is told
-module _ (s o : List ℕ) (room : longest < length o) {r : Told} {after : List ℕ} (t : Tells (text_of s) o r after) where
+module _ (s o : List ℕ) (room : longest < length o) {r : Result ℕ Refusal} {after : List ℕ} (t : Tells (text_of s) o r after) where
   told : (told_length r ≡ given (length (text_of s))) × (after ≡ text_of s ++ drop (length (text_of s)) o)
   told = answer_told s o r after (omega (arith, room)) t
 
   -- its length
-  len_is : (len : ℕ) → r ≡ Length len → len ≡ length (text_of s)
+  len_is : (len : ℕ) → r ≡ Ok len → len ≡ length (text_of s)
   len_is len e = given_same (sym (ap told_length e) ∙ told.0)
 
   -- and the byte behind it is in the slice
-  behind : (len : ℕ) → r ≡ Length len → length after ≡ length o → len < length after
+  behind : (len : ℕ) → r ≡ Ok len → length after ≡ length o → len < length after
   behind len e same = omega (arith, len_is len e, text_most s, same, room)
 
 pub bounds-text-len : goal.bounds-text-len
