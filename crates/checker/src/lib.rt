@@ -5,6 +5,7 @@ ghost use Rattle.std.specs.Prelude.{◌≡◌, cond, ◌++◌, ◌+◌, ◌*◌,
 ghost use Rattle.quantity.specs.Range.{modulus};
 ghost use Rattle.layout.specs.Layout.{pack, unpack, Fit};
 ghost use Rattle.layout.specs.Bytes.{written_of};
+ghost use Rattle.loads.specs.Sources.{number_of};
 ghost use Rattle.sheet.specs.Refusals.{given, told, told_outcome, told_header, told_record};
 ghost use Rattle.sheet.specs.Header.{header_fault};
 ghost use Rattle.sheet.specs.Writes.{Writes};
@@ -15,8 +16,8 @@ ghost use Rattle.checker.specs.Passes.{Refuses, judged_after, Ready, told_passed
 
 use layout::powers::{P19, P22};
 use quantity::Modulus;
-use sheet::{Header, HeaderRead, MOST, Outcome, RECORD, RecordRead, Refusal};
-use verdict::{Judged, Verdict};
+use sheet::{Header, MOST, RECORD, Record, Refusal};
+use verdict::Judged;
 
 // One verdict as it stands in the output, with the id of its record.
 #[derive(Clone, Copy)]
@@ -30,16 +31,11 @@ pub struct Entry {
     pub source: u8,
 }
 
+// How many verdicts were given, and how many of them have a rule.
 #[derive(Clone, Copy)]
-pub enum EntryRead {
-    Good(Entry),
-    Refused(Refusal),
-}
-
-#[derive(Clone, Copy)]
-pub enum Checked {
-    Done { n: u16, failed: u16 },
-    Refused(Refusal),
+pub struct Checked {
+    pub n: u16,
+    pub failed: u16,
 }
 
 // How many bytes a verdict takes, and those of the most records.
@@ -129,42 +125,29 @@ pub fn write_verdict(e: Entry, out: &mut [u8]) -> Result<(), Refusal>
 fn header_for(sheet: &[u8], room: usize) -> Result<Header, Refusal>
     ensures { told_header result ≡ header_for sheet.now room }
 {
-    let read = header::read_header(sheet);
-    match read {
-        Err(x) => Err(x),
-        Ok(h) => {
-            let n = h.count as usize;
-            let size = h.size();
-            let whole = size + RECORD * n;
-            let slender = h.too_slender();
-            if slender {
-                return Err(Refusal::TooSlender);
-            }
-            if sheet.len() != whole {
-                return Err(Refusal::SheetLength);
-            }
-            if room < VERDICT * n {
-                return Err(Refusal::OutputShort);
-            }
-            Ok(h)
-        }
+    let h = header::read_header(sheet)?;
+    let n = h.count as usize;
+    if h.too_slender() {
+        return Err(Refusal::TooSlender);
     }
+    if sheet.len() != h.size() + RECORD * n {
+        return Err(Refusal::SheetLength);
+    }
+    if room < VERDICT * n {
+        return Err(Refusal::OutputShort);
+    }
+    Ok(h)
 }
 
 // Refusals 6 to 8 of record i, in its sixteen bytes, after a record with the id `before`.
 fn sound_after(bytes: &[u8], i: u16, before: u16) -> Result<Record, Refusal>
     ensures { told_record result ≡ sound_after i before bytes.now }
 {
-    let read = record::read_record_as(bytes, i);
-    match read {
-        Err(x) => Err(x),
-        Ok(r) => {
-            if r.id <= before {
-                return Err(Refusal::Order(i as u32));
-            }
-            Ok(r)
-        }
+    let r = record::read_record_as(bytes, i)?;
+    if r.id <= before {
+        return Err(Refusal::Order(i as u32));
     }
+    Ok(r)
 }
 
 // The same of record i among the bytes of all records.
@@ -183,17 +166,9 @@ fn records_sound(records: &[u8], n: u16) -> Result<(), Refusal>
     ensures { told_outcome result ≡ records_sound records.now n }
 {
     let mut before: u16 = 0;
-    let mut i: u16 = 0;
-    while i < n {
-        let read = sound_at(records, i, before);
-        let r = match read {
-            Err(x) => {
-                return Err(x);
-            }
-            Ok(r) => r,
-        };
+    for i in 0..n {
+        let r = sound_at(records, i, before)?;
         before = r.id;
-        i += 1;
     }
     Ok(())
 }
@@ -202,17 +177,9 @@ fn records_sound(records: &[u8], n: u16) -> Result<(), Refusal>
 pub fn sound_header(sheet: &[u8]) -> Result<Header, Refusal>
     ensures { told_header result ≡ sound_header sheet.now }
 {
-    let read = header_for(sheet, LONGEST);
-    match read {
-        Err(x) => Err(x),
-        Ok(h) => {
-            let found = records_sound(&sheet[h.size()..], h.count);
-            match found {
-                Err(x) => Err(x),
-                Ok(()) => Ok(h),
-            }
-        }
-    }
+    let h = header_for(sheet, LONGEST)?;
+    records_sound(&sheet[h.size()..], h.count)?;
+    Ok(h)
 }
 
 // Why record i is turned away, where it is: the reader then gives no record.
@@ -220,22 +187,20 @@ fn why_refused(bytes: &[u8], i: u16, before: u16) -> Refusal
     requires { Refuses (sound_after i before bytes.now) }
     ensures { told result ≡ sound_after i before bytes.now }
 {
-    let read = sound_after(bytes, i, before);
-    match read {
+    match sound_after(bytes, i, before) {
         Err(x) => x,
         Ok(_) => Refusal::Order(i as u32),
     }
 }
 
-fn entry_with(id: u16, v: Verdict, source: u8) -> Entry
-    ensures { result ≡ entry_with id (record { verdict = v; source = source }) }
+fn entry_with(id: u16, judged: Judged) -> Entry
+    ensures { result ≡ entry_with id (record { verdict = judged.verdict; source = number_of judged.source }) }
 {
-    let rule = v.rule;
     Entry {
         id,
-        rule,
-        required: v.required,
-        source,
+        rule: judged.verdict.rule,
+        required: judged.verdict.required,
+        source: judged.source.number(),
     }
 }
 
@@ -250,15 +215,13 @@ fn judged_after(h: Header, bytes: &[u8], i: u16, before: u16) -> Result<Entry, R
     if raw.spare != 0 {
         return Err(why_refused(bytes, i, before));
     }
-    let id = r.id;
-    if id <= before {
+    if r.id <= before {
         return Err(why_refused(bytes, i, before));
     }
-    let judged = hull::judge(h, r);
-    let Ok(Judged { verdict, source }) = judged else {
+    let Ok(judged) = hull::judge(h, r) else {
         return Err(why_refused(bytes, i, before));
     };
-    Ok(entry_with(id, v, source.number()))
+    Ok(entry_with(r.id, judged))
 }
 
 fn judged_at(h: Header, records: &[u8], i: u16, before: u16) -> Result<Entry, Refusal>
@@ -276,36 +239,20 @@ fn failing(e: Entry) -> u16
     if e.rule == 0 { 0 } else { 1 }
 }
 
-// What the pass over the records comes to.
-#[derive(Drop)]
-enum Passed {
-    // how many verdicts have a rule
-    Fine(u16),
-    Refused(Refusal),
-}
-
-// The pass: each record is judged in turn and its verdict goes into the draft as a number, up to the first record that is turned away.
+// The pass: each record is judged in turn and its verdict goes into the draft as a number, up to the first record that is turned away. How many verdicts have
+// a rule.
 fn judge_all(h: Header, records: &[u8], draft: &mut [u32]) -> Result<u16, Refusal>
     requires { Ready h records.now (length draft.old) }
     ensures { told_passed result draft.new ≡ pass_over h records.now draft.old }
 {
-    let count = h.count;
     let mut failed: u16 = 0;
     // Ids are at least 1, so that the first record's is above this one.
     let mut before: u16 = 0;
-    let mut i: u16 = 0;
-    while i < count {
-        let judged = judged_at(h, records, i, before);
-        let e = match judged {
-            Err(x) => {
-                return Err(x);
-            }
-            Ok(e) => e,
-        };
+    for i in 0..h.count {
+        let e = judged_at(h, records, i, before)?;
         draft[i as usize] = number_of(e);
         failed += failing(e);
         before = e.id;
-        i += 1;
     }
     Ok(failed)
 }
@@ -315,12 +262,10 @@ fn write_all(draft: &[u32], out: &mut [u8])
     requires { 4 * length draft.now ≤ length out.old }
     ensures { out.new ≡ number_bytes draft.now ++ drop (4 * length draft.now) out.old }
 {
-    let mut i: usize = 0;
-    while i < draft.len() {
+    for (i, &n) in draft.iter().enumerate() {
         let first = VERDICT * i;
         let past = first + VERDICT;
-        write_number(draft[i], &mut out[first..past]);
-        i += 1;
+        write_number(n, &mut out[first..past]);
     }
 }
 
@@ -329,26 +274,16 @@ fn judge_sheet(h: Header, sheet: &[u8], draft: &mut [u32], out: &mut [u8]) -> Re
     requires { (given h ≡ header_for sheet.now (length out.old)) × (h.count ≤ length draft.old) }
     ensures { Checks sheet.now out.old result out.new }
 {
-    let passed = judge_all(h, &sheet[h.size()..], draft);
-    match passed {
-        Err(x) => Err(x),
-        Ok(failed) => {
-            write_all(&draft[..h.count as usize], out);
-            Ok(Checked { n: h.count, failed })
-        }
-    }
+    let failed = judge_all(h, &sheet[h.size()..], draft)?;
+    write_all(&draft[..h.count as usize], out);
+    Ok(Checked { n: h.count, failed })
 }
 
 // The whole sheet. A refusal leaves the output as it was lent; else each record's verdict stands in its own four bytes, and no other byte is touched.
 pub fn check(sheet: &[u8], out: &mut [u8]) -> Result<Checked, Refusal>
     ensures { Checks sheet.now out.old result out.new }
 {
-    let read = header_for(sheet, out.len());
-    match read {
-        Err(x) => Err(x),
-        Ok(h) => {
-            let mut draft = [0u32; MOST as usize];
-            judge_sheet(h, sheet, &mut draft, out)
-        }
-    }
+    let h = header_for(sheet, out.len())?;
+    let mut draft = [0u32; MOST as usize];
+    judge_sheet(h, sheet, &mut draft, out)
 }

@@ -1,4 +1,5 @@
 -- `checker::judge_all` meets its contract. The loop's invariant: what the pass comes to from here on is what it comes to in all.
+use Rattle.std.specs.Prelude.{Err}
 use borrow.Author.Rules.{rules}
 use mathlib.Core.Path.{◌≡◌, refl, ap, sym, ◌∙◌}
 use native.Mathlib.Omega.{arith}
@@ -7,7 +8,7 @@ use Rattle.sheet.specs.Refusals.{given}
 use Rattle.checker.specs.Entry.{told_entry}
 use Rattle.checker.specs.laws.EntryLaws.{entry_fit}
 use Rattle.checker.specs.Check.{record_part}
-use Rattle.checker.specs.Passes.{judged_after}
+use Rattle.checker.specs.Passes.{judged_after, told_passed}
 use Rattle.checker.proofs.Pass.{writable, pass_start, pass_refused, pass_turn, pass_end}
 use Rattle.checker.proofs.judge_all.Goals as goal
 
@@ -19,12 +20,13 @@ loop-i-init c =
 
 -- src/lib.rt:301:17
 -- LOOK: before
-pub returns-in-Refused : goal.returns-in-Refused
-returns-in-Refused c =
+pub returns-in_err-e : goal.returns-in_err-e
+returns-in_err-e c =
     let l = c.loop-i in
     let a = c.args in
-    pass_refused a.h.count a.h a.records.now l.i l.before l.failed l.draft l.invariant.3 _ _ c.loop-i-test.true
-    (sym (ap told_entry c.in-Refused.is) ∙ c.judged_at-judged.ensures)
+    let passed_on : c.from_residual.result ≡ Err c.in_err-e.field-0.0 = search rules in
+    ap (λ p. told_passed p l.draft) passed_on ∙ pass_refused a.h.count a.h a.records.now l.i l.before l.failed l.draft l.invariant.3 _ _ c.loop-i-test.true
+    (sym (ap told_entry c.in_err-e.was) ∙ c.judged_at.ensures)
 
 -- src/lib.rt:305:29
 -- LOOK: before
@@ -33,7 +35,7 @@ number_of-requires c =
     let l = c.loop-i in
     let a = c.args in
     entry_fit _ (writable a.h.count a.h a.records.now l.i l.before l.failed l.draft l.invariant.3 c.loop-i-test.true _
-    (sym (ap told_entry c.in-Good.is) ∙ c.judged_at-judged.ensures))
+    (sym (ap told_entry c.in_ok-e.was) ∙ c.judged_at.ensures))
 
 -- src/lib.rt:306:9
 pub overflow_add-failed : goal.overflow_add-failed
@@ -46,8 +48,8 @@ pub loop-i-preserved : goal.loop-i-preserved
 loop-i-preserved c =
     let l = c.loop-i in
     let a = c.args in
-    let e = c.in-Good.e in
-    let judged : given e ≡ judged_after a.h l.i l.before (record_part a.records.now l.i) = sym (ap told_entry c.in-Good.is) ∙ c.judged_at-judged.ensures in (
+    let e = c.in_ok-e.e in
+    let judged : given e ≡ judged_after a.h l.i l.before (record_part a.records.now l.i) = sym (ap told_entry c.in_ok-e.was) ∙ c.judged_at.ensures in (
       search rules,
       search rules,
       simp length-set l.invariant.2,

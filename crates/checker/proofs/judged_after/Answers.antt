@@ -23,17 +23,17 @@ returns-then-raw-ne0 c =
 
 -- src/lib.rt:255:35
 -- LOOK: before
-pub why_refused-requires-then-id-before : goal.why_refused-requires-then-id-before
-why_refused-requires-then-id-before c =
+pub why_refused-requires-then-r-before : goal.why_refused-requires-then-r-before
+why_refused-requires-then-r-before c =
     let a = c.args in
-    order_refused a.h a.i a.before a.bytes.now c.record_in-raw.result c.record_in-raw.ensures c.if-id-before.true
+    order_refused a.h a.i a.before a.bytes.now c.record_in-raw.result c.record_in-raw.ensures c.if-r-before.true
 
 -- src/lib.rt:255:9
 -- LOOK: before
-pub returns-then-id-before : goal.returns-then-id-before
-returns-then-id-before c =
+pub returns-then-r-before : goal.returns-then-r-before
+returns-then-r-before c =
     let a = c.args in
-    judged_refused a.h a.i a.before a.bytes.now _ _ c.why_refused-then-id-before.ensures
+    judged_refused a.h a.i a.before a.bytes.now _ _ c.why_refused-then-r-before.ensures
 
 -- src/lib.rt:259:35
 -- LOOK: before
@@ -41,7 +41,7 @@ pub why_refused-requires-in_default : goal.why_refused-requires-in_default
 why_refused-requires-in_default c =
     let a = c.args in
     judging_refused a.h a.i a.before a.bytes.now c.record_in-raw.result c.record_in-raw.ensures c.requires _ _
-    (sym (ap told_judged c.in_default.is) ∙ c.judge-judged.ensures)
+    (sym (ap told_judged c.in_default.is) ∙ c.judge.ensures)
 
 -- src/lib.rt:259:9
 -- LOOK: before
@@ -56,7 +56,7 @@ pub returns : goal.returns
 returns c =
     let a = c.args in
     let id = c.record_in-raw.result.values.id in
-    let found : Finding = record { verdict = c.in-Verdict.v; source = number_of c.in-Verdict.source } in
-    let entry : c.entry_with.result ≡ entry_with id found = c.entry_with.ensures ∙ ap (λ (s : ℕ). entry_with id (record { verdict = found.verdict; source = s })) c.number.ensures in
+    let found : Finding = record { verdict = c.in-Ok.judged.verdict; source = number_of c.in-Ok.judged.source } in
+    let entry : c.entry_with.result ≡ entry_with id found = c.entry_with.ensures in
     judged_good a.h a.i a.before a.bytes.now c.record_in-raw.result c.record_in-raw.ensures c.requires found c.if-raw-ne0.false
-    c.if-id-before.false (sym (ap told_judged c.in-Verdict.is) ∙ c.judge-judged.ensures) c.entry_with.result entry
+    c.if-r-before.false (sym (ap told_judged c.in-Ok.is) ∙ c.judge.ensures) c.entry_with.result entry

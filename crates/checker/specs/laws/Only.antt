@@ -7,7 +7,7 @@ use Rattle.sheet.specs.laws.RefusalLaws.{refusal_only, outcome_only, given_refus
 use Rattle.sheet.specs.Writes.{Writes}
 use Rattle.checker.specs.declared.Entry.{Entry}
 use Rattle.checker.specs.Entry.{told_entry, read_entry, write_entry}
-use Rattle.checker.specs.Check.{Totals, told_checked, Checks}
+use Rattle.checker.specs.Check.{Totals, told_checked, Checks, tallied}
 use Rattle.sheet.specs.declared.Refusal.{Refusal}
 use Rattle.checker.specs.declared.Checked.{Checked}
 
