@@ -1,6 +1,6 @@
 -- Which answer an edit gives in each case, and what it leaves.
 -- Assumes nothing.
-use Rattle.std.specs.Prelude.{Ok, Err}
+use Rattle.std.specs.Prelude.{Result, Ok, Err}
 use Prim.Native.Nat.{ℕ, ◌+◌, ◌-◌, ◌≤◌, ◌<◌}
 use mathlib.Core.Path.{◌≡◌, sym, ap, ap₂, subst, ◌∙◌}
 use mathlib.Core.Bool.{true, false}
@@ -53,6 +53,10 @@ unfolding header_of
 known b len h e =
     let a = then_given (sheet_at b len) _ h (sym e) in
     record { sheet = a.0; found = a.1; header = sym (given_same a.2) }
+
+-- an answer that is passed on says what it said
+pub passes_on : {a : Answer After} {before : List ℕ} (after : List ℕ) {r s : Result ℕ Refusal} → r ≡ s → Edits a before s after → Edits a before r after
+passes_on {a} {before} after e says = subst (λ (x : Result ℕ Refusal). Edits a before x after) (sym e) says
 
 -- ---- room
 

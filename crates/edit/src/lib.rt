@@ -1,4 +1,4 @@
-// A sheet edited where it stands: the first `len` bytes of a lent buffer are the sheet, and an edit gives its new length back.
+// A sheet edited where it stands: the first `len` bytes of a lent buffer are the sheet, and an edit gives its new length back, or why there was none.
 #![tactic(auto)]
 
 mod find;
@@ -11,14 +11,7 @@ ghost use Rattle.checker.specs.Check.{records_part};
 ghost use Rattle.edit.specs.Edit.{header_of, start, counting, replacing, inserting, removing, put_in, put_numbers_in, remove_in, Edits};
 ghost use Rattle.edit.specs.Steps.{place_in, has_in, Known, Fits, Stands};
 
-use sheet::{Header, HeaderRead, Outcome, RECORD, Record, RecordRead, Refusal};
-
-// The sheet's length after an edit, or why there was none.
-#[derive(Clone, Copy)]
-pub enum Edited {
-    Length(usize),
-    Refused(Refusal),
-}
+use sheet::{Header, RECORD, Record, Refusal};
 
 // The header of the sheet, or why it is turned away.
 fn sheet_at(buf: &[u8], len: usize) -> Result<Header, Refusal>
@@ -33,25 +26,7 @@ fn sheet_at(buf: &[u8], len: usize) -> Result<Header, Refusal>
 fn counted(h: Header, count: u16) -> Header
     ensures { result ≡ counting count h }
 {
-    let version = h.version;
-    let length = h.length;
-    let draught = h.draught;
-    let wave = h.wave;
-    let two_runs = h.two_runs;
-    let moment = h.moment;
-    let bottom_modulus = h.bottom_modulus;
-    let own = h.own;
-    Header {
-        version,
-        length,
-        draught,
-        wave,
-        two_runs,
-        moment,
-        bottom_modulus,
-        count,
-        own,
-    }
+    Header { count, ..h }
 }
 
 // A sound record over the sixteen bytes of record i, under the header h.
@@ -62,7 +37,7 @@ fn replace(buf: &mut [u8], h: Header, i: u16, r: Record)
     let size = h.size();
     let first = size + RECORD * (i as usize);
     let past = first + RECORD;
-    record::write_record(r, &mut buf[first..past]);
+    let _ = record::write_record(r, &mut buf[first..past]);
 }
 
 // A sound record in as record i, under the header h.
@@ -73,7 +48,7 @@ fn insert(buf: &mut [u8], len: usize, h: Header, i: u16, r: Record)
     let at = h.size() + RECORD * (i as usize);
     shift::open(buf, at, len);
     replace(buf, h, i, r);
-    header::write_header(h, buf);
+    let _ = header::write_header(h, buf);
 }
 
 // Record i out, under the header h.
@@ -85,7 +60,7 @@ fn take_out(buf: &mut [u8], len: usize, h: Header, i: u16)
     shift::close(buf, at, len);
     let freed = len - RECORD;
     shift::clear(buf, freed, len);
-    header::write_header(h, buf);
+    let _ = header::write_header(h, buf);
 }
 
 // A sound record with a new id, which goes in at its place. The header's own test says whether n can go up.
@@ -97,14 +72,11 @@ fn put_new(buf: &mut [u8], len: usize, h: Header, i: u16, r: Record) -> Result<u
         return Err(Refusal::NoRoom);
     }
     let more = counted(h, h.count + 1);
-    let found = header::header_fault(more);
-    match found {
-        Err(_) => Err(Refusal::NoRoom),
-        Ok(()) => {
-            insert(buf, len, more, i, r);
-            Ok(len + RECORD)
-        }
-    }
+    let Ok(()) = header::header_fault(more) else {
+        return Err(Refusal::NoRoom);
+    };
+    insert(buf, len, more, i, r);
+    Ok(len + RECORD)
 }
 
 // A sound record, which replaces the one with its id or goes in at its place.
@@ -128,17 +100,9 @@ fn put_sound(buf: &mut [u8], len: usize, h: Header, r: Record) -> Result<usize, 
 pub fn put_numbers(buf: &mut [u8], len: usize, f: [u32; 13]) -> Result<usize, Refusal>
     ensures { Edits (put_numbers_in buf.old len f) buf.old result buf.new }
 {
-    let read = sheet_at(buf, len);
-    match read {
-        Err(x) => Err(x),
-        Ok(h) => {
-            let taken = numbers::record_from(f, h.count);
-            match taken {
-                Err(x) => Err(x),
-                Ok(r) => put_sound(buf, len, h, r),
-            }
-        }
-    }
+    let h = sheet_at(buf, len)?;
+    let r = numbers::record_from(f, h.count)?;
+    put_sound(buf, len, h, r)
 }
 
 fn remove_sound(buf: &mut [u8], len: usize, h: Header, id: u32) -> Result<usize, Refusal>
@@ -160,9 +124,6 @@ fn remove_sound(buf: &mut [u8], len: usize, h: Header, id: u32) -> Result<usize,
 pub fn remove(buf: &mut [u8], len: usize, id: u32) -> Result<usize, Refusal>
     ensures { Edits (remove_in buf.old len id) buf.old result buf.new }
 {
-    let read = sheet_at(buf, len);
-    match read {
-        Err(x) => Err(x),
-        Ok(h) => remove_sound(buf, len, h, id),
-    }
+    let h = sheet_at(buf, len)?;
+    remove_sound(buf, len, h, id)
 }

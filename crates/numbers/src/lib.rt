@@ -11,9 +11,7 @@ ghost use Rattle.numbers.specs.Fields.{own_numbers, header_numbers, plate_number
 ghost use Rattle.numbers.specs.From.{named_size, header_from, record_from};
 ghost use Rattle.numbers.specs.Held.{earlier_of, own_held, header_held, header_apart, plate_held, member_held, record_held, plate_apart, record_apart};
 
-use sheet::{
-    Body, Header, HeaderRead, Member, Outcome, Own, Plate, Record, RecordRead, Refusal, Section,
-};
+use sheet::{Body, Header, Member, Own, Plate, Record, Refusal, Section};
 
 // The two numbers of what a version has of its own; version 1 has none, and they are 0.
 fn own_numbers(own: Own) -> [u32; 2]
@@ -209,12 +207,8 @@ pub fn header_from(f: [u32; 10]) -> Result<Header, Refusal>
     let h = header_held(f);
     let found = header::header_fault(h);
     let field = header_apart(f);
-    let place = field as u32;
-    let fault = earlier(found, field, Refusal::HeaderField(place));
-    match fault {
-        Ok(()) => Ok(h),
-        Err(r) => Err(r),
-    }
+    earlier(found, field, Refusal::HeaderField(field as u32))?;
+    Ok(h)
 }
 
 fn plate_held(f: [u32; 13]) -> Plate
@@ -316,13 +310,10 @@ fn record_apart(f: [u32; 13]) -> u8
 pub fn record_from(f: [u32; 13], i: u16) -> Result<Record, Refusal>
     ensures { told_record result ≡ record_from i f }
 {
-    let a = record_held(f);
-    let found = record::record_fault(a, i);
+    let r = record_held(f);
+    let found = record::record_fault(r, i);
     let field = record_apart(f);
     let place = 32 * i as u32 + field as u32;
-    let fault = earlier(found, field, Refusal::Field(place));
-    match fault {
-        Ok(()) => Ok(a),
-        Err(r) => Err(r),
-    }
+    earlier(found, field, Refusal::Field(place))?;
+    Ok(r)
 }

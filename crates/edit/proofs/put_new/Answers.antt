@@ -10,7 +10,7 @@ use Rattle.sheet.specs.laws.VersionLaws.{regular}
 use Rattle.checker.specs.Check.{sheet_size}
 use Rattle.edit.specs.Edit.{highest, counting, inserting}
 use Rattle.edit.proofs.Answers.{no_room, room_for_one, at_highest, below_highest, size, its_header, place_most, put_full, put_inserted}
-use Rattle.edit.proofs.put_new.Goals.{After-header_fault-found, In-Fine, Start}
+use Rattle.edit.proofs.put_new.Goals.{After-header_fault, In-Ok, Start}
 use Rattle.edit.proofs.put_new.Goals as goal
 
 -- the buffer has room for the sheet
@@ -18,28 +18,28 @@ within : (c : Start) → (c.args.len ≡ sheet_size c.args.h) × (c.args.len ≤
 within c = size c.args.buf.now c.args.len c.args.h c.requires.0
 
 -- the header that counts one more, and what its own test says
-more : (c : After-header_fault-found) → c.counted-more.result ≡ counting (c.args.h.count + 1) c.args.h
+more : (c : After-header_fault) → c.counted-more.result ≡ counting (c.args.h.count + 1) c.args.h
 more c = c.counted-more.ensures
 
-sound : (c : After-header_fault-found) → header_fault c.args.h ≡ 0
+sound : (c : After-header_fault) → header_fault c.args.h ≡ 0
 sound c = its_header c.args.buf.now c.args.len c.args.h c.requires.0
 
-room : (c : After-header_fault-found) → c.args.len + 16 ≤ length c.args.buf.now
+room : (c : After-header_fault) → c.args.len + 16 ≤ length c.args.buf.now
 room c =
     let within : (c.args.len ≡ sheet_size c.args.h) × (c.args.len ≤ length c.args.buf.now) × (c.args.h.count ≤ highest c.args.h) = size c.args.buf.now c.args.len c.args.h c.requires.0 in
     omega (arith, within.1, c.if-buf-len-lt-RECORD.false)
 
-tested : (c : After-header_fault-found) → told_outcome c.header_fault-found.result ≡ header_refused (header_fault (counting (c.args.h.count + 1) c.args.h)) (given (tt {0}))
-tested c = c.header_fault-found.ensures ∙ ap (λ (g : Header). header_refused (header_fault g) (given (tt {0}))) (more c)
+tested : (c : After-header_fault) → told_outcome c.header_fault.result ≡ header_refused (header_fault (counting (c.args.h.count + 1) c.args.h)) (given (tt {0}))
+tested c = c.header_fault.ensures ∙ ap (λ (g : Header). header_refused (header_fault g) (given (tt {0}))) (more c)
 
 -- none of the header's fields is at fault, and n is below its highest
-fine : (c : In-Fine) → let a = c.args in (header_fault (counting (a.h.count + 1) a.h) ≡ 0) × (a.h.count < highest a.h)
+fine : (c : In-Ok) → let a = c.args in (header_fault (counting (a.h.count + 1) a.h) ≡ 0) × (a.h.count < highest a.h)
 fine c =
     let sound : header_fault c.args.h ≡ 0 = its_header c.args.buf.now c.args.len c.args.h c.requires.0 in
     let more : c.counted-more.result ≡ counting (c.args.h.count + 1) c.args.h = c.counted-more.ensures in
-    let tested : told_outcome c.header_fault-found.result ≡ header_refused (header_fault (counting (c.args.h.count + 1) c.args.h)) (given (tt {0})) = c.header_fault-found.ensures ∙ ap (λ (g : Header). header_refused (header_fault g) (given (tt {0}))) more in
+    let tested : told_outcome c.header_fault.result ≡ header_refused (header_fault (counting (c.args.h.count + 1) c.args.h)) (given (tt {0})) = c.header_fault.ensures ∙ ap (λ (g : Header). header_refused (header_fault g) (given (tt {0}))) more in
     let a = c.args in
-    below_highest a.h sound (sym (ap told_outcome c.in-Fine.is) ∙ tested)
+    below_highest a.h sound (sym (ap told_outcome c.in-Ok.is) ∙ tested)
 
 -- src/lib.rt:96:8
 pub overflow_sub-buf : goal.overflow_sub-buf
@@ -62,25 +62,25 @@ insert-requires c =
     let a = c.args in
     let b = a.buf.now in
     record {
-      header = ap (λ (g : Header). header_fault g) (more (goal.at.insert-requires c).After-header_fault-found) ∙ (fine (goal.at.insert-requires c).In-Fine).0;
+      header = ap (λ (g : Header). header_fault g) (more (goal.at.insert-requires c).After-header_fault) ∙ (fine (goal.at.insert-requires c).In-Ok).0;
       sound = c.requires.1;
-      inside = omega (arith, ap (λ (g : Header). header_size g) (more (goal.at.insert-requires c).After-header_fault-found), (within (goal.at.insert-requires c).Start).0, c.requires.2, place_most b a.len a.h c.requires.0 a.r.id);
-      room = room (goal.at.insert-requires c).After-header_fault-found;
+      inside = omega (arith, ap (λ (g : Header). header_size g) (more (goal.at.insert-requires c).After-header_fault), (within (goal.at.insert-requires c).Start).0, c.requires.2, place_most b a.len a.h c.requires.0 a.r.id);
+      room = room (goal.at.insert-requires c).After-header_fault;
     }
 
 -- src/lib.rt:92:1
-pub returns-in-Refused : goal.returns-in-Refused
-returns-in-Refused c =
+pub returns-in_default : goal.returns-in_default
+returns-in_default c =
     let a = c.args in
     let b = a.buf.now in
     put_full b a.len a.h c.requires.0 a.r c.requires.1 c.requires.3
-    (at_highest a.h (sound (goal.at.returns-in-Refused c).After-header_fault-found) a.len (length b) _ _ (room (goal.at.returns-in-Refused c).After-header_fault-found) (sym (ap told_outcome c.in-Refused.is) ∙ tested (goal.at.returns-in-Refused c).After-header_fault-found))
+    (at_highest a.h (sound (goal.at.returns-in_default c).After-header_fault) a.len (length b) _ _ (room (goal.at.returns-in_default c).After-header_fault) (sym (ap told_outcome c.in_default.is) ∙ tested (goal.at.returns-in_default c).After-header_fault))
 
 -- src/lib.rt:92:1
-pub returns-in-Fine : goal.returns-in-Fine
-returns-in-Fine c =
+pub returns : goal.returns
+returns c =
     let a = c.args in
     let b = a.buf.now in
-    put_inserted b a.len a.h c.requires.0 a.r c.requires.1 c.requires.3 (room_for_one a.h a.len (length b) (room (goal.at.returns-in-Fine c).After-header_fault-found) (fine (goal.at.returns-in-Fine c).In-Fine).1) c.counted-more.result (more (goal.at.returns-in-Fine c).After-header_fault-found)
+    put_inserted b a.len a.h c.requires.0 a.r c.requires.1 c.requires.3 (room_for_one a.h a.len (length b) (room (goal.at.returns c).After-header_fault) (fine (goal.at.returns c).In-Ok).1) c.counted-more.result (more (goal.at.returns c).After-header_fault)
     c.insert.new.buf
     (c.insert.ensures ∙ ap (λ n. inserting c.counted-more.result n a.len a.r b) c.requires.2)

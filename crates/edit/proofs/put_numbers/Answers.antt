@@ -1,40 +1,44 @@
 -- `edit::put_numbers` meets its contract.
-use mathlib.Core.Path.{sym, ap, subst, ◌∙◌}
+use Rattle.std.specs.Prelude.{Err}
+use Rattle.std.proofs.Common.{rules}
+use mathlib.Core.Path.{◌≡◌, sym, ap, subst, ◌∙◌}
 use Rattle.sheet.specs.Refusals.{Answer, told_header, told_record}
 use Rattle.numbers.specs.laws.Back.{record_numbers_same}
 use Rattle.edit.specs.Edit.{After, Edits}
 use Rattle.edit.specs.Steps.{Known}
-use Rattle.edit.proofs.Answers.{known, numbers_turned, numbers_refused, numbers_taken}
-use Rattle.edit.proofs.put_numbers.Goals.{In-Good}
+use Rattle.edit.proofs.Answers.{passes_on, known, numbers_turned, numbers_refused, numbers_taken}
+use Rattle.edit.proofs.put_numbers.Goals.{In_ok-h}
 use Rattle.edit.proofs.put_numbers.Goals as goal
 
 -- the sheet is sound
-sheet : (c : In-Good) → Known c.args.buf.now c.args.len c.in-Good.h
-sheet c = known c.args.buf.now c.args.len c.in-Good.h (sym (ap told_header c.in-Good.is) ∙ c.sheet_at-read.ensures)
+sheet : (c : In_ok-h) → Known c.args.buf.now c.args.len c.in_ok-h.h
+sheet c = known c.args.buf.now c.args.len c.in_ok-h.h (sym (ap told_header c.in_ok-h.was) ∙ c.sheet_at.ensures)
 
 -- src/lib.rt:138:40
 pub put_sound-requires : goal.put_sound-requires
 put_sound-requires c =
     let a = c.args in
-    let r = c.in-Good-taken.r in
-    (sheet (goal.at.put_sound-requires c).In-Good, (record_numbers_same c.in-Good.h.count a.f r (sym (sym (ap told_record c.in-Good-taken.is) ∙ c.record_from-taken.ensures))).0)
+    let r = c.in_ok-r.r in
+    (sheet (goal.at.put_sound-requires c).In_ok-h, (record_numbers_same c.in_ok-h.h.count a.f r (sym (sym (ap told_record c.in_ok-r.was) ∙ c.record_from.ensures))).0)
 
 -- src/lib.rt:128:1
-pub returns-in-Refused : goal.returns-in-Refused
-returns-in-Refused c =
+pub returns-in_err-h : goal.returns-in_err-h
+returns-in_err-h c =
     let a = c.args in
-    numbers_turned a.buf.now a.len a.f _ (sym (ap told_header c.in-Refused.is) ∙ c.sheet_at-read.ensures)
+    let passed_on : c.from_residual.result ≡ Err c.in_err-h.field-0.0 = search rules in
+    passes_on a.buf.now passed_on (numbers_turned a.buf.now a.len a.f _ (sym (ap told_header c.in_err-h.was) ∙ c.sheet_at.ensures))
 
 -- src/lib.rt:128:1
-pub returns-in-Refused-taken : goal.returns-in-Refused-taken
-returns-in-Refused-taken c =
+pub returns-in_err-r : goal.returns-in_err-r
+returns-in_err-r c =
     let a = c.args in
-    numbers_refused a.buf.now a.len c.in-Good.h (sheet (goal.at.returns-in-Refused-taken c).In-Good) a.f c.in-Refused-taken.x (sym (ap told_record c.in-Refused-taken.is) ∙ c.record_from-taken.ensures)
+    let passed_on : c.from_residual-in_err-r.result ≡ Err c.in_err-r.field-0.0 = search rules in
+    passes_on a.buf.now passed_on (numbers_refused a.buf.now a.len c.in_ok-h.h (sheet (goal.at.returns-in_err-r c).In_ok-h) a.f c.in_err-r.field-0.0 (sym (ap told_record c.in_err-r.was) ∙ c.record_from.ensures))
 
 -- src/lib.rt:128:1
-pub returns-in-Good-taken : goal.returns-in-Good-taken
-returns-in-Good-taken c =
+pub returns : goal.returns
+returns c =
     let a = c.args in
-    let r = c.in-Good-taken.r in
-    let same = numbers_taken a.buf.now a.len c.in-Good.h (sheet (goal.at.returns-in-Good-taken c).In-Good) a.f r (sym (ap told_record c.in-Good-taken.is) ∙ c.record_from-taken.ensures) in
+    let r = c.in_ok-r.r in
+    let same = numbers_taken a.buf.now a.len c.in_ok-h.h (sheet (goal.at.returns c).In_ok-h) a.f r (sym (ap told_record c.in_ok-r.was) ∙ c.record_from.ensures) in
     subst (λ (x : Answer After). Edits x a.buf.now c.put_sound.result c.put_sound.new.buf) (sym same) c.put_sound.ensures
