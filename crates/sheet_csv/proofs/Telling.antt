@@ -22,6 +22,10 @@ use Rattle.sheet_csv.specs.laws.HeldLaws.{held_sound}
 pub refuses : (a : Answer (List ℕ)) (o : List ℕ) (x : Refusal) → a ≡ told x → Converts a o (Err x) o
 refuses a o x e = subst (λ (y : Answer (List ℕ)). Converts y o (Err x) o) (sym e) (record { answer = refl; bytes = refl })
 
+-- an answer that is passed on says what it said
+pub passes_on : {a : Answer (List ℕ)} {o : List ℕ} (after : List ℕ) {r q : Result ℕ Refusal} → r ≡ q → Converts a o q after → Converts a o r after
+passes_on {a} {o} after e says = subst (λ (x : Result ℕ Refusal). Converts a o x after) (sym e) says
+
 -- bytes in front
 pub converts : (a : Answer (List ℕ)) (b o after : List ℕ) → a ≡ given b → after ≡ b ++ drop (length b) o → Converts a o (Ok (length b)) after
 converts a b o after e f = record { answer = ap length_of (sym e); bytes = f ∙ ap (λ (y : Answer (List ℕ)). output_by y o) (sym e) }

@@ -1,4 +1,4 @@
-// Sheets in and out as comma-separated text: a line for the header's fields and one for each record's.
+// Sheets in and out as comma-separated text: a line for the header's fields and one for each record's. A conversion answers how many bytes it wrote, or why none.
 #![tactic(auto)]
 
 mod page;
@@ -12,21 +12,7 @@ ghost use Rattle.sheet_csv.specs.Write.{text_from};
 ghost use Rattle.sheet_csv.specs.Steps.{draft_size, fits_in, sound_in, PutsBehind, Fills};
 
 use rows::{Row, RowEnd};
-use sheet::{HeaderRead, MOST, RECORD, Refusal};
-
-// How many bytes were written, or why none were.
-#[derive(Clone, Copy)]
-pub enum Converted {
-    Length(usize),
-    Refused(Refusal),
-}
-
-// How many bytes of the draft the lines fill, or why a line is turned away.
-#[derive(Drop)]
-enum Made {
-    Length(usize),
-    Refused(Refusal),
-}
+use sheet::{MOST, RECORD, Refusal};
 
 // With a record more than the longest sheet has it is seen to be too long, whatever the lines behind it are.
 const DRAFT: usize = sheet::LONGEST + RECORD;
@@ -50,7 +36,7 @@ fn next_line(line: u32) -> u32
     if line < 4294967295 { line + 1 } else { line }
 }
 
-// The lines from a place on, each a record's, behind the header's bytes.
+// The lines from a place on, each a record's, behind the header's bytes. How many bytes of the draft they fill, or why a line is turned away.
 fn put_records(text: &[u8], at: usize, filled: bool, draft: &mut [u8], head: usize) -> Result<usize, Refusal>
     requires { (length draft.old ≡ draft_size) × (head ≤ length draft.old) }
     ensures { Fills (records_made 2 (lines_left filled text.now at)) (take head draft.old) result draft.new }
@@ -60,8 +46,7 @@ fn put_records(text: &[u8], at: usize, filled: bool, draft: &mut [u8], head: usi
     let mut end = head;
     loop {
         let row = rows::record_at(text, here, line, filled);
-        let ended = row.end;
-        match ended {
+        match row.end {
             RowEnd::More(next) => {
                 end = put_row(row, draft, end);
                 line = next_line(line);
@@ -83,8 +68,7 @@ fn put_lines(text: &[u8], filled: bool, draft: &mut [u8]) -> Result<usize, Refus
     ensures { Fills (sheet_made (lines_left filled text.now 0)) [] result draft.new }
 {
     let row = rows::header_at(text, filled);
-    let ended = row.end;
-    match ended {
+    match row.end {
         RowEnd::Refused(x) => Err(x),
         RowEnd::Last => Ok(put_row(row, draft, 0)),
         RowEnd::More(next) => {
@@ -110,11 +94,8 @@ fn tell(bytes: &[u8], out: &mut [u8]) -> Result<usize, Refusal>
 fn tell_sheet(sheet: &[u8], out: &mut [u8]) -> Result<usize, Refusal>
     ensures { Converts (sound_in sheet.now (length out.old)) out.old result out.new }
 {
-    let read = checker::sound_header(sheet);
-    match read {
-        Err(x) => Err(x),
-        Ok(_) => tell(sheet, out),
-    }
+    checker::sound_header(sheet)?;
+    tell(sheet, out)
 }
 
 // The sheet that the lines of a text are, with their filling or without.
@@ -122,11 +103,8 @@ fn read_lines(text: &[u8], filled: bool, out: &mut [u8]) -> Result<usize, Refusa
     ensures { Converts (sheet_of (lines_left filled text.now 0) (length out.old)) out.old result out.new }
 {
     let mut draft = [0u8; DRAFT];
-    let made = put_lines(text, filled, &mut draft);
-    match made {
-        Err(x) => Err(x),
-        Ok(len) => tell_sheet(&draft[..len], out),
-    }
+    let len = put_lines(text, filled, &mut draft)?;
+    tell_sheet(&draft[..len], out)
 }
 
 // A text into a sheet. A refusal leaves the output as it was lent; else the sheet stands in front, and no other byte is touched.
@@ -140,27 +118,16 @@ pub fn read_sheet(text: &[u8], out: &mut [u8]) -> Result<usize, Refusal>
 fn is_by_line(x: Refusal) -> bool
     ensures { result ≡ by_line (number_of x) }
 {
-    let number = x.number();
-    if number == 14 {
-        return true;
-    }
-    number == 15
+    matches!(x, Refusal::Text(_) | Refusal::FieldCount(_))
 }
 
 // Whether a refusal by a line stands whatever the second look says.
 fn does_stand(x: Refusal, second: Result<usize, Refusal>) -> bool
     ensures { result ≡ stands (number_of x) (place_of x) (told_converted second) }
 {
-    match second {
-        Ok(_) => false,
-        Err(y) => {
-            if x.number() == 14 {
-                if y.number() == 15 {
-                    return y.place() == x.place();
-                }
-            }
-            false
-        }
+    match (x, second) {
+        (Refusal::Text(line), Err(Refusal::FieldCount(other))) => line == other,
+        _ => false,
     }
 }
 
@@ -169,33 +136,26 @@ pub fn read_table(text: &[u8], out: &mut [u8]) -> Result<usize, Refusal>
     ensures { Converts (table_from text.now (length out.old)) out.old result out.new }
 {
     let first = read_lines(text, false, out);
-    match first {
-        Ok(_) => first,
-        Err(x) => {
-            if !is_by_line(x) {
-                return first;
-            }
-            let second = read_lines(text, true, out);
-            if does_stand(x, second) {
-                return first;
-            }
-            second
-        }
+    let Err(x) = first else {
+        return first;
+    };
+    if !is_by_line(x) {
+        return first;
     }
+    let second = read_lines(text, true, out);
+    if does_stand(x, second) {
+        return first;
+    }
+    second
 }
 
 // A sheet into text, likewise.
 pub fn write_text(sheet: &[u8], out: &mut [u8]) -> Result<usize, Refusal>
     ensures { Converts (text_from sheet.now (length out.old)) out.old result out.new }
 {
-    let read = checker::sound_header(sheet);
-    match read {
-        Err(x) => Err(x),
-        Ok(h) => {
-            let mut page = [0u8; LONGEST];
-            let at = page::put_header(&mut page, h);
-            let len = page::put_records(&sheet[h.size()..], h.count, &mut page, at);
-            tell(&page[..len], out)
-        }
-    }
+    let h = checker::sound_header(sheet)?;
+    let mut page = [0u8; LONGEST];
+    let at = page::put_header(&mut page, h);
+    let len = page::put_records(&sheet[h.size()..], h.count, &mut page, at);
+    tell(&page[..len], out)
 }

@@ -9,7 +9,7 @@ ghost use Rattle.sheet.specs.Versions.{version_of};
 ghost use Rattle.sheet_csv.specs.Write.{line, header_cells};
 ghost use Rattle.sheet_csv.specs.Steps.{thirteen as thirteenOf, longest_line, record_text, records_text};
 
-use sheet::{Header, Own, RecordRead};
+use sheet::{Header, Own};
 
 fn put_number(page: &mut [u8], at: usize, n: u32, after: &[u8]) -> usize
     requires { at + length (decimal_of n ++ after.now) ≤ length page.old }
@@ -24,11 +24,9 @@ fn put_line(page: &mut [u8], at: usize, nums: [u32; 13], count: usize) -> usize
     ensures { Laid page.old at (line (fields_of count nums)) result page.new }
 {
     let mut here = at;
-    let mut i: usize = 0;
     let last = count - 1;
-    while i < last {
+    for i in 0..last {
         here = put_number(page, here, nums[i], b",");
-        i += 1;
     }
     put_number(page, here, nums[last], b"\r\n")
 }
@@ -62,8 +60,7 @@ pub fn put_header(page: &mut [u8], h: Header) -> usize
     requires { (header_fault h ≡ 0) × (longest_line ≤ length page.old) }
     ensures { Laid page.old 0 (line (header_cells h)) result page.new }
 {
-    let own = h.own;
-    let count = header_count(own);
+    let count = header_count(h.own);
     let nums = thirteen(numbers::header_numbers(h));
     put_line(page, 0, nums, count)
 }
@@ -73,8 +70,7 @@ fn put_record(bytes: &[u8], page: &mut [u8], at: usize) -> usize
     requires { at + longest_line ≤ length page.old }
     ensures { Laid page.old at (record_text bytes.now) result page.new }
 {
-    let read = record::read_record(bytes);
-    match read {
+    match record::read_record(bytes) {
         Err(_) => at,
         Ok(r) => {
             let count = record_count(r.kind);
@@ -89,12 +85,10 @@ pub fn put_records(records: &[u8], n: u16, page: &mut [u8], at: usize) -> usize
     ensures { Laid page.old at (records_text records.now 0 n) result page.new }
 {
     let mut here = at;
-    let mut i: u16 = 0;
-    while i < n {
+    for i in 0..n {
         let from = 16 * (i as usize);
         let to = from + 16;
         here = put_record(&records[from..to], page, here);
-        i += 1;
     }
     here
 }

@@ -34,15 +34,15 @@ module _ (s o : List ℕ) (first : Result ℕ Refusal) (mid : List ℕ) (h : Con
 
 pub returns-then-not-is_by_line : goal.returns-then-not-is_by_line
 returns-then-not-is_by_line c =
-    other c.args.text.now c.args.out.now _ _ c.read_lines-first.ensures _ c.in-Refused.is (sym c.is_by_line.ensures ∙ c.if-not-is_by_line.true)
+    other c.args.text.now c.args.out.now _ _ c.read_lines-first.ensures _ c.in-Err.is (sym c.is_by_line.ensures ∙ c.if-not-is_by_line.true)
 
 pub returns-then-does_stand : goal.returns-then-does_stand
 returns-then-does_stand c =
-    stood c.args.text.now c.args.out.now _ _ c.read_lines-first.ensures _ c.in-Refused.is (sym c.is_by_line.ensures ∙ c.if-not-is_by_line.false) _ _ c.read_lines-second.ensures (sym c.does_stand.ensures ∙ c.if-does_stand.true)
+    stood c.args.text.now c.args.out.now _ _ c.read_lines-first.ensures _ c.in-Err.is (sym c.is_by_line.ensures ∙ c.if-not-is_by_line.false) _ _ c.read_lines-second.ensures (sym c.does_stand.ensures ∙ c.if-does_stand.true)
 
-pub returns-in-Length : goal.returns-in-Length
-returns-in-Length c = taken c.args.text.now c.args.out.now _ _ c.read_lines-first.ensures _ c.in-Length.is
+pub returns-in_default : goal.returns-in_default
+returns-in_default c = taken c.args.text.now c.args.out.now _ _ c.read_lines-first.ensures _ c.in_default.is
 
-pub returns-else-does_stand : goal.returns-else-does_stand
-returns-else-does_stand c =
-    again c.args.text.now c.args.out.now _ _ c.read_lines-first.ensures _ c.in-Refused.is (sym c.is_by_line.ensures ∙ c.if-not-is_by_line.false) _ _ c.read_lines-second.ensures (sym c.does_stand.ensures ∙ c.if-does_stand.false)
+pub returns : goal.returns
+returns c =
+    again c.args.text.now c.args.out.now _ _ c.read_lines-first.ensures _ c.in-Err.is (sym c.is_by_line.ensures ∙ c.if-not-is_by_line.false) _ _ c.read_lines-second.ensures (sym c.does_stand.ensures ∙ c.if-does_stand.false)
