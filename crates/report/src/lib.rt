@@ -12,7 +12,7 @@ ghost use Rattle.report.specs.Text.{line, text_of};
 ghost use Rattle.report.specs.Page.{longest_line, Tells, Pages};
 ghost use Rattle.report.specs.Pieces.{verdict_text, verdicts_text, refusal_text, checked_text, Roomy, TellsRefusal};
 
-use checker::{Checked, Entry, EntryRead};
+use checker::{Checked, Entry};
 use sheet::{MOST, Refusal};
 use std::io;
 use std::io::Write;
@@ -28,13 +28,6 @@ const REFUSAL: usize = 22;
 pub struct Page {
     pub bytes: [u8; LONGEST],
     pub len: usize,
-}
-
-// How long the text is that was written, or why it was not.
-#[derive(Clone, Copy)]
-pub enum Told {
-    Length(usize),
-    Refused(Refusal),
 }
 
 fn put_number(page: &mut [u8], at: usize, n: u32, after: &[u8]) -> usize
@@ -67,8 +60,7 @@ fn put_verdict(verdict: &[u8], page: &mut [u8], at: usize) -> usize
     requires { at + longest_line ≤ length page.old }
     ensures { Laid page.old at (verdict_text verdict.now) result page.new }
 {
-    let read = checker::read_verdict(verdict);
-    match read {
+    match checker::read_verdict(verdict) {
         Ok(e) => put_entry(page, at, e),
         Err(_) => at,
     }
@@ -79,12 +71,10 @@ fn put_verdicts(out: &[u8], n: u16, page: &mut [u8]) -> usize
     ensures { Laid page.old 0 (verdicts_text out.now 0 n) result page.new }
 {
     let mut at: usize = 0;
-    let mut i: u16 = 0;
-    while i < n {
+    for i in 0..n {
         let from = 4 * (i as usize);
         let to = from + 4;
         at = put_verdict(&out[from..to], page, at);
-        i += 1;
     }
     at
 }
@@ -100,15 +90,15 @@ fn put_refusal(page: &mut [u8], r: Refusal) -> usize
 }
 
 // The text of what a check answered, with the output that it left.
-fn put_checked(checked: Checked, out: &[u8], page: &mut [u8]) -> usize
+fn put_checked(checked: Result<Checked, Refusal>, out: &[u8], page: &mut [u8]) -> usize
     requires { Roomy checked out.now page.old }
     ensures { Laid page.old 0 (checked_text checked out.now) result page.new }
 {
     match checked {
         Err(r) => put_refusal(page, r),
-        Ok(Checked { n, failed }) => {
-            let at = put_verdicts(out, n, page);
-            put_pair(page, at, n as u32, failed as u32, b"\n")
+        Ok(totals) => {
+            let at = put_verdicts(out, totals.n, page);
+            put_pair(page, at, totals.n as u32, totals.failed as u32, b"\n")
         }
     }
 }
@@ -124,7 +114,7 @@ pub fn page_of(sheet: &[u8]) -> Page
     Page { bytes, len }
 }
 
-// A text into the front of a lent slice; too short a slice is refused and stays as it is.
+// A text into the front of a lent slice, and how long it is; too short a slice is refused and stays as it is.
 fn tell(line: &[u8], text: &mut [u8]) -> Result<usize, Refusal>
     ensures { Tells line.now text.old result text.new }
 {
@@ -141,9 +131,7 @@ pub fn write_answer(sheet: &[u8], text: &mut [u8]) -> Result<usize, Refusal>
     ensures { Tells (text_of sheet.now) text.old result text.new }
 {
     let page = page_of(sheet);
-    let len = page.len;
-    let bytes = page.bytes;
-    tell(&bytes[..len], text)
+    tell(&page.bytes[..page.len], text)
 }
 
 // And so a refusal's line.

@@ -36,7 +36,7 @@ module _ (k : Result Checked Refusal) (out page : List ℕ) (n failed : ℕ) (do
 
 pub put_verdicts-at-requires : goal.put_verdicts-at-requires
 put_verdicts-at-requires c =
-    let k = counted c.args.checked c.args.out.now c.args.page.now c.in-Done.n c.in-Done.failed c.in-Done.is c.requires in
+    let k = counted c.args.checked c.args.out.now c.args.page.now c.in-Ok.totals.n c.in-Ok.totals.failed c.in-Ok.is c.requires in
     (k.0, omega (arith, k.1, c.requires.room))
 
 pub put_pair-requires : goal.put_pair-requires
@@ -44,23 +44,23 @@ put_pair-requires c =
     let k = c.args.checked in
     let out = c.args.out.now in
     let page = c.args.page.now in
-    let n = c.in-Done.n in
-    let failed = c.in-Done.failed in
-    let done = c.in-Done.is in
+    let n = c.in-Ok.totals.n in
+    let failed = c.in-Ok.totals.failed in
+    let done = c.in-Ok.is in
     second_fits page 0 (verdicts_text out 0 n) (line (n ∷ failed ∷ [])) (split k out page n failed done c.requires) (fits k out page n failed done c.requires) c.put_verdicts-at.ensures
 
-pub returns-in-Refused : goal.returns-in-Refused
+pub returns-in-Err : goal.returns-in-Err
 unfolding checked_text
-returns-in-Refused c =
-    subst (λ (x : Result Checked Refusal). Laid c.args.page.now 0 (checked_text x c.args.out.now) c.put_refusal.result c.put_refusal.new.page) (sym c.in-Refused.is) c.put_refusal.ensures
+returns-in-Err c =
+    subst (λ (x : Result Checked Refusal). Laid c.args.page.now 0 (checked_text x c.args.out.now) c.put_refusal.result c.put_refusal.new.page) (sym c.in-Err.is) c.put_refusal.ensures
 
-pub returns-in-Done : goal.returns-in-Done
-returns-in-Done c =
+pub returns-in-Ok : goal.returns-in-Ok
+returns-in-Ok c =
     let k = c.args.checked in
     let out = c.args.out.now in
     let page = c.args.page.now in
-    let n = c.in-Done.n in
-    let failed = c.in-Done.failed in
-    let done = c.in-Done.is in
+    let n = c.in-Ok.totals.n in
+    let failed = c.in-Ok.totals.failed in
+    let done = c.in-Ok.is in
     let l = laid_both page 0 (verdicts_text out 0 n) (line (n ∷ failed ∷ [])) (split k out page n failed done c.requires) (fits k out page n failed done c.requires) c.put_verdicts-at.ensures c.put_pair.ensures in
     record { place = l.place; bytes = l.bytes }

@@ -1,6 +1,6 @@
 -- The pieces that are put together from a check's answer and its output are the text of the sheet, and none is too long.
 -- Assumes nothing.
-use Rattle.std.specs.Prelude.{ℕ, zero, suc, ◌+◌, ◌-◌, ◌*◌, ◌≤◌, ◌<◌, ◌≡◌, refl, List, [], ◌∷◌, ◌++◌, map, length, take, drop, Result, Err}
+use Rattle.std.specs.Prelude.{ℕ, zero, suc, ◌+◌, ◌-◌, ◌*◌, ◌≤◌, ◌<◌, ◌≡◌, refl, List, [], ◌∷◌, ◌++◌, map, length, take, drop, Result, Ok, Err}
 use Rattle.std.proofs.Common.{sym, ap₂, ◌∙◌, arith, length-append}
 use Rattle.std.proofs.Math.Path.{ap}
 use Rattle.sheet.specs.declared.Header.{Header}
