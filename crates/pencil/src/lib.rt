@@ -22,8 +22,8 @@ use crate::bearing::head_of;
 use crate::members::{member_first, member_second, member_third};
 use crate::plates::{plate_first, plate_second, plate_third};
 use crate::writing::put_work;
-use framing::{MemberWork, MemberWorked};
-use plating::{PlateWork, PlateWorked};
+use framing::MemberWork;
+use plating::PlateWork;
 use quantity::Span;
 use sheet::{Body, Header, Member, Plate, Record, Refusal};
 
@@ -217,8 +217,7 @@ fn refused(r: Refusal) -> Work
 fn plate_explained(h: Header, kind: u8, id: u16, p: Plate) -> Work
     ensures { Shows (plate_explained h kind id p) result }
 {
-    let worked = plating::worked(h, kind, id, p);
-    match worked {
+    match plating::worked(h, kind, id, p) {
         Err(r) => refused(r),
         Ok(w) => plate_work(h, kind, id, p, w),
     }
@@ -227,8 +226,7 @@ fn plate_explained(h: Header, kind: u8, id: u16, p: Plate) -> Work
 fn member_explained(h: Header, kind: u8, id: u16, m: Member) -> Work
     ensures { Shows (member_explained h kind id m) result }
 {
-    let worked = framing::worked(h, kind, id, m);
-    match worked {
+    match framing::worked(h, kind, id, m) {
         Err(r) => refused(r),
         Ok(w) => member_work(h, kind, id, m, w),
     }
@@ -237,12 +235,9 @@ fn member_explained(h: Header, kind: u8, id: u16, m: Member) -> Work
 fn work_of(h: Header, r: Record) -> Work
     ensures { Shows (explained h r) result }
 {
-    let kind = r.kind;
-    let id = r.id;
-    let body = r.body;
-    match body {
-        Body::Plate(p) => plate_explained(h, kind, id, p),
-        Body::Member(m) => member_explained(h, kind, id, m),
+    match r.body {
+        Body::Plate(p) => plate_explained(h, r.kind, r.id, p),
+        Body::Member(m) => member_explained(h, r.kind, r.id, m),
     }
 }
 

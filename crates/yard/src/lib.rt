@@ -14,14 +14,12 @@ ghost use Rattle.yard.specs.Fields.{numbered};
 ghost use Rattle.yard.specs.Editing.{resized, EditsPacked};
 ghost use Rattle.yard.specs.Converting.{ConvertsPacked};
 ghost use Rattle.edit.specs.Edit.{put_numbers_in, remove_in, told_edited};
-ghost use Rattle.sheet_csv.specs.Read.{sheet_from, told_converted};
+ghost use Rattle.sheet_csv.specs.Read.{sheet_from};
 ghost use Rattle.sheet_csv.specs.Write.{text_from};
 ghost use Rattle.numbers.specs.Fields.{header_numbers, record_numbers};
 
-use checker::{Checked, Entry, EntryRead};
-use edit::Edited;
-use sheet::{HeaderRead, Outcome, RecordRead, Refusal};
-use sheet_csv::Converted;
+use checker::{Checked, Entry};
+use sheet::Refusal;
 
 // A refusal's number counts these.
 const NUMBER: u64 = 1099511627776;
@@ -45,11 +43,11 @@ fn packed_outcome(o: Result<(), Refusal>) -> u64
     }
 }
 
-fn packed_checked(c: Checked) -> u64
+fn packed_checked(c: Result<Checked, Refusal>) -> u64
     ensures { result ≡ packed (told_checked c) }
 {
     match c {
-        Ok(Checked { n, failed }) => (n as u64) * COUNT + failed as u64,
+        Ok(totals) => (totals.n as u64) * COUNT + totals.failed as u64,
         Err(r) => packed_refusal(r),
     }
 }
@@ -72,8 +70,7 @@ fn entry_numbers(e: Entry) -> [u32; 4]
 pub fn yard_read_verdict(bytes: &[u8], fields: &mut [u32; 4]) -> u64
     ensures { Reads (numbered entry_values (read_entry bytes.now)) fields.old result fields.new }
 {
-    let read = checker::read_verdict(bytes);
-    match read {
+    match checker::read_verdict(bytes) {
         Err(x) => packed_refusal(x),
         Ok(e) => {
             *fields = entry_numbers(e);
@@ -85,8 +82,7 @@ pub fn yard_read_verdict(bytes: &[u8], fields: &mut [u32; 4]) -> u64
 pub fn yard_read_header(bytes: &[u8], fields: &mut [u32; 10]) -> u64
     ensures { Reads (numbered header_numbers (read_header bytes.now)) fields.old result fields.new }
 {
-    let read = header::read_header(bytes);
-    match read {
+    match header::read_header(bytes) {
         Err(x) => packed_refusal(x),
         Ok(h) => {
             *fields = numbers::header_numbers(h);
@@ -98,8 +94,7 @@ pub fn yard_read_header(bytes: &[u8], fields: &mut [u32; 10]) -> u64
 pub fn yard_read_record(bytes: &[u8], fields: &mut [u32; 13]) -> u64
     ensures { Reads (numbered record_numbers (read_record 0 bytes.now)) fields.old result fields.new }
 {
-    let read = record::read_record(bytes);
-    match read {
+    match record::read_record(bytes) {
         Err(x) => packed_refusal(x),
         Ok(r) => {
             *fields = numbers::record_numbers(r);
@@ -115,8 +110,7 @@ pub fn yard_write_header(fields: &[u32; 10], out: &mut [u8]) -> u64
     if out.len() < least {
         return packed_refusal(Refusal::OutputShort);
     }
-    let taken = numbers::header_from(*fields);
-    match taken {
+    match numbers::header_from(*fields) {
         Err(x) => packed_refusal(x),
         Ok(h) => packed_outcome(header::write_header(h, out)),
     }
@@ -128,17 +122,17 @@ pub fn yard_write_record(fields: &[u32; 13], out: &mut [u8]) -> u64
     if out.len() < 16 {
         return packed_refusal(Refusal::OutputShort);
     }
-    let taken = numbers::record_from(*fields, 0);
-    match taken {
+    match numbers::record_from(*fields, 0) {
         Err(x) => packed_refusal(x),
         Ok(r) => packed_outcome(record::write_record(r, out)),
     }
 }
 
-fn packed_edited(e: Result<usize, Refusal>) -> u64
-    ensures { result ≡ resized (told_edited e) }
+// The length that an edit or a conversion answers.
+fn packed_length(length: Result<usize, Refusal>) -> u64
+    ensures { result ≡ resized (told_edited length) }
 {
-    match e {
+    match length {
         Ok(n) => n as u64,
         Err(r) => packed_refusal(r),
     }
@@ -147,32 +141,23 @@ fn packed_edited(e: Result<usize, Refusal>) -> u64
 pub fn yard_put(buf: &mut [u8], len: usize, fields: &[u32; 13]) -> u64
     ensures { EditsPacked (put_numbers_in buf.old len fields.now) buf.old result buf.new }
 {
-    packed_edited(edit::put_numbers(buf, len, *fields))
+    packed_length(edit::put_numbers(buf, len, *fields))
 }
 
 pub fn yard_remove(buf: &mut [u8], len: usize, id: u32) -> u64
     ensures { EditsPacked (remove_in buf.old len id) buf.old result buf.new }
 {
-    packed_edited(edit::remove(buf, len, id))
-}
-
-fn packed_converted(c: Result<usize, Refusal>) -> u64
-    ensures { result ≡ resized (told_converted c) }
-{
-    match c {
-        Ok(n) => n as u64,
-        Err(r) => packed_refusal(r),
-    }
+    packed_length(edit::remove(buf, len, id))
 }
 
 pub fn yard_read_text(text: &[u8], out: &mut [u8]) -> u64
     ensures { ConvertsPacked (sheet_from text.now (length out.old)) out.old result out.new }
 {
-    packed_converted(sheet_csv::read_sheet(text, out))
+    packed_length(sheet_csv::read_sheet(text, out))
 }
 
 pub fn yard_write_text(sheet: &[u8], out: &mut [u8]) -> u64
     ensures { ConvertsPacked (text_from sheet.now (length out.old)) out.old result out.new }
 {
-    packed_converted(sheet_csv::write_text(sheet, out))
+    packed_length(sheet_csv::write_text(sheet, out))
 }

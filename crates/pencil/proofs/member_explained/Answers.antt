@@ -8,20 +8,20 @@ use Rattle.pencil.specs.Trail.{member_trail, member_explained}
 use Rattle.pencil.proofs.member_explained.Goals as goal
 
 -- src/lib.rt:227:1
-pub returns-in-Refused : goal.returns-in-Refused
+pub returns-in-Err : goal.returns-in-Err
 unfolding member_explained
-returns-in-Refused c =
+returns-in-Err c =
     let a = c.args in
-    let e = sym c.worked-worked.ensures ∙ ap told_worked c.in-Refused.is in
+    let e = sym c.worked.ensures ∙ ap told_worked c.in-Err.is in
     rw (refused_same a.h (of_member a.kind a.id a.m) (work_of a.h a.kind a.m) (member_trail a.h a.kind a.id a.m (work_of a.h a.kind a.m)) _ _ e) c.refused.ensures
 
 -- src/lib.rt:227:1
 -- LOOK: κs/given
-pub returns-in-Work : goal.returns-in-Work
+pub returns-in-Ok : goal.returns-in-Ok
 unfolding member_explained
-returns-in-Work c =
+returns-in-Ok c =
     let a = c.args in
-    let e = sym c.worked-worked.ensures ∙ ap told_worked c.in-Work.is in
+    let e = sym c.worked.ensures ∙ ap told_worked c.in-Ok.is in
     let sound = given_sound a.h (of_member a.kind a.id a.m) (work_of a.h a.kind a.m) _ e in
     let same = given_same (sym (sound_given a.h (of_member a.kind a.id a.m) (work_of a.h a.kind a.m) sound) ∙ e) in
     rw (sound_given a.h (of_member a.kind a.id a.m) (member_trail a.h a.kind a.id a.m (work_of a.h a.kind a.m)) sound, same) c.member_work.ensures

@@ -8,20 +8,20 @@ use Rattle.pencil.specs.Trail.{plate_trail, plate_explained}
 use Rattle.pencil.proofs.plate_explained.Goals as goal
 
 -- src/lib.rt:217:1
-pub returns-in-Refused : goal.returns-in-Refused
+pub returns-in-Err : goal.returns-in-Err
 unfolding plate_explained
-returns-in-Refused c =
+returns-in-Err c =
     let a = c.args in
-    let e = sym c.worked-worked.ensures ∙ ap told_worked c.in-Refused.is in
+    let e = sym c.worked.ensures ∙ ap told_worked c.in-Err.is in
     rw (refused_same a.h (of_plate a.kind a.id a.p) (work_of a.h a.kind a.p) (plate_trail a.h a.kind a.id a.p (work_of a.h a.kind a.p)) _ _ e) c.refused.ensures
 
 -- src/lib.rt:217:1
 -- LOOK: κs/given
-pub returns-in-Work : goal.returns-in-Work
+pub returns-in-Ok : goal.returns-in-Ok
 unfolding plate_explained
-returns-in-Work c =
+returns-in-Ok c =
     let a = c.args in
-    let e = sym c.worked-worked.ensures ∙ ap told_worked c.in-Work.is in
+    let e = sym c.worked.ensures ∙ ap told_worked c.in-Ok.is in
     let sound = given_sound a.h (of_plate a.kind a.id a.p) (work_of a.h a.kind a.p) _ e in
     let same = given_same (sym (sound_given a.h (of_plate a.kind a.id a.p) (work_of a.h a.kind a.p) sound) ∙ e) in
     rw (sound_given a.h (of_plate a.kind a.id a.p) (plate_trail a.h a.kind a.id a.p (work_of a.h a.kind a.p)) sound, same) c.plate_work.ensures

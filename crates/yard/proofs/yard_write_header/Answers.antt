@@ -10,14 +10,14 @@ returns-then-out-least c =
     let a = c.args in
     header_short a.fields.now a.out.now (omega (arith, c.if-out-least.true, c.header_size-least.ensures)) c.packed_refusal.ensures
 
-pub returns-in-Refused : goal.returns-in-Refused
-returns-in-Refused c =
+pub returns-in-Err : goal.returns-in-Err
+returns-in-Err c =
     let a = c.args in
-    let x = c.in-Refused.x in
-    header_refused_lem a.fields.now a.out.now (number_of x) (place_of x) (omega (arith, c.if-out-least.false, c.header_size-least.ensures)) (sym (ap told_header c.in-Refused.is) ∙ c.header_from-taken.ensures) c.packed_refusal-in-Refused.ensures
+    let x = c.in-Err.x in
+    header_refused_lem a.fields.now a.out.now (number_of x) (place_of x) (omega (arith, c.if-out-least.false, c.header_size-least.ensures)) (sym (ap told_header c.in-Err.is) ∙ c.header_from.ensures) c.packed_refusal-in-Err.ensures
 
-pub returns-in-Good : goal.returns-in-Good
-returns-in-Good c =
+pub returns-in-Ok : goal.returns-in-Ok
+returns-in-Ok c =
     let a = c.args in
-    let x = c.in-Good.h in
-    header_given a.fields.now a.out.now x (sym (ap told_header c.in-Good.is) ∙ c.header_from-taken.ensures) c.packed_outcome.ensures c.write_header.ensures
+    let x = c.in-Ok.h in
+    header_given a.fields.now a.out.now x (sym (ap told_header c.in-Ok.is) ∙ c.header_from.ensures) c.packed_outcome.ensures c.write_header.ensures

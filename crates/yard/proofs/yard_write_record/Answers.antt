@@ -9,14 +9,14 @@ returns-then-out-lt16 c =
     let a = c.args in
     record_short a.fields.now a.out.now c.if-out-lt16.true c.packed_refusal.ensures
 
-pub returns-in-Refused : goal.returns-in-Refused
-returns-in-Refused c =
+pub returns-in-Err : goal.returns-in-Err
+returns-in-Err c =
     let a = c.args in
-    let x = c.in-Refused.x in
-    record_refused_lem a.fields.now a.out.now (number_of x) (place_of x) c.if-out-lt16.false (sym (ap told_record c.in-Refused.is) ∙ c.record_from-taken.ensures) c.packed_refusal-in-Refused.ensures
+    let x = c.in-Err.x in
+    record_refused_lem a.fields.now a.out.now (number_of x) (place_of x) c.if-out-lt16.false (sym (ap told_record c.in-Err.is) ∙ c.record_from.ensures) c.packed_refusal-in-Err.ensures
 
-pub returns-in-Good : goal.returns-in-Good
-returns-in-Good c =
+pub returns-in-Ok : goal.returns-in-Ok
+returns-in-Ok c =
     let a = c.args in
-    let x = c.in-Good.r in
-    record_given a.fields.now a.out.now x (sym (ap told_record c.in-Good.is) ∙ c.record_from-taken.ensures) c.packed_outcome.ensures c.write_record.ensures
+    let x = c.in-Ok.r in
+    record_given a.fields.now a.out.now x (sym (ap told_record c.in-Ok.is) ∙ c.record_from.ensures) c.packed_outcome.ensures c.write_record.ensures
