@@ -12,8 +12,7 @@ ghost use Rattle.barge_edit.specs.Office.{record_count, EditInside, OfFile};
 
 use console::{Read, Said};
 use decimal::Number;
-use edit::Edited;
-use sheet::ENOUGH;
+use sheet::{ENOUGH, Refusal};
 use std::env::Env;
 use std::io;
 use std::io::Write;

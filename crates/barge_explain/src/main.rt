@@ -14,7 +14,7 @@ ghost use Rattle.barge_explain.specs.Explain.{Sized, lead_pieces, piece_of, expl
 
 use console::{Read, Said};
 use decimal::Number;
-use sheet::{ENOUGH, Header, HeaderRead, Record, RecordRead};
+use sheet::{ENOUGH, Header, Record, Refusal};
 use std::env::{Env, FillError};
 use std::io;
 use std::io::Write;
@@ -87,8 +87,7 @@ fn piece_of(h: Header, records: &[u8], i: u16, asked: u32, begun: bool) -> Piece
     ensures { Prints (piece_of h asked begun (record_of records.now i)) result }
 {
     let mut bytes = [0u8; ROOM];
-    let read = record_at(records, i);
-    match read {
+    match record_at(records, i) {
         Err(_) => Piece {
             bytes,
             len: 0,
@@ -136,12 +135,9 @@ fn print_trails<W: Write>(out: &mut W, h: Header, records: &[u8], asked: u32) ->
     requires { 16 * h.count ≤ length records.now }
     ensures { OnOk result (Appends (W.contents out.old) (W.contents out.new) (explained_text h records.now asked)) }
 {
-    let n = h.count;
     let mut begun = false;
-    let mut i: u16 = 0;
-    while i < n {
+    for i in 0..h.count {
         begun = print_record(out, h, records, i, asked, begun)?;
-        i += 1;
     }
     Ok(())
 }
@@ -184,8 +180,7 @@ fn tell(
 ) -> io::Result<()>
     requires { (enough ≤ length sheet.now) × (got ≤ length sheet.now) }
 {
-    let read = header_of(sheet, got);
-    match read {
+    match header_of(sheet, got) {
         Ok(h) => explain(env, out, h, &sheet[..got]),
         Err(r) => {
             let written = report::print_refusal(out, r);

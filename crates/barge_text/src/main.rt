@@ -14,9 +14,8 @@ ghost use Rattle.sheet_csv.specs.Write.{text_from};
 ghost use Rattle.barge_text.specs.Convert.{MadeInside, line_in, printed_by, Shows, Replies};
 
 use console::{Read, Said};
-use report::{Page, Told};
+use report::Page;
 use sheet::Refusal;
-use sheet_csv::Converted;
 use std::env::Env;
 use std::io;
 use std::io::Write;
@@ -57,14 +56,10 @@ fn print(out: &mut impl Write, err: &mut impl Write, bytes: &[u8]) -> io::Result
 fn line_of(r: Refusal) -> u32
     ensures { result ≡ line_in (told r) }
 {
-    let number = r.number();
-    if number == 14 {
-        return r.place();
+    match r {
+        Refusal::Text(line) | Refusal::FieldCount(line) => line,
+        _ => 0,
     }
-    if number == 15 {
-        return r.place();
-    }
-    0
 }
 
 // The same of what was converted.
@@ -81,11 +76,8 @@ fn refusal_page(r: Refusal) -> Page
     ensures { Shows (refusal_text r) result }
 {
     let mut bytes = [0u8; report::LONGEST];
-    let told = report::write_refusal(r, &mut bytes);
-    match told {
-        Ok(len) => Page { bytes, len },
-        Err(_) => Page { bytes, len: 0 },
-    }
+    let len = report::write_refusal(r, &mut bytes).unwrap_or(0);
+    Page { bytes, len }
 }
 
 // What is printed of what a text was converted to.
@@ -153,10 +145,7 @@ fn make_text(
 
 fn check(out: &mut impl Write, err: &mut impl Write, text: &[u8]) -> io::Result<()> {
     let r = answer(text);
-    let page = r.page;
-    let len = page.len;
-    let bytes = page.bytes;
-    let written = print(out, err, &bytes[..len]);
+    let written = print(out, err, &r.page.bytes[..r.page.len]);
     if console::is_read(written) {
         show::line(err, text, r.line);
     }

@@ -1,9 +1,7 @@
 -- An edit as it stands in a stream, and what comes of it.
-use Rattle.std.specs.Prelude.{ℕ, ◌≡◌, cond, List, eqb, Result, Ok, Err}
+use Rattle.std.specs.Prelude.{ℕ, cond, List, eqb, Result, Ok, Err}
 use Rattle.sheet.specs.Refusals.{Answer}
-use Rattle.edit.specs.Edit.{After, put_numbers_in, remove_in, told_edited}
-use Rattle.sheet_csv.specs.Read.{told_converted}
-use Rattle.streams.specs.declared.edits.Done.{Done}
+use Rattle.edit.specs.Edit.{After, put_numbers_in, remove_in}
 use Rattle.streams.specs.Parts.{number_at, fields_in}
 use Rattle.sheet.specs.declared.Refusal.{Refusal}
 
@@ -15,8 +13,3 @@ asked_edit form b len = cond (eqb (number_at form 0) 0) (put_numbers_in b len (f
 abbrev pub length_after : ℕ → Result ℕ Refusal → ℕ
 length_after len (Ok n) = n
 length_after len (Err r) = len
-
--- What is printed is the edit's answer, and the next edit finds the length after it.
-pub record IsDone (len : ℕ) (e : Result ℕ Refusal) (d : Done) : Type 0 where
-  pub answer : told_converted d.answer ≡ told_edited e
-  pub next : d.len ≡ length_after len e

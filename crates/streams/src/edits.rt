@@ -3,26 +3,12 @@
 // it then stands.
 ghost use Rattle.std.specs.Prelude.{◌≡◌, ◌≤◌, length};
 ghost use Rattle.edit.specs.Edit.{Edits};
-ghost use Rattle.streams.specs.Edits.{asked_edit, IsDone};
+ghost use Rattle.streams.specs.Edits.{asked_edit, length_after};
 
 use crate::parts;
-use edit::Edited;
-use sheet_csv::Converted;
+use sheet::Refusal;
 use std::io;
 use std::io::{Read, Write};
-
-// What is printed of an edit, and the length that the next one finds.
-#[derive(Drop)]
-struct Done {
-    answer: Result<usize, Refusal>,
-    len: usize,
-}
-
-#[derive(Drop)]
-enum Next {
-    Length(usize),
-    Broken,
-}
 
 // The edit that a form asks for.
 fn edited(buf: &mut [u8], len: usize, form: &[u8]) -> Result<usize, Refusal>
@@ -37,43 +23,33 @@ fn edited(buf: &mut [u8], len: usize, form: &[u8]) -> Result<usize, Refusal>
     edit::remove(buf, len, id)
 }
 
-fn done_by(len: usize, e: Result<usize, Refusal>) -> Done
-    ensures { IsDone len e result }
+// The length that the next edit finds: a refusal leaves it.
+fn length_after(len: usize, e: Result<usize, Refusal>) -> usize
+    ensures { result ≡ length_after len e }
 {
-    match e {
-        Ok(n) => Done {
-            answer: Ok(n),
-            len: n,
-        },
-        Err(r) => Done {
-            answer: Err(r),
-            len,
-        },
-    }
+    e.unwrap_or(len)
 }
 
-// The edit that comes next.
+// The edit that comes next, and the length behind it; none where it does not come whole.
 fn one_edit(
     input: &mut impl Read,
     out: &mut impl Write,
     buf: &mut [u8],
     len: usize,
-) -> io::Result<Next>
+) -> io::Result<Option<usize>>
     requires { length buf.old ≤ 65536 }
 {
     let mut form = [0u8; 56];
     let got = parts::fill(input, &mut form);
     if got < 56 {
-        return Ok(Next::Broken);
+        return Ok(None);
     }
     if 1 < parts::number(&form, 0) {
-        return Ok(Next::Broken);
+        return Ok(None);
     }
     let e = edited(buf, len, &form);
-    let d = done_by(len, e);
-    let answer = d.answer;
-    parts::print(out, answer, buf)?;
-    Ok(Next::Length(d.len))
+    parts::print(out, e, buf)?;
+    Ok(Some(length_after(len, e)))
 }
 
 // So many edits, or false where they do not come whole.
@@ -88,11 +64,10 @@ pub fn print(
     let mut at = parts::number(head, 3) as usize;
     let count = parts::number(head, 4) as usize;
     for _ in 0..count {
-        let next = one_edit(input, out, buf, at)?;
-        match next {
-            Next::Length(n) => at = n,
-            Next::Broken => return Ok(false),
-        }
+        let Some(next) = one_edit(input, out, buf, at)? else {
+            return Ok(false);
+        };
+        at = next;
     }
     Ok(true)
 }

@@ -4,8 +4,7 @@ ghost use Rattle.decimal.specs.Laid.{Laid};
 ghost use Rattle.sheet_csv.specs.Read.{told_converted};
 ghost use Rattle.streams.specs.Parts.{number_at, fields_in, line_for, ShortLine};
 
-use report::Told;
-use sheet_csv::Converted;
+use sheet::Refusal;
 use std::io;
 use std::io::{Read, Write};
 
@@ -66,13 +65,7 @@ pub fn put_line(c: Result<usize, Refusal>, line: &mut [u8]) -> usize
 {
     match c {
         Ok(n) => decimal::write_number(n as u64, b"\n", line),
-        Err(x) => {
-            let told = report::write_refusal(x, line);
-            match told {
-                Ok(len) => len,
-                Err(_) => 0,
-            }
-        }
+        Err(x) => report::write_refusal(x, line).unwrap_or(0),
     }
 }
 

@@ -3,7 +3,6 @@ ghost use Rattle.std.specs.Prelude.{◌<◌, length};
 ghost use Rattle.report.specs.Page.{longest};
 ghost use Rattle.streams.specs.Sheets.{Apart};
 
-use report::Told;
 use std::io;
 use std::io::Write;
 
@@ -12,14 +11,11 @@ fn put_apart(sheet: &[u8], text: &mut [u8]) -> usize
     requires { longest < length text.old }
     ensures { Apart sheet.now result text.new }
 {
-    let told = report::write_answer(sheet, text);
-    match told {
-        Ok(len) => {
-            text[len] = b'\n';
-            len + 1
-        }
-        Err(_) => 0,
-    }
+    let Ok(len) = report::write_answer(sheet, text) else {
+        return 0;
+    };
+    text[len] = b'\n';
+    len + 1
 }
 
 pub fn print(out: &mut impl Write, sheet: &[u8]) -> io::Result<bool> {

@@ -5,7 +5,7 @@ ghost use Rattle.sheet_csv.specs.Read.{Converts};
 ghost use Rattle.streams.specs.Texts.{asked, Answers};
 
 use crate::parts;
-use sheet_csv::Converted;
+use sheet::Refusal;
 use std::io;
 use std::io::Write;
 

@@ -10,18 +10,18 @@ use Rattle.barge_explain.proofs.piece_of.Goals as goal
 pub returns-then-not-is_wanted : goal.returns-then-not-is_wanted
 unfolding piece_of
 returns-then-not-is_wanted c =
-    let e = sym c.record_at-read.ensures ∙ ap told_record c.in-Good.is in
+    let e = sym c.record_at.ensures ∙ ap told_record c.in-Ok.is in
     rw (e, sym c.is_wanted.ensures ∙ c.if-not-is_wanted.true) (record { inside = omega arith; bytes = refl; begun = refl })
 
-pub returns-in-Refused : goal.returns-in-Refused
+pub returns-in-Err : goal.returns-in-Err
 unfolding piece_of
-returns-in-Refused c =
-    let e = sym c.record_at-read.ensures ∙ ap told_record c.in-Refused.is in
+returns-in-Err c =
+    let e = sym c.record_at.ensures ∙ ap told_record c.in-Err.is in
     rw e (record { inside = omega arith; bytes = refl; begun = refl })
 
 pub returns-else-not-is_wanted : goal.returns-else-not-is_wanted
 unfolding piece_of
 returns-else-not-is_wanted c =
-    let e = sym c.record_at-read.ensures ∙ ap told_record c.in-Good.is in
+    let e = sym c.record_at.ensures ∙ ap told_record c.in-Ok.is in
     let f = on_page _ (and_then c.put_lead-at.ensures c.put_trail-len.ensures) in
     rw (e, sym c.is_wanted.ensures ∙ c.if-not-is_wanted.false) (record { inside = f.0; bytes = f.1; begun = refl })

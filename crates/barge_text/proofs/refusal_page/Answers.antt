@@ -9,7 +9,7 @@ use lib.Seq.{take_at}
 use Rattle.sheet.specs.Refusals.{given}
 use Rattle.sheet.specs.laws.RefusalLaws.{given_same, given_refused}
 use Rattle.report.specs.Page.{longest, told_length}
-use Rattle.report.specs.laws.PageLaws.{refusal_told}
+use Rattle.report.specs.laws.PageLaws.{refusal_told, length_told}
 use Rattle.report.specs.Pieces.{refusal_text, TellsRefusal}
 use Rattle.sheet.specs.declared.Refusal.{Refusal}
 use Rattle.barge_text.proofs.refusal_page.Goals as goal
@@ -18,15 +18,12 @@ module _ (r : Refusal) {told : Result ℕ Refusal} {text : List ℕ} (t : TellsR
   spelled : (told_length told ≡ given (length (refusal_text r))) × (text ≡ refusal_text r ++ drop (length (refusal_text r)) (replicate longest 0))
   spelled = refusal_told r (replicate longest 0) told text (omega arith) t
 
-pub returns-in-Length : goal.returns-in-Length
-returns-in-Length c =
+pub returns : goal.returns
+returns c =
     let line = refusal_text c.args.r in
-    let s = spelled c.args.r c.write_refusal-told.ensures in
-    let len_is : c.in-Length.len ≡ length line = given_same (sym (ap told_length c.in-Length.is) ∙ s.0) in
+    let s = spelled c.args.r c.write_refusal.ensures in
+    let len_is = c.unwrap_or-len.ensures ∙ length_told c.write_refusal.result (length line) 0 s.0 in
     record {
-      inside = omega (arith, len_is, c.write_refusal-told.ensures.most, c.write_refusal-told.auto.text);
-      text = ap (take c.in-Length.len) s.1 ∙ take_at line (drop (length line) (replicate longest 0)) c.in-Length.len (sym len_is);
+      inside = omega (arith, len_is, c.write_refusal.ensures.most, c.write_refusal.auto.text);
+      text = ap (take c.unwrap_or-len.result) s.1 ∙ take_at line (drop (length line) (replicate longest 0)) c.unwrap_or-len.result (sym len_is);
     }
-
-pub returns-in-Refused : goal.returns-in-Refused
-returns-in-Refused c = given_refused (sym (spelled c.args.r c.write_refusal-told.ensures).0 ∙ ap told_length c.in-Refused.is)

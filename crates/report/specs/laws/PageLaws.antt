@@ -1,5 +1,6 @@
 -- A page, and a slice, with a text in front: when the promises are met, and that two results which meet one are equal.
 -- Assumes nothing.
+use Rattle.std.specs.Result.{result_unwrap_or}
 use Rattle.std.specs.Prelude.{ℕ, zero, suc, ◌-◌, ◌≤◌, ◌<◌, ◌≡◌, List, ◌++◌, length, take, drop, Result, Ok, Err}
 use Rattle.std.proofs.Common.{sym, ap₂, ◌∙◌, arith, length-append, take_at, le-leb}
 use Rattle.std.proofs.Math.Path.{ap}
@@ -82,3 +83,8 @@ write_answer_only s o q r a b f g = tells_only (text_of s) o q r a b f g
 
 pub write_refusal_only : (x : Refusal) (o : List ℕ) (q r : Result ℕ Refusal) (a b : List ℕ) → TellsRefusal x o q a → TellsRefusal x o r b → (q ≡ r) × (a ≡ b)
 write_refusal_only x o q r a b f g = tells_only (refusal_text x) o q r a b f.tells g.tells
+
+-- a length that is told is what the answer holds, whatever would stand for a refusal
+pub length_told : (r : Result ℕ Refusal) (n other : ℕ) → told_length r ≡ given n → result_unwrap_or r other ≡ n
+length_told (Ok m) n other e = given_same e
+length_told (Err x) n other e = given_refused (sym e)

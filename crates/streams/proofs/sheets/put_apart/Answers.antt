@@ -25,29 +25,29 @@ module _ (s o : List ℕ) (room : longest < length o) {r : Result ℕ Refusal} {
   behind len e same = omega (arith, len_is len e, text_most s, same, room)
 
 pub bounds-text-len : goal.bounds-text-len
-bounds-text-len c = behind c.args.sheet.now c.args.text.now c.requires c.write_answer-told.ensures c.in-Length.len c.in-Length.is c.write_answer-told.auto.text
+bounds-text-len c = behind c.args.sheet.now c.args.text.now c.requires c.write_answer.ensures c.in-Ok.len c.in-Ok.is c.write_answer.auto.text
 
 pub overflow_add-result : goal.overflow_add-result
 overflow_add-result c =
-    let b = behind c.args.sheet.now c.args.text.now c.requires c.write_answer-told.ensures c.in-Length.len c.in-Length.is c.write_answer-told.auto.text in
-    omega (arith, b, c.write_answer-told.auto.text)
+    let b = behind c.args.sheet.now c.args.text.now c.requires c.write_answer.ensures c.in-Ok.len c.in-Ok.is c.write_answer.auto.text in
+    omega (arith, b, c.write_answer.auto.text)
 
-pub returns-in-Length : goal.returns-in-Length
-returns-in-Length c =
+pub returns : goal.returns
+returns c =
     let s = c.args.sheet.now in
     let o = c.args.text.now in
-    let len = c.in-Length.len in
-    let after = c.write_answer-told.new.text in
-    let b = behind s o c.requires c.write_answer-told.ensures len c.in-Length.is c.write_answer-told.auto.text in
-    let t = told s o c.requires c.write_answer-told.ensures in
+    let len = c.in-Ok.len in
+    let after = c.write_answer.new.text in
+    let b = behind s o c.requires c.write_answer.ensures len c.in-Ok.is c.write_answer.auto.text in
+    let t = told s o c.requires c.write_answer.ensures in
     record {
       inside = simp length-set (omega (arith, b));
       text = ap (λ (k : ℕ). take k (set after len 10)) (add-one len)
           ∙ take-suc-set after len 10 b
-          ∙ ap (λ (x : List ℕ). x ++ (10 ∷ [])) (ap (take len) t.1 ∙ take_at (text_of s) (drop (length (text_of s)) o) len (sym (len_is s o c.requires c.write_answer-told.ensures len c.in-Length.is)));
+          ∙ ap (λ (x : List ℕ). x ++ (10 ∷ [])) (ap (take len) t.1 ∙ take_at (text_of s) (drop (length (text_of s)) o) len (sym (len_is s o c.requires c.write_answer.ensures len c.in-Ok.is)));
     }
 
-pub returns-in-Refused : goal.returns-in-Refused
-returns-in-Refused c =
-    let t = told c.args.sheet.now c.args.text.now c.requires c.write_answer-told.ensures in
-    given_refused (sym t.0 ∙ ap told_length c.in-Refused.is)
+pub returns-in_default : goal.returns-in_default
+returns-in_default c =
+    let t = told c.args.sheet.now c.args.text.now c.requires c.write_answer.ensures in
+    given_refused (sym t.0 ∙ ap told_length c.in_default.is)
