@@ -1,7 +1,7 @@
 -- The demands say all: two programs that meet them answer every sheet alike and leave every output alike, and a program that meets them meets the promise of
 -- `check`; so does a single call exactly where it does what such a program does.
 -- Assumes nothing.
-use Rattle.std.specs.Prelude.{ℕ, zero, suc, ◌+◌, ◌*◌, ◌<◌, ◌≡◌, List, ◌++◌, length, drop, Result, Err}
+use Rattle.std.specs.Prelude.{ℕ, zero, suc, ◌+◌, ◌*◌, ◌<◌, ◌≡◌, List, ◌++◌, length, drop, Result, Ok, Err}
 use Rattle.std.proofs.Common.{sym, ap, ap₂, ◌∙◌, arith, take-append-drop, drop-drop}
 use Rattle.sheet.specs.Exactly.{Exactly}
 use Rattle.sheet.specs.Refusals.{refused}

@@ -1,7 +1,7 @@
 -- Every program that meets the promise of `check` meets the three demands.
 -- Assumes nothing.
 use Prim.Native.Nat.{ℕ, zero, suc, ◌+◌, ◌*◌, ◌≤◌, ◌<◌}
-use Rattle.std.specs.Prelude.{◌≡◌, Bool, length, drop, Result, Err}
+use Rattle.std.specs.Prelude.{◌≡◌, Bool, length, drop, Result, Ok, Err}
 use Rattle.std.proofs.Math.Path.{refl, ap, ap₂, subst}
 use Rattle.std.proofs.Common.{sym, ◌∙◌, length-append, length-drop}
 use Rattle.std.proofs.Math.Bool.{true, false, cond}
