@@ -1,7 +1,7 @@
 -- What the words of a command are, and what is known of an edit.
 use Rattle.std.specs.Prelude.{ℕ, ◌-◌, ◌/◌, ◌≤◌, ◌≡◌, cond, List, length, take, ltb, Result, Ok, Err}
-use Rattle.sheet.specs.Refusals.{Answer, refused}
-use Rattle.edit.specs.Edit.{header_of, After, told_edited, Edits}
+use Rattle.sheet.specs.Refusals.{Answer, refused, told_result}
+use Rattle.edit.specs.Edit.{header_of, After, Edits}
 use Rattle.sheet.specs.declared.Refusal.{Refusal}
 
 -- how many numbers a record is: 11 for a plate, whose kind is up to 4, and 13 for a member
@@ -21,4 +21,4 @@ EditInside (Err r) size = Unit {0}
 -- it is turned away for.
 pub record OfFile (x : Answer After) (b : List ℕ) (got : ℕ) (e : Result ℕ Refusal) (after : List ℕ) : Type 0 where
   pub edits : Edits x b e after
-  pub whole : (input : List ℕ) → take got b ≡ take (length b) input → (k p : ℕ) → header_of input (length input) ≡ refused k p → told_edited e ≡ refused k p
+  pub whole : (input : List ℕ) → take got b ≡ take (length b) input → (k p : ℕ) → header_of input (length input) ≡ refused k p → told_result e ≡ refused k p

@@ -4,7 +4,7 @@
 
 ghost use Rattle.std.specs.Prelude.{◌≡◌, List, [], ◌∷◌, ◌||◌, ℕ, ◌+◌, ◌*◌, ◌≤◌, length, take, eqb, IfOk, OnOk};
 ghost use Rattle.std.specs.Io.KnownBytes.{Appends};
-ghost use Rattle.sheet.specs.Refusals.{told_header, told_record};
+ghost use Rattle.sheet.specs.Refusals.{told_result};
 ghost use Rattle.checker.specs.Check.{record_of, sheet_size};
 ghost use Rattle.checker.specs.Unjudged.{sound_header};
 ghost use Rattle.sheet.specs.Versions.{enough};
@@ -29,7 +29,7 @@ const ROOM: usize = 26528;
 // The header of an input, from the bytes that were read of it, or why it is turned away.
 fn header_of(buffer: &[u8], got: usize) -> Result<Header, Refusal>
     requires { (enough ≤ length buffer.now) × (got ≤ length buffer.now) }
-    ensures { ((input : List ℕ) → take got buffer.now ≡ take (length buffer.now) input → told_header result ≡ sound_header input) × Sized result got }
+    ensures { ((input : List ℕ) → take got buffer.now ≡ take (length buffer.now) input → told_result result ≡ sound_header input) × Sized result got }
 {
     checker::sound_header(&buffer[..got])
 }
@@ -37,7 +37,7 @@ fn header_of(buffer: &[u8], got: usize) -> Result<Header, Refusal>
 // Record i of a sheet's records.
 fn record_at(records: &[u8], i: u16) -> Result<Record, Refusal>
     requires { 16 * i + 16 ≤ length records.now }
-    ensures { told_record result ≡ record_of records.now i }
+    ensures { told_result result ≡ record_of records.now i }
 {
     let from = 16 * (i as usize);
     let to = from + 16;

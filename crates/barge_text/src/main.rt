@@ -6,10 +6,10 @@
 mod show;
 
 ghost use Rattle.std.specs.Prelude.{◌≡◌, List, ℕ, ◌≤◌, length, take};
-ghost use Rattle.sheet.specs.Refusals.{told};
+ghost use Rattle.sheet.specs.Refusals.{told, told_result};
 ghost use Rattle.sheet.specs.Versions.{enough};
 ghost use Rattle.report.specs.Pieces.{refusal_text};
-ghost use Rattle.sheet_csv.specs.Read.{told_converted, Converts};
+ghost use Rattle.sheet_csv.specs.Read.{Converts};
 ghost use Rattle.sheet_csv.specs.Write.{text_from};
 ghost use Rattle.barge_text.specs.Convert.{MadeInside, line_in, printed_by, Shows, Replies};
 
@@ -64,7 +64,7 @@ fn line_of(r: Refusal) -> u32
 
 // The same of what was converted.
 fn line_at_fault(c: Result<usize, Refusal>) -> u32
-    ensures { result ≡ line_in (told_converted c) }
+    ensures { result ≡ line_in (told_result c) }
 {
     match c {
         Ok(_) => 0,

@@ -2,7 +2,7 @@
 use Rattle.std.specs.Prelude.{◌≡◌, ℕ, zero, suc, ◌+◌, ◌-◌, ◌*◌, Bool, not, cond, List, [], ◌∷◌, ◌++◌, map, length, take, drop, leb, ltb, eqb, Result, Ok, Err}
 use Rattle.sheet.specs.declared.Header.{Header}
 use Rattle.sheet.specs.declared.Record.{Record}
-use Rattle.sheet.specs.Refusals.{Answer, given, refused, told}
+use Rattle.sheet.specs.Refusals.{Answer, given, refused, told, told_as}
 use Rattle.sheet.specs.Header.{header_size, read_header}
 use Rattle.sheet.specs.Slender.{too_slender}
 use Rattle.sheet.specs.Record.{read_record}
@@ -124,10 +124,12 @@ pub record Totals : Type 0 where
 abbrev pub tallied : (n failed : ℕ) → Result Checked Refusal
 tallied n failed = Ok (record { n = n; failed = failed })
 
+abbrev pub totals_of : Checked → Totals
+totals_of c = record { n = c.n; failed = c.failed }
+
 -- what the code's answer says
 abbrev pub told_checked : Result Checked Refusal → Answer Totals
-told_checked (Ok c) = given (record { n = c.n; failed = c.failed })
-told_checked (Err r) = told r
+told_checked = told_as totals_of
 
 -- the answer, from the sheet and the length of the output
 unfoldable pub answer_of : List ℕ → (room : ℕ) → Answer Totals

@@ -38,11 +38,6 @@ entry_fault e = fault_from 1 (verdict_lines e.rule) (entry_values e)
 abbrev pub entry_refused : {A : Type 0} → ℕ → Answer A → Answer A
 entry_refused f fine = cond (eqb f 0) fine (refused 7 f)
 
--- what the code's answer says
-abbrev pub told_entry : Result Entry Refusal → Answer Entry
-told_entry (Ok e) = given e
-told_entry (Err r) = told r
-
 -- the entry in a number of 32 bits
 unfoldable pub entry_in : ℕ → Answer Entry
 entry_in n = let e = entry_at (unpack verdict_widths n) in entry_refused (entry_fault e) (given e)

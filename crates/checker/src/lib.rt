@@ -6,10 +6,10 @@ ghost use Rattle.quantity.specs.Range.{modulus};
 ghost use Rattle.layout.specs.Layout.{pack, unpack, Fit};
 ghost use Rattle.layout.specs.Bytes.{written_of};
 ghost use Rattle.loads.specs.Sources.{number_of};
-ghost use Rattle.sheet.specs.Refusals.{given, told, told_outcome, told_header, told_record};
+ghost use Rattle.sheet.specs.Refusals.{given, told, told_result};
 ghost use Rattle.sheet.specs.Header.{header_fault};
 ghost use Rattle.sheet.specs.Writes.{Writes};
-ghost use Rattle.checker.specs.Entry.{verdict_widths, entry_values, entry_at, entry_fault, told_entry, read_entry, write_entry};
+ghost use Rattle.checker.specs.Entry.{verdict_widths, entry_values, entry_at, entry_fault, read_entry, write_entry};
 ghost use Rattle.checker.specs.Check.{header_for, record_part, sound_after, entry_with, failing as failingOf, Checks};
 ghost use Rattle.checker.specs.Unjudged.{records_sound, sound_header};
 ghost use Rattle.checker.specs.Passes.{Refuses, judged_after, Ready, told_passed, pass_over, number_bytes};
@@ -85,7 +85,7 @@ fn number_of(e: Entry) -> u32
 
 // The verdict in the first four bytes, or why there is none.
 pub fn read_verdict(s: &[u8]) -> Result<Entry, Refusal>
-    ensures { told_entry result ≡ read_entry s.now }
+    ensures { told_result result ≡ read_entry s.now }
 {
     if s.len() < VERDICT {
         return Err(Refusal::SheetShort);
@@ -108,7 +108,7 @@ fn write_number(n: u32, out: &mut [u8])
 
 // The verdict into the first four bytes, or why not.
 pub fn write_verdict(e: Entry, out: &mut [u8]) -> Result<(), Refusal>
-    ensures { Writes (write_entry e out.old) (told_outcome result) out.new }
+    ensures { Writes (write_entry e out.old) (told_result result) out.new }
 {
     if out.len() < VERDICT {
         return Err(Refusal::OutputShort);
@@ -123,7 +123,7 @@ pub fn write_verdict(e: Entry, out: &mut [u8]) -> Result<(), Refusal>
 
 // Refusals 1 to 3, 9, 4 and 5: the header of the sheet, for an output of so many bytes.
 fn header_for(sheet: &[u8], room: usize) -> Result<Header, Refusal>
-    ensures { told_header result ≡ header_for sheet.now room }
+    ensures { told_result result ≡ header_for sheet.now room }
 {
     let h = header::read_header(sheet)?;
     let n = h.count as usize;
@@ -141,7 +141,7 @@ fn header_for(sheet: &[u8], room: usize) -> Result<Header, Refusal>
 
 // Refusals 6 to 8 of record i, in its sixteen bytes, after a record with the id `before`.
 fn sound_after(bytes: &[u8], i: u16, before: u16) -> Result<Record, Refusal>
-    ensures { told_record result ≡ sound_after i before bytes.now }
+    ensures { told_result result ≡ sound_after i before bytes.now }
 {
     let r = record::read_record_as(bytes, i)?;
     if r.id <= before {
@@ -153,7 +153,7 @@ fn sound_after(bytes: &[u8], i: u16, before: u16) -> Result<Record, Refusal>
 // The same of record i among the bytes of all records.
 fn sound_at(records: &[u8], i: u16, before: u16) -> Result<Record, Refusal>
     requires { 16 * i + 16 ≤ length records.now }
-    ensures { told_record result ≡ sound_after i before (record_part records.now i) }
+    ensures { told_result result ≡ sound_after i before (record_part records.now i) }
 {
     let first = RECORD * (i as usize);
     let past = first + RECORD;
@@ -163,7 +163,7 @@ fn sound_at(records: &[u8], i: u16, before: u16) -> Result<Record, Refusal>
 // Refusals 6 to 8 of the first n records, each finished before the next.
 fn records_sound(records: &[u8], n: u16) -> Result<(), Refusal>
     requires { 16 * n ≤ length records.now }
-    ensures { told_outcome result ≡ records_sound records.now n }
+    ensures { told_result result ≡ records_sound records.now n }
 {
     let mut before: u16 = 0;
     for i in 0..n {
@@ -175,7 +175,7 @@ fn records_sound(records: &[u8], n: u16) -> Result<(), Refusal>
 
 // The header of a sheet that is read and not judged, or the first of the table's refusals but 5, which is about an output.
 pub fn sound_header(sheet: &[u8]) -> Result<Header, Refusal>
-    ensures { told_header result ≡ sound_header sheet.now }
+    ensures { told_result result ≡ sound_header sheet.now }
 {
     let h = header_for(sheet, LONGEST)?;
     records_sound(&sheet[h.size()..], h.count)?;
@@ -208,7 +208,7 @@ fn entry_with(id: u16, judged: Judged) -> Entry
 // the reader is asked only for the reason of a refusal.
 fn judged_after(h: Header, bytes: &[u8], i: u16, before: u16) -> Result<Entry, Refusal>
     requires { header_fault h ≡ 0 }
-    ensures { told_entry result ≡ judged_after h i before bytes.now }
+    ensures { told_result result ≡ judged_after h i before bytes.now }
 {
     let raw = record::record_in(bytes);
     let r = raw.values;
@@ -226,7 +226,7 @@ fn judged_after(h: Header, bytes: &[u8], i: u16, before: u16) -> Result<Entry, R
 
 fn judged_at(h: Header, records: &[u8], i: u16, before: u16) -> Result<Entry, Refusal>
     requires { (header_fault h ≡ 0) × (16 * i + 16 ≤ length records.now) }
-    ensures { told_entry result ≡ judged_after h i before (record_part records.now i) }
+    ensures { told_result result ≡ judged_after h i before (record_part records.now i) }
 {
     let at = RECORD * (i as usize);
     let end = at + RECORD;

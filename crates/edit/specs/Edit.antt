@@ -3,7 +3,7 @@ use Rattle.std.specs.Prelude.{ℕ, ◌+◌, ◌-◌, ◌*◌, ◌≡◌, Bool, c
 use Rattle.sheet.specs.declared.Header.{Header}
 use Rattle.sheet.specs.declared.Record.{Record}
 use Rattle.sheet.specs.Versions.{version_of}
-use Rattle.sheet.specs.Refusals.{Answer, given, refused, told, record_refused}
+use Rattle.sheet.specs.Refusals.{Answer, given, refused, told, record_refused, told_result}
 use Rattle.sheet.specs.Header.{header_size, header_bytes}
 use Rattle.sheet.specs.Record.{record_fault, record_bytes}
 use Rattle.numbers.specs.From.{record_from}
@@ -101,11 +101,6 @@ remove_in b len id =
     then λ t. demand (has_of id_of id t.records) 10
     then λ u. given (record { size = len - 16; bytes = removing (counting (t.header.count - 1) t.header) (position_of id_of id t.records) len b })
 
--- what the code's answer says
-abbrev pub told_edited : Result ℕ Refusal → Answer ℕ
-told_edited (Ok n) = given n
-told_edited (Err r) = told r
-
 -- the new length, or the refusal
 unfoldable pub size_by : Answer After → Answer ℕ
 size_by (given a) = given a.size
@@ -118,5 +113,5 @@ bytes_by (refused k p) before = before
 
 -- What the contracts of `put` and `remove` say: the answer, and every byte of the buffer as it returns.
 pub record Edits (a : Answer After) (before : List ℕ) (r : Result ℕ Refusal) (after : List ℕ) : Type 0 where
-  pub answer : told_edited r ≡ size_by a
+  pub answer : told_result r ≡ size_by a
   pub bytes : after ≡ bytes_by a before

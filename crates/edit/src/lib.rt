@@ -5,7 +5,7 @@ mod find;
 mod shift;
 
 ghost use Rattle.std.specs.Prelude.{◌≡◌, false, ◌+◌, ◌*◌, ◌≤◌, length};
-ghost use Rattle.sheet.specs.Refusals.{told_header};
+ghost use Rattle.sheet.specs.Refusals.{told_result};
 ghost use Rattle.sheet.specs.Record.{record_fault};
 ghost use Rattle.checker.specs.Check.{records_part};
 ghost use Rattle.edit.specs.Edit.{header_of, start, counting, replacing, inserting, removing, put_in, put_numbers_in, remove_in, Edits};
@@ -15,7 +15,7 @@ use sheet::{Header, RECORD, Record, Refusal};
 
 // The header of the sheet, or why it is turned away.
 fn sheet_at(buf: &[u8], len: usize) -> Result<Header, Refusal>
-    ensures { told_header result ≡ header_of buf.now len }
+    ensures { told_result result ≡ header_of buf.now len }
 {
     if buf.len() < len {
         return Err(Refusal::SheetShort);

@@ -3,11 +3,11 @@ use Rattle.std.specs.Prelude.{ℕ, ◌+◌, ◌/◌, ◌%◌, max, ◌≤◌, �
 use Rattle.std.proofs.Math.Option.{Option}
 use Rattle.numbers.specs.From.{record_of_numbers}
 use Rattle.sheet.specs.declared.Record.{Record}
-use Rattle.sheet.specs.Refusals.{given}
+use Rattle.sheet.specs.Refusals.{given, told_result}
 use Rattle.sheet.specs.Header.{header_size}
 use Rattle.checker.specs.Check.{part, Sheet}
 use Rattle.keyed.specs.Keyed.{rises, position_of, lookup, Edit, put, out, map_all}
-use Rattle.edit.specs.Edit.{sheet_at, start, id_of, counting, After, put_numbers_in, remove_in, told_edited, Edits}
+use Rattle.edit.specs.Edit.{sheet_at, start, id_of, counting, After, put_numbers_in, remove_in, Edits}
 use Rattle.yard.specs.Packed.{number_unit}
 use Rattle.yard.specs.Editing.{resized, EditsPacked}
 use Rattle.edit_laws.specs.Edits.{edited}
@@ -44,7 +44,7 @@ pub record MeetsOffice (O : Office) : Type 0 where
 
 -- those functions with their answers packed
 abbrev pub packing : Office → Editor
-packing O = record { answer = λ c b len. resized (told_edited (O.answer c b len)); after = O.after }
+packing O = record { answer = λ c b len. resized (told_result (O.answer c b len)); after = O.after }
 
 -- ---- what the caller does with an answer
 

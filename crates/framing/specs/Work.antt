@@ -4,7 +4,7 @@ use Rattle.gauge.specs.declared.Shape.{Shape}
 use Rattle.loads.specs.Sources.{Named, told_load}
 use Rattle.sheet.specs.declared.Header.{Header}
 use Rattle.sheet.specs.declared.Member.{Member}
-use Rattle.sheet.specs.Refusals.{Answer, given, told}
+use Rattle.sheet.specs.Refusals.{Answer, told_as}
 use Rattle.verdict.specs.declared.Verdict.{Verdict}
 use Rattle.framing.specs.declared.MemberWork.{MemberWork}
 use Rattle.framing.specs.Rules.{member_named, member_line, member_verdict}
@@ -38,5 +38,4 @@ abbrev pub told_work : MemberWork → Work
 told_work w = record { load = told_load w.load; line = w.line.0; web = w.web; bending = w.bending; shear = w.shear; verdict = w.verdict }
 
 abbrev pub told_worked : Result MemberWork Refusal → Answer Work
-told_worked (Ok w) = given (told_work w)
-told_worked (Err r) = told r
+told_worked = told_as told_work

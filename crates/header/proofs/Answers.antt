@@ -23,7 +23,7 @@ use Rattle.sheet.specs.Lines.{header_lines, first_widths, own_widths}
 use Rattle.sheet.specs.Header.{header_size, first_values, own_values, header_at, raw_fault, header_fault, fields_in, own_bytes, first_fields, own_fields, version_field, version_in, header_fields, header_of, read_header, header_bytes, header_needs, write_header}
 use Rattle.sheet.specs.laws.HeaderLaws.{version_at, spare_in, rest_in, read_fault}
 use Rattle.sheet.specs.laws.HeaderExactly.{header_read_1, fine_needs}
-use Rattle.sheet.specs.Refusals.{Answer, given, refused, told, told_outcome, told_header, header_refused}
+use Rattle.sheet.specs.Refusals.{Answer, given, refused, told, header_refused, told_result}
 use Rattle.sheet.specs.laws.RefusalLaws.{at_none, says}
 use Rattle.sheet.specs.Writes.{Writes}
 use Rattle.sheet.specs.declared.Header.{Header}
@@ -43,15 +43,15 @@ fine_says : {A : Type 0} (f : ℕ) (fine : Answer A) → f ≡ 0 → fine ≡ he
 fine_says f fine z = sym (at_none (refused 2 0) (λ k. refused 3 k) f fine z)
 
 module _ (h : Header) (f : ℕ) (ef : f ≡ header_fault h) where
-  pub fault_fine : f ≡ 0 → told_outcome (Ok tt) ≡ header_refused (header_fault h) (given tt)
+  pub fault_fine : f ≡ 0 → told_result {A = Unit {0}} (Ok tt) ≡ header_refused (header_fault h) (given (tt {0}))
   fault_fine z = fine_says f (given tt) z ∙ ap (λ (n : ℕ). header_refused n (given tt)) ef
 
-  pub fault_refused : (r : Refusal) → r ≡ refusal_of f → (f ≡ 0 → ⊥) → told_outcome (Err r) ≡ header_refused (header_fault h) (given tt)
+  pub fault_refused : (r : Refusal) → r ≡ refusal_of f → (f ≡ 0 → ⊥) → told_result {A = Unit {0}} (Err r) ≡ header_refused (header_fault h) (given (tt {0}))
   fault_refused r er z = ap (λ (x : Refusal). told x) er ∙ refused_says f (given tt) z ∙ ap (λ (n : ℕ). header_refused n (given tt)) ef
 
 -- ---- reading
 
-pub read_few : (s : List ℕ) → length s < first_bytes → told_header (Err SheetShort) ≡ read_header s
+pub read_few : (s : List ℕ) → length s < first_bytes → told_result {A = Header} (Err SheetShort) ≡ read_header s
 read_few s l = sym ((header_read_1 s 0).1 (under_first l, refl))
 
 -- what was read: the first bytes as a number of 96 bits, the next as one of 64, and the header that they are
@@ -69,7 +69,7 @@ module _ (s : List ℕ) (l : first_bytes ≤ length s) (n w : ℕ) (h : Header) 
   same_needs : header_needs h ≡ bytes_needed (version_field s) (version_in s)
   same_needs = ap₂ bytes_needed named kept
 
-  pub read_under : length s < header_needs h → told_header (Err SheetShort) ≡ read_header s
+  pub read_under : length s < header_needs h → told_result {A = Header} (Err SheetShort) ≡ read_header s
   unfolding read_header
   read_under u = rw (lt-ltb (length s) (bytes_needed (version_field s) (version_in s)) (omega (arith, same_needs)))
 
@@ -117,21 +117,21 @@ module _ (s : List ℕ) (l : first_bytes ≤ length s) (n w : ℕ) (h : Header) 
           rw (le-ltb (length s) (bytes_needed (version_field s) (version_in s)) (omega (arith, same_needs)))
           (ap₂ (λ (k : ℕ) (a : Header). header_refused k (given a)) found is_header)
 
-      pub read_good : f ≡ 0 → told_header (Ok h) ≡ read_header s
+      pub read_good : f ≡ 0 → told_result (Ok h) ≡ read_header s
       read_good z = fine_says f (given h) z ∙ read_as
 
-      pub read_bad : (r : Refusal) → r ≡ refusal_of f → (f ≡ 0 → ⊥) → told_header (Err r) ≡ read_header s
+      pub read_bad : (r : Refusal) → r ≡ refusal_of f → (f ≡ 0 → ⊥) → told_result {A = Header} (Err r) ≡ read_header s
       read_bad r er z = ap (λ (x : Refusal). told x) er ∙ refused_says f (given h) z ∙ read_as
 
 -- ---- writing
 
 module _ (h : Header) (o : List ℕ) where
-  pub write_under : length o < header_needs h → Writes (write_header h o) (told_outcome (Err OutputShort)) o
+  pub write_under : length o < header_needs h → Writes (write_header h o) (told_result {A = Unit {0}} (Err OutputShort)) o
   unfolding write_header
   write_under l = record { answer = rw (lt-ltb _ _ l); bytes = rw (lt-ltb _ _ l) }
 
   module _ (f : ℕ) (l : header_needs h ≤ length o) (ef : f ≡ header_fault h) where
-    pub write_bad : (r : Refusal) → r ≡ refusal_of f → (f ≡ 0 → ⊥) → Writes (write_header h o) (told_outcome (Err r)) o
+    pub write_bad : (r : Refusal) → r ≡ refusal_of f → (f ≡ 0 → ⊥) → Writes (write_header h o) (told_result {A = Unit {0}} (Err r)) o
     unfolding write_header
     write_bad r er z =
         record {
@@ -144,7 +144,7 @@ module _ (h : Header) (o : List ℕ) where
       pub room : header_size h ≤ length o
       room = omega (arith, fine_needs h (sym ef ∙ z))
 
-      pub write_good : (after : List ℕ) → after ≡ header_bytes h ++ drop (header_size h) o → Writes (write_header h o) (told_outcome (Ok tt)) after
+      pub write_good : (after : List ℕ) → after ≡ header_bytes h ++ drop (header_size h) o → Writes (write_header h o) (told_result {A = Unit {0}} (Ok tt)) after
       unfolding write_header
       write_good after ea =
           record {

@@ -7,7 +7,7 @@ ghost use Rattle.layout.specs.Line.{among, fault_from};
 ghost use Rattle.layout.specs.Bytes.{short_of};
 ghost use Rattle.sheet.specs.Versions.{numbered, version_of};
 ghost use Rattle.sheet.specs.Lines.{waves, first_widths, own_widths};
-ghost use Rattle.sheet.specs.Refusals.{given, told_outcome, told_header, header_refused};
+ghost use Rattle.sheet.specs.Refusals.{given, header_refused, told_result};
 ghost use Rattle.sheet.specs.Header.{first_values, own_values, own_at, header_at, raw_fault, header_fault, fields_in, own_bytes, header_needs, read_header, write_header};
 ghost use Rattle.sheet.specs.Writes.{Writes};
 
@@ -140,7 +140,7 @@ fn refuse(f: u8) -> Refusal
 }
 
 pub fn header_fault(h: Header) -> Result<(), Refusal>
-    ensures { told_outcome result ≡ header_refused (header_fault h) (given tt) }
+    ensures { told_result result ≡ header_refused (header_fault h) (given tt) }
 {
     let f = fault(h, 0, 0);
     if f == 0 {
@@ -163,7 +163,7 @@ fn needs(h: Header) -> usize
 
 // The header in the first bytes, or why there is none. Its version is looked at before there have to be more than twelve bytes.
 pub fn read_header(s: &[u8]) -> Result<Header, Refusal>
-    ensures { told_header result ≡ read_header s.now }
+    ensures { told_result result ≡ read_header s.now }
 {
     if s.len() < FIRST {
         return Err(Refusal::SheetShort);
@@ -204,7 +204,7 @@ fn write_own(own: Own, out: &mut [u8])
 
 // The header into the first bytes, or why not.
 pub fn write_header(h: Header, out: &mut [u8]) -> Result<(), Refusal>
-    ensures { Writes (write_header h out.old) (told_outcome result) out.new }
+    ensures { Writes (write_header h out.old) (told_result result) out.new }
 {
     if out.len() < needs(h) {
         return Err(Refusal::OutputShort);

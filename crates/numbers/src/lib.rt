@@ -6,7 +6,7 @@ mod held;
 mod values;
 
 ghost use Rattle.std.specs.Prelude.{◌≡◌, cond, eqb};
-ghost use Rattle.sheet.specs.Refusals.{number_of, place_of, told_outcome, told_header, told_record};
+ghost use Rattle.sheet.specs.Refusals.{number_of, place_of, told_result};
 ghost use Rattle.numbers.specs.Fields.{own_numbers, header_numbers, plate_numbers, member_numbers, record_numbers};
 ghost use Rattle.numbers.specs.From.{named_size, header_from, record_from};
 ghost use Rattle.numbers.specs.Held.{earlier_of, own_held, header_held, header_apart, plate_held, member_held, record_held, plate_apart, record_apart};
@@ -124,7 +124,7 @@ pub fn record_numbers(r: Record) -> [u32; 13]
 // What was found at fault, or the refusal of a field that was tested by itself, 0 being none, where that stands earlier: the place grows with the field, and
 // that of a first field is below all others.
 fn earlier(found: Result<(), Refusal>, field: u8, here: Refusal) -> Result<(), Refusal>
-    ensures { told_outcome result ≡ cond (eqb field 0) (told_outcome found) (earlier_of (told_outcome found) (number_of here) (place_of here)) }
+    ensures { told_result result ≡ cond (eqb field 0) (told_result found) (earlier_of (told_result found) (number_of here) (place_of here)) }
 {
     if field == 0 {
         return found;
@@ -202,7 +202,7 @@ fn header_apart(f: [u32; 10]) -> u8
 
 // The header that numbers are, or why they are none.
 pub fn header_from(f: [u32; 10]) -> Result<Header, Refusal>
-    ensures { told_header result ≡ header_from f }
+    ensures { told_result result ≡ header_from f }
 {
     let h = header_held(f);
     let found = header::header_fault(h);
@@ -308,7 +308,7 @@ fn record_apart(f: [u32; 13]) -> u8
 
 // The record that numbers are, as record i of a sheet, or why they are none.
 pub fn record_from(f: [u32; 13], i: u16) -> Result<Record, Refusal>
-    ensures { told_record result ≡ record_from i f }
+    ensures { told_result result ≡ record_from i f }
 {
     let r = record_held(f);
     let found = record::record_fault(r, i);

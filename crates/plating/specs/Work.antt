@@ -5,7 +5,7 @@ use Rattle.loads.specs.Sources.{Named, told_load}
 use Rattle.sheet.specs.declared.Header.{Header}
 use Rattle.sheet.specs.declared.Plate.{Plate}
 use Rattle.sheet.specs.Kinds.{is_long}
-use Rattle.sheet.specs.Refusals.{Answer, given, told}
+use Rattle.sheet.specs.Refusals.{Answer, told_as}
 use Rattle.verdict.specs.declared.Verdict.{Verdict}
 use Rattle.plating.specs.declared.PlateWork.{PlateWork}
 use Rattle.plating.specs.Rules.{R, plate_modulus, K2, is_second, plate_pressure, plate_named, plate_verdict}
@@ -60,5 +60,4 @@ told_work w =
     }
 
 abbrev pub told_worked : Result PlateWork Refusal → Answer Work
-told_worked (Ok w) = given (told_work w)
-told_worked (Err r) = told r
+told_worked = told_as told_work

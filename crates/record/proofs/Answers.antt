@@ -13,7 +13,7 @@ use Rattle.layout.specs.Bytes.{read_of, written_of}
 use Rattle.layout.specs.laws.BytesLaws.{read_all, write_all_lem}
 use Rattle.sheet.specs.Record.{record_fault, record_in, read_record, record_number, write_record, record_at, spare_at}
 use Rattle.sheet.specs.laws.RecordLaws.{record_in_lem}
-use Rattle.sheet.specs.Refusals.{Answer, given, refused, told, told_outcome, told_record, record_refused}
+use Rattle.sheet.specs.Refusals.{Answer, given, refused, told, record_refused, told_result}
 use Rattle.sheet.specs.laws.RefusalLaws.{at_none, says}
 use Rattle.sheet.specs.Writes.{Writes}
 use Rattle.sheet.specs.declared.Record.{Record}
@@ -31,13 +31,13 @@ fine_says : {A : Type 0} (i f : ℕ) (fine : Answer A) → f ≡ 0 → fine ≡ 
 fine_says i f fine z = sym (at_none (refused 6 i) (λ k. refused 7 (32 * i + k)) f fine z)
 
 module _ (i f : ℕ) where
-  pub fault_fine : f ≡ 0 → told_outcome (Ok tt) ≡ record_refused i f (given tt)
+  pub fault_fine : f ≡ 0 → told_result {A = Unit {0}} (Ok tt) ≡ record_refused i f (given (tt {0}))
   fault_fine z = fine_says i f (given tt) z
 
-  pub fault_refused : (x : Refusal) → x ≡ refusal_of i f → (f ≡ 0 → ⊥) → told_outcome (Err x) ≡ record_refused i f (given tt)
+  pub fault_refused : (x : Refusal) → x ≡ refusal_of i f → (f ≡ 0 → ⊥) → told_result {A = Unit {0}} (Err x) ≡ record_refused i f (given (tt {0}))
   fault_refused x ex z = ap (λ (y : Refusal). told y) ex ∙ refused_says i f (given tt) z
 
-pub read_short : (i : ℕ) (s : List ℕ) → length s < 16 → told_record (Err SheetShort) ≡ read_record i s
+pub read_short : (i : ℕ) (s : List ℕ) → length s < 16 → told_result {A = Record} (Err SheetShort) ≡ read_record i s
 unfolding read_record
 read_short i s l = rw (lt-ltb _ _ l)
 
@@ -50,19 +50,19 @@ module _ (i : ℕ) (s : List ℕ) (n : ℕ) (r : Record) (spare f : ℕ) (l : 16
   read_as : record_refused i f (given r) ≡ read_record i s
   read_as = ap₂ (λ (k : ℕ) (a : Record). record_refused i k (given a)) (ef ∙ ap₂ record_fault er es) er ∙ sym (read_long i s l ∙ ap (record_in i) (sym en) ∙ record_in_lem i n)
 
-  pub read_good : f ≡ 0 → told_record (Ok r) ≡ read_record i s
+  pub read_good : f ≡ 0 → told_result (Ok r) ≡ read_record i s
   read_good z = fine_says i f (given r) z ∙ read_as
 
-  pub read_bad : (x : Refusal) → x ≡ refusal_of i f → (f ≡ 0 → ⊥) → told_record (Err x) ≡ read_record i s
+  pub read_bad : (x : Refusal) → x ≡ refusal_of i f → (f ≡ 0 → ⊥) → told_result {A = Record} (Err x) ≡ read_record i s
   read_bad x ex z = ap (λ (y : Refusal). told y) ex ∙ refused_says i f (given r) z ∙ read_as
 
 module _ (r : Record) (o : List ℕ) where
-  pub write_short : length o < 16 → Writes (write_record r o) (told_outcome (Err OutputShort)) o
+  pub write_short : length o < 16 → Writes (write_record r o) (told_result {A = Unit {0}} (Err OutputShort)) o
   unfolding write_record
   write_short l = record { answer = rw (lt-ltb _ _ l); bytes = rw (lt-ltb _ _ l) }
 
   module _ (f : ℕ) (l : 16 ≤ length o) (ef : f ≡ record_fault r 0) where
-    pub write_bad : (x : Refusal) → x ≡ refusal_of 0 f → (f ≡ 0 → ⊥) → Writes (write_record r o) (told_outcome (Err x)) o
+    pub write_bad : (x : Refusal) → x ≡ refusal_of 0 f → (f ≡ 0 → ⊥) → Writes (write_record r o) (told_result {A = Unit {0}} (Err x)) o
     unfolding write_record
     write_bad x ex z =
         record {
@@ -70,7 +70,7 @@ module _ (r : Record) (o : List ℕ) where
           bytes = rw (le-ltb _ _ l, ne_eqb (record_fault r 0) 0 (λ e. z (ef ∙ e)));
         }
 
-    pub write_good : (n : ℕ) (after : List ℕ) → f ≡ 0 → n ≡ record_number r → after ≡ written_of 16 n o → Writes (write_record r o) (told_outcome (Ok tt)) after
+    pub write_good : (n : ℕ) (after : List ℕ) → f ≡ 0 → n ≡ record_number r → after ≡ written_of 16 n o → Writes (write_record r o) (told_result {A = Unit {0}} (Ok tt)) after
     unfolding write_record
     write_good n after z en ea =
         record {

@@ -8,7 +8,7 @@ mod plate;
 ghost use Rattle.std.specs.Prelude.{◌≡◌, cond, ◌+◌, ◌*◌, eqb};
 ghost use Rattle.layout.specs.Layout.{Fit};
 ghost use Rattle.layout.specs.Bytes.{long_of, read_of};
-ghost use Rattle.sheet.specs.Refusals.{given, told_outcome, told_record, record_refused};
+ghost use Rattle.sheet.specs.Refusals.{given, record_refused, told_result};
 ghost use Rattle.sheet.specs.Record.{of_plate, of_member, record_fault, read_record, write_record, widths_in, values_in, record_number, record_at, spare_at, raw_at};
 ghost use Rattle.sheet.specs.Writes.{Writes};
 
@@ -72,7 +72,7 @@ fn refuse(i: u16, f: u8) -> Refusal
 
 // What the first fault of record i says, or nothing where there is none.
 fn outcome(i: u16, f: u8) -> Result<(), Refusal>
-    ensures { told_outcome result ≡ record_refused i f (given tt) }
+    ensures { told_result result ≡ record_refused i f (given tt) }
 {
     if f == 0 {
         return Ok(());
@@ -82,28 +82,28 @@ fn outcome(i: u16, f: u8) -> Result<(), Refusal>
 
 // The first fault of a record that is record i of a sheet.
 pub fn record_fault(r: Record, i: u16) -> Result<(), Refusal>
-    ensures { told_outcome result ≡ record_refused i (record_fault r 0) (given tt) }
+    ensures { told_result result ≡ record_refused i (record_fault r 0) (given tt) }
 {
     outcome(i, fault(r, 0))
 }
 
 // `record_fault` of a plate that stands as record 0.
 pub fn plate_outcome(kind: u8, id: u16, p: Plate) -> Result<(), Refusal>
-    ensures { told_outcome result ≡ record_refused 0 (record_fault (of_plate kind id p) 0) (given tt) }
+    ensures { told_result result ≡ record_refused 0 (record_fault (of_plate kind id p) 0) (given tt) }
 {
     outcome(0, plate::fault(kind, id, p, 0))
 }
 
 // `record_fault` of a member that stands as record 0.
 pub fn member_outcome(kind: u8, id: u16, m: Member) -> Result<(), Refusal>
-    ensures { told_outcome result ≡ record_refused 0 (record_fault (of_member kind id m) 0) (given tt) }
+    ensures { told_result result ≡ record_refused 0 (record_fault (of_member kind id m) 0) (given tt) }
 {
     outcome(0, member::fault(kind, id, m))
 }
 
 // The record in the first sixteen bytes, as record i of a sheet, or why there is none.
 pub fn read_record_as(s: &[u8], i: u16) -> Result<Record, Refusal>
-    ensures { told_record result ≡ read_record i s.now }
+    ensures { told_result result ≡ read_record i s.now }
 {
     if s.len() < 16 {
         return Err(Refusal::SheetShort);
@@ -130,14 +130,14 @@ pub fn record_in(s: &[u8]) -> Raw
 
 // `read_record_as` of a record alone, which is record 0.
 pub fn read_record(s: &[u8]) -> Result<Record, Refusal>
-    ensures { told_record result ≡ read_record 0 s.now }
+    ensures { told_result result ≡ read_record 0 s.now }
 {
     read_record_as(s, 0)
 }
 
 // The record into the first sixteen bytes, or why not.
 pub fn write_record(r: Record, out: &mut [u8]) -> Result<(), Refusal>
-    ensures { Writes (write_record r out.old) (told_outcome result) out.new }
+    ensures { Writes (write_record r out.old) (told_result result) out.new }
 {
     if out.len() < 16 {
         return Err(Refusal::OutputShort);

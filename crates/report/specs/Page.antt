@@ -2,7 +2,7 @@
 use Rattle.std.specs.Prelude.{ℕ, ◌+◌, ◌-◌, ◌*◌, ◌≡◌, cond, List, ◌++◌, length, replicate, leb, Result, Ok, Err}
 use Rattle.decimal.specs.Put.{put_on}
 use Rattle.sheet.specs.Versions.{most_records}
-use Rattle.sheet.specs.Refusals.{Answer, given, refused, told}
+use Rattle.sheet.specs.Refusals.{Answer, given, refused, told, told_result}
 use Rattle.report.specs.declared.Page.{Page}
 use Rattle.report.specs.Text.{text_of}
 use Rattle.sheet.specs.declared.Refusal.{Refusal}
@@ -24,16 +24,11 @@ pub record Pages (s : List ℕ) (p : Page) : Type 0 where
   pub len : p.len ≡ length (text_of s)
   pub bytes : p.bytes ≡ text_of s ++ blank (longest - length (text_of s))
 
--- what the code's answer says
-abbrev pub told_length : Result ℕ Refusal → Answer ℕ
-told_length (Ok n) = given n
-told_length (Err r) = told r
-
 -- the text's length, or 5 where the slice is too short for it
 unfoldable pub length_in : (text o : List ℕ) → Answer ℕ
 length_in text o = cond (leb (length text) (length o)) (given (length text)) (refused 5 0)
 
 -- the length of a text is told, and it stands in front of what stood there; a refusal leaves every byte
 pub record Tells (text o : List ℕ) (r : Result ℕ Refusal) (after : List ℕ) : Type 0 where
-  pub answer : told_length r ≡ length_in text o
+  pub answer : told_result r ≡ length_in text o
   pub bytes : after ≡ put_on text o

@@ -46,17 +46,12 @@ place_of (FieldCount p) = p
 abbrev pub told : {A : Type 0} → Refusal → Answer A
 told r = refused (number_of r) (place_of r)
 
-abbrev pub told_outcome : Result (Unit {0}) Refusal → Answer (Unit {0})
-told_outcome (Ok tt) = given tt
-told_outcome (Err r) = told r
+abbrev pub told_as : {A B : Type 0} → (A → B) → Result A Refusal → Answer B
+told_as f (Ok a) = given (f a)
+told_as f (Err r) = told r
 
-abbrev pub told_header : Result Header Refusal → Answer Header
-told_header (Ok h) = given h
-told_header (Err r) = told r
-
-abbrev pub told_record : Result Record Refusal → Answer Record
-told_record (Ok r) = given r
-told_record (Err r) = told r
+abbrev pub told_result : {A : Type 0} → Result A Refusal → Answer A
+told_result = told_as (λ a. a)
 
 -- by the first faulty field, 0 being none: one refusal for the first field of all, another, by the field, for a later one
 abbrev pub refused_at : {A : Type 0} → Answer A → (ℕ → Answer A) → ℕ → Answer A → Answer A

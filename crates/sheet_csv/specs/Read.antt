@@ -1,6 +1,6 @@
 -- A sheet from comma-separated text: the lines in turn, the first faulty one decides; then the table's own refusals on the sheet that they make; then 5.
 use Rattle.std.specs.Prelude.{ℕ, ◌+◌, ◌≡◌, cond, List, [], ◌++◌, map, length, drop, leb, ltb, Result, Ok, Err}
-use Rattle.sheet.specs.Refusals.{Answer, given, refused, told}
+use Rattle.sheet.specs.Refusals.{Answer, given, refused, told, told_result}
 use Rattle.fields.specs.Lines.{Lines, none, bad, row, lines_in}
 use Rattle.text.specs.laws.LinesLaws.{value_in}
 use Rattle.rows.specs.Rows.{header_line, record_line}
@@ -42,10 +42,6 @@ sheet_from s room = sheet_of (lines_in s) room
 
 -- ---- what is answered and written
 
-abbrev pub told_converted : Result ℕ Refusal → Answer ℕ
-told_converted (Ok n) = given n
-told_converted (Err r) = told r
-
 abbrev pub length_of : Answer (List ℕ) → Answer ℕ
 length_of (given b) = given (length b)
 length_of (refused k p) = refused k p
@@ -57,5 +53,5 @@ output_by (refused k p) o = o
 
 -- What the contracts say: how many bytes were written, or why none were, and the output's bytes as the function returns.
 pub record Converts (a : Answer (List ℕ)) (o : List ℕ) (r : Result ℕ Refusal) (after : List ℕ) : Type 0 where
-  pub answer : told_converted r ≡ length_of a
+  pub answer : told_result r ≡ length_of a
   pub bytes : after ≡ output_by a o

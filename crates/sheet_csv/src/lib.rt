@@ -5,9 +5,9 @@ mod page;
 
 ghost use Rattle.std.specs.Prelude.{◌≡◌, [], ◌≤◌, length, take, false};
 ghost use Rattle.filling.specs.Filling.{lines_left};
-ghost use Rattle.sheet_csv.specs.Read.{next_line, records_made, sheet_made, sheet_of, sheet_from, told_converted, Converts};
+ghost use Rattle.sheet_csv.specs.Read.{next_line, records_made, sheet_made, sheet_of, sheet_from, Converts};
 ghost use Rattle.sheet_csv.specs.Table.{by_line, stands, table_from};
-ghost use Rattle.sheet.specs.Refusals.{number_of, place_of};
+ghost use Rattle.sheet.specs.Refusals.{number_of, place_of, told_result};
 ghost use Rattle.sheet_csv.specs.Write.{text_from};
 ghost use Rattle.sheet_csv.specs.Steps.{draft_size, fits_in, sound_in, PutsBehind, Fills};
 
@@ -123,7 +123,7 @@ fn is_by_line(x: Refusal) -> bool
 
 // Whether a refusal by a line stands whatever the second look says.
 fn does_stand(x: Refusal, second: Result<usize, Refusal>) -> bool
-    ensures { result ≡ stands (number_of x) (place_of x) (told_converted second) }
+    ensures { result ≡ stands (number_of x) (place_of x) (told_result second) }
 {
     match (x, second) {
         (Refusal::Text(line), Err(Refusal::FieldCount(other))) => line == other,

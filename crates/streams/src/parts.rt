@@ -1,7 +1,7 @@
 // What the streams have in common: their numbers, and the line of an answer.
 ghost use Rattle.std.specs.Prelude.{◌≡◌, ◌+◌, ◌*◌, ◌≤◌, ◌<◌, length};
+ghost use Rattle.sheet.specs.Refusals.{told_result};
 ghost use Rattle.decimal.specs.Laid.{Laid};
-ghost use Rattle.sheet_csv.specs.Read.{told_converted};
 ghost use Rattle.streams.specs.Parts.{number_at, fields_in, line_for, ShortLine};
 
 use sheet::Refusal;
@@ -60,8 +60,8 @@ pub fn fields(form: &[u8]) -> [u32; 13]
 
 // The line of an answer: a length, or a refusal.
 pub fn put_line(c: Result<usize, Refusal>, line: &mut [u8]) -> usize
-    requires { (22 ≤ length line.old) × ShortLine (told_converted c) }
-    ensures { Laid line.old 0 (line_for (told_converted c)) result line.new }
+    requires { (22 ≤ length line.old) × ShortLine (told_result c) }
+    ensures { Laid line.old 0 (line_for (told_result c)) result line.new }
 {
     match c {
         Ok(n) => decimal::write_number(n as u64, b"\n", line),
@@ -71,7 +71,7 @@ pub fn put_line(c: Result<usize, Refusal>, line: &mut [u8]) -> usize
 
 // The line, and the bytes that it speaks of.
 pub fn print(out: &mut impl Write, c: Result<usize, Refusal>, bytes: &[u8]) -> io::Result<()>
-    requires { ShortLine (told_converted c) }
+    requires { ShortLine (told_result c) }
 {
     let mut line = [0u8; LINE];
     let end = put_line(c, &mut line);

@@ -4,7 +4,7 @@ use Rattle.sheet.specs.declared.Header.{Header}
 use Rattle.sheet.specs.declared.Record.{Record}
 use Rattle.sheet.specs.Header.{header_fault}
 use Rattle.sheet.specs.Record.{record_fault}
-use Rattle.sheet.specs.Refusals.{Answer, given, told, header_refused, record_refused}
+use Rattle.sheet.specs.Refusals.{Answer, given, told, header_refused, record_refused, told_as}
 use Rattle.loads.specs.Sources.{number_of}
 use Rattle.verdict.specs.declared.Verdict.{Verdict}
 use Rattle.sheet.specs.declared.Refusal.{Refusal}
@@ -15,10 +15,12 @@ pub record Finding : Type 0 where
   pub verdict : Verdict
   pub source : ℕ
 
+abbrev pub found : Judged → Finding
+found j = record { verdict = j.verdict; source = number_of j.source }
+
 -- what the code's answer says
 abbrev pub told_judged : Result Judged Refusal → Answer Finding
-told_judged (Ok j) = given (record { verdict = j.verdict; source = number_of j.source })
-told_judged (Err r) = told r
+told_judged = told_as found
 
 -- 2 and 3 for the header, then 6 and 7 for the record as record 0, and else what is given
 unfoldable pub judged_by : {A : Type 0} → Header → Record → A → Answer A

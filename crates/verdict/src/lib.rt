@@ -2,7 +2,7 @@
 #![tactic(auto)]
 
 ghost use Rattle.std.specs.Prelude.{◌≡◌};
-ghost use Rattle.sheet.specs.Refusals.{told_outcome};
+ghost use Rattle.sheet.specs.Refusals.{told_result};
 ghost use Rattle.sheet.specs.Record.{of_plate, of_member};
 ghost use Rattle.verdict.specs.Verdict.{failed_of};
 ghost use Rattle.verdict.specs.Judged.{judged_by};
@@ -35,7 +35,7 @@ pub fn failed(rule: u8, d: Shape, top: u32) -> Verdict
 
 // Whether a header and a plate's record are within their values, so that the plate can be judged: the header first, then the record as record 0.
 pub fn admitted_plate(h: Header, kind: u8, id: u16, p: Plate) -> Result<(), Refusal>
-    ensures { told_outcome result ≡ judged_by h (of_plate kind id p) tt }
+    ensures { told_result result ≡ judged_by h (of_plate kind id p) tt }
 {
     header::header_fault(h)?;
     record::plate_outcome(kind, id, p)
@@ -43,7 +43,7 @@ pub fn admitted_plate(h: Header, kind: u8, id: u16, p: Plate) -> Result<(), Refu
 
 // The same for a member's record.
 pub fn admitted_member(h: Header, kind: u8, id: u16, m: Member) -> Result<(), Refusal>
-    ensures { told_outcome result ≡ judged_by h (of_member kind id m) tt }
+    ensures { told_result result ≡ judged_by h (of_member kind id m) tt }
 {
     header::header_fault(h)?;
     record::member_outcome(kind, id, m)

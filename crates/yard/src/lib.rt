@@ -5,7 +5,7 @@
 ghost use Rattle.std.specs.Prelude.{◌≡◌, length};
 ghost use Rattle.checker.specs.Check.{told_checked};
 ghost use Rattle.checker.specs.Entry.{entry_values, read_entry};
-ghost use Rattle.sheet.specs.Refusals.{told, told_outcome};
+ghost use Rattle.sheet.specs.Refusals.{told, told_result};
 ghost use Rattle.sheet.specs.Header.{read_header};
 ghost use Rattle.sheet.specs.Record.{read_record};
 ghost use Rattle.yard.specs.Packed.{packed, fine, Checks, Reads, Wrote};
@@ -13,7 +13,7 @@ ghost use Rattle.yard.specs.Writing.{write_header_numbers, write_record_numbers}
 ghost use Rattle.yard.specs.Fields.{numbered};
 ghost use Rattle.yard.specs.Editing.{resized, EditsPacked};
 ghost use Rattle.yard.specs.Converting.{ConvertsPacked};
-ghost use Rattle.edit.specs.Edit.{put_numbers_in, remove_in, told_edited};
+ghost use Rattle.edit.specs.Edit.{put_numbers_in, remove_in};
 ghost use Rattle.sheet_csv.specs.Read.{sheet_from};
 ghost use Rattle.sheet_csv.specs.Write.{text_from};
 ghost use Rattle.numbers.specs.Fields.{header_numbers, record_numbers};
@@ -35,7 +35,7 @@ fn packed_refusal(r: Refusal) -> u64
 }
 
 fn packed_outcome(o: Result<(), Refusal>) -> u64
-    ensures { result ≡ fine (told_outcome o) }
+    ensures { result ≡ fine (told_result o) }
 {
     match o {
         Ok(()) => 0,
@@ -130,7 +130,7 @@ pub fn yard_write_record(fields: &[u32; 13], out: &mut [u8]) -> u64
 
 // The length that an edit or a conversion answers.
 fn packed_length(length: Result<usize, Refusal>) -> u64
-    ensures { result ≡ resized (told_edited length) }
+    ensures { result ≡ resized (told_result length) }
 {
     match length {
         Ok(n) => n as u64,

@@ -5,13 +5,13 @@ use Rattle.std.proofs.Common.{sym, ap₂, ◌∙◌, arith, take_all, take-take,
 use Rattle.std.proofs.Math.Path.{ap}
 use Rattle.sheet.specs.declared.Header.{Header}
 use Rattle.sheet.specs.laws.VersionLaws.{regular}
-use Rattle.sheet.specs.Refusals.{Answer, given, refused}
+use Rattle.sheet.specs.Refusals.{Answer, given, refused, told_result}
 use Rattle.sheet.specs.laws.RefusalLaws.{given_refused, refused_number, refused_place}
 use Rattle.checker.specs.Check.{◌then◌, demand, sheet_size, Sheet, sheet_in}
 use Rattle.checker.specs.Unjudged.{room, sound_sheet}
 use Rattle.checker.specs.laws.Longer.{sheet_cut}
 use Rattle.sheet.specs.Versions.{enough}
-use Rattle.edit.specs.Edit.{sheet_at, header_of, After, put_numbers_in, remove_in, told_edited, size_by, Edits}
+use Rattle.edit.specs.Edit.{sheet_at, header_of, After, put_numbers_in, remove_in, size_by, Edits}
 use Rattle.edit.specs.laws.Within.{numbers_within, remove_within, length_within}
 use Rattle.barge_edit.specs.Office.{fields_of, record_count, EditInside, OfFile}
 use Rattle.sheet.specs.declared.Refusal.{Refusal}
@@ -73,7 +73,7 @@ module _ (b : List ℕ) (got : ℕ) (l : enough ≤ length b) (m : got ≤ lengt
   unfolding remove_in ◌then◌
   remove_away id = rw away
 
-  told_away : (x : Answer After) (r : Result ℕ Refusal) (after : List ℕ) → Edits x b r after → x ≡ refused k p → told_edited r ≡ refused k p
+  told_away : (x : Answer After) (r : Result ℕ Refusal) (after : List ℕ) → Edits x b r after → x ≡ refused k p → told_result r ≡ refused k p
   unfolding size_by
   told_away x r after d f = d.answer ∙ ap size_by f
 

@@ -5,7 +5,7 @@ use Rattle.std.proofs.Common.{sym, ap, subst, ◌∙◌, arith, length-append, t
 use Rattle.std.proofs.lemmas.List.{length-replicate}
 use Rattle.sheet.specs.declared.Header.{Header}
 use Rattle.sheet.specs.declared.Record.{Record}
-use Rattle.sheet.specs.Refusals.{Answer, given, told_header}
+use Rattle.sheet.specs.Refusals.{Answer, given, told_result}
 use Rattle.sheet.specs.laws.RefusalLaws.{given_same}
 use Rattle.checker.specs.Check.{◌then◌, sheet_size, Sheet, sheet_in}
 use Rattle.checker.specs.Unjudged.{room as sheetRoom, sound_sheet, sound_header}
@@ -30,7 +30,7 @@ header_cut k s l =
     = sym (sheet_cut (take k s) sheetRoom) ∙ ap (λ (b : List ℕ). sheet_in b sheetRoom) (take-take enough k s l) ∙ sheet_cut s sheetRoom in
     ap (λ (x : Answer Sheet). x then λ t. given t.header) cut
 
-pub sized : (s : List ℕ) (r : Result Header Refusal) → told_header r ≡ sound_header s → Sized r (length s)
+pub sized : (s : List ℕ) (r : Result Header Refusal) → told_result r ≡ sound_header s → Sized r (length s)
 unfolding sound_header sound_sheet
 sized s (Ok h) e =
     let a = then_given (sheet_in s sheetRoom) (λ t. given t.header) h (sym e) in

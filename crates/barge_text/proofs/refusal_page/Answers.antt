@@ -6,16 +6,16 @@ use Prim.Native.Nat.{ℕ}
 use native.Mathlib.Omega.{arith}
 use lib.ListN.{length, take, drop, replicate}
 use lib.Seq.{take_at}
-use Rattle.sheet.specs.Refusals.{given}
+use Rattle.sheet.specs.Refusals.{given, told_result}
 use Rattle.sheet.specs.laws.RefusalLaws.{given_same, given_refused}
-use Rattle.report.specs.Page.{longest, told_length}
+use Rattle.report.specs.Page.{longest}
 use Rattle.report.specs.laws.PageLaws.{refusal_told, length_told}
 use Rattle.report.specs.Pieces.{refusal_text, TellsRefusal}
 use Rattle.sheet.specs.declared.Refusal.{Refusal}
 use Rattle.barge_text.proofs.refusal_page.Goals as goal
 
 module _ (r : Refusal) {told : Result ℕ Refusal} {text : List ℕ} (t : TellsRefusal r (replicate longest 0) told text) where
-  spelled : (told_length told ≡ given (length (refusal_text r))) × (text ≡ refusal_text r ++ drop (length (refusal_text r)) (replicate longest 0))
+  spelled : (told_result told ≡ given (length (refusal_text r))) × (text ≡ refusal_text r ++ drop (length (refusal_text r)) (replicate longest 0))
   spelled = refusal_told r (replicate longest 0) told text (omega arith) t
 
 pub returns : goal.returns

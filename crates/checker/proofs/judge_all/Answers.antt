@@ -4,8 +4,7 @@ use borrow.Author.Rules.{rules}
 use mathlib.Core.Path.{◌≡◌, refl, ap, sym, ◌∙◌}
 use native.Mathlib.Omega.{arith}
 use lib.ListN.{set, length-set}
-use Rattle.sheet.specs.Refusals.{given}
-use Rattle.checker.specs.Entry.{told_entry}
+use Rattle.sheet.specs.Refusals.{given, told_result}
 use Rattle.checker.specs.laws.EntryLaws.{entry_fit}
 use Rattle.checker.specs.Check.{record_part}
 use Rattle.checker.specs.Passes.{judged_after, told_passed}
@@ -26,7 +25,7 @@ returns-in_err-e c =
     let a = c.args in
     let passed_on : c.from_residual.result ≡ Err c.in_err-e.field-0.0 = search rules in
     ap (λ p. told_passed p l.draft) passed_on ∙ pass_refused a.h.count a.h a.records.now l.i l.before l.failed l.draft l.invariant.3 _ _ c.loop-i-test.true
-    (sym (ap told_entry c.in_err-e.was) ∙ c.judged_at.ensures)
+    (sym (ap told_result c.in_err-e.was) ∙ c.judged_at.ensures)
 
 -- src/lib.rt:305:29
 -- LOOK: before
@@ -35,7 +34,7 @@ number_of-requires c =
     let l = c.loop-i in
     let a = c.args in
     entry_fit _ (writable a.h.count a.h a.records.now l.i l.before l.failed l.draft l.invariant.3 c.loop-i-test.true _
-    (sym (ap told_entry c.in_ok-e.was) ∙ c.judged_at.ensures))
+    (sym (ap told_result c.in_ok-e.was) ∙ c.judged_at.ensures))
 
 -- src/lib.rt:306:9
 pub overflow_add-failed : goal.overflow_add-failed
@@ -49,7 +48,7 @@ loop-i-preserved c =
     let l = c.loop-i in
     let a = c.args in
     let e = c.in_ok-e.e in
-    let judged : given e ≡ judged_after a.h l.i l.before (record_part a.records.now l.i) = sym (ap told_entry c.in_ok-e.was) ∙ c.judged_at.ensures in (
+    let judged : given e ≡ judged_after a.h l.i l.before (record_part a.records.now l.i) = sym (ap told_result c.in_ok-e.was) ∙ c.judged_at.ensures in (
       search rules,
       search rules,
       simp length-set l.invariant.2,

@@ -3,7 +3,7 @@
 use Rattle.std.specs.Prelude.{ℕ, ◌*◌, ◌≤◌, ◌≡◌, refl, List, Result}
 use Rattle.std.proofs.Common.{arith, le-leb}
 use Rattle.sheet.specs.declared.Header.{Header}
-use Rattle.sheet.specs.Refusals.{Answer, given, refused, told_header}
+use Rattle.sheet.specs.Refusals.{Answer, given, refused, told_result}
 use Rattle.sheet.specs.laws.RefusalLaws.{header_only}
 use Rattle.sheet.specs.laws.HeaderLaws.{header_ranges}
 use Rattle.sheet.specs.laws.HeaderBack.{header_read_fine}
@@ -24,5 +24,5 @@ room_enough s space l = go (sheet_header s) refl
         rw (e, le-leb (4 * h.count) space (omega arith), le-leb (4 * h.count) room (omega arith))
 
 -- two answers that meet the promise of `sound_header` are equal
-pub sound_header_only : (s : List ℕ) (q r : Result Header Refusal) → told_header q ≡ sound_header s → told_header r ≡ sound_header s → q ≡ r
+pub sound_header_only : (s : List ℕ) (q r : Result Header Refusal) → told_result q ≡ sound_header s → told_result r ≡ sound_header s → q ≡ r
 sound_header_only s q r f g = header_only (sound_header s) q r f g

@@ -4,7 +4,7 @@ use Prim.Native.Nat.{◌+◌, ◌≤◌, ◌<◌}
 use native.Mathlib.Omega.{arith}
 use lib.ListN.{length}
 use Rattle.sheet.specs.declared.Header.{Header}
-use Rattle.sheet.specs.Refusals.{given, told_outcome, header_refused}
+use Rattle.sheet.specs.Refusals.{given, header_refused, told_result}
 use Rattle.sheet.specs.Header.{header_size, header_fault}
 use Rattle.sheet.specs.laws.VersionLaws.{regular}
 use Rattle.checker.specs.Check.{sheet_size}
@@ -29,7 +29,7 @@ room c =
     let within : (c.args.len ≡ sheet_size c.args.h) × (c.args.len ≤ length c.args.buf.now) × (c.args.h.count ≤ highest c.args.h) = size c.args.buf.now c.args.len c.args.h c.requires.0 in
     omega (arith, within.1, c.if-buf-len-lt-RECORD.false)
 
-tested : (c : After-header_fault) → told_outcome c.header_fault.result ≡ header_refused (header_fault (counting (c.args.h.count + 1) c.args.h)) (given (tt {0}))
+tested : (c : After-header_fault) → told_result c.header_fault.result ≡ header_refused (header_fault (counting (c.args.h.count + 1) c.args.h)) (given (tt {0}))
 tested c = c.header_fault.ensures ∙ ap (λ (g : Header). header_refused (header_fault g) (given (tt {0}))) (more c)
 
 -- none of the header's fields is at fault, and n is below its highest
@@ -37,9 +37,9 @@ fine : (c : In-Ok) → let a = c.args in (header_fault (counting (a.h.count + 1)
 fine c =
     let sound : header_fault c.args.h ≡ 0 = its_header c.args.buf.now c.args.len c.args.h c.requires.0 in
     let more : c.counted-more.result ≡ counting (c.args.h.count + 1) c.args.h = c.counted-more.ensures in
-    let tested : told_outcome c.header_fault.result ≡ header_refused (header_fault (counting (c.args.h.count + 1) c.args.h)) (given (tt {0})) = c.header_fault.ensures ∙ ap (λ (g : Header). header_refused (header_fault g) (given (tt {0}))) more in
+    let tested : told_result c.header_fault.result ≡ header_refused (header_fault (counting (c.args.h.count + 1) c.args.h)) (given (tt {0})) = c.header_fault.ensures ∙ ap (λ (g : Header). header_refused (header_fault g) (given (tt {0}))) more in
     let a = c.args in
-    below_highest a.h sound (sym (ap told_outcome c.in-Ok.is) ∙ tested)
+    below_highest a.h sound (sym (ap told_result c.in-Ok.is) ∙ tested)
 
 -- src/lib.rt:96:8
 pub overflow_sub-buf : goal.overflow_sub-buf
@@ -74,7 +74,7 @@ returns-in_default c =
     let a = c.args in
     let b = a.buf.now in
     put_full b a.len a.h c.requires.0 a.r c.requires.1 c.requires.3
-    (at_highest a.h (sound (goal.at.returns-in_default c).After-header_fault) a.len (length b) _ _ (room (goal.at.returns-in_default c).After-header_fault) (sym (ap told_outcome c.in_default.is) ∙ tested (goal.at.returns-in_default c).After-header_fault))
+    (at_highest a.h (sound (goal.at.returns-in_default c).After-header_fault) a.len (length b) _ _ (room (goal.at.returns-in_default c).After-header_fault) (sym (ap told_result c.in_default.is) ∙ tested (goal.at.returns-in_default c).After-header_fault))
 
 -- src/lib.rt:92:1
 pub returns : goal.returns

@@ -4,16 +4,16 @@ use Rattle.std.specs.Prelude.{ℕ, ◌≡◌, List, Result}
 use Rattle.std.proofs.Common.{sym, ◌∙◌}
 use Rattle.sheet.specs.declared.Header.{Header}
 use Rattle.sheet.specs.declared.Record.{Record}
-use Rattle.sheet.specs.Refusals.{told_header, told_record}
+use Rattle.sheet.specs.Refusals.{told_result}
 use Rattle.sheet.specs.laws.RefusalLaws.{header_only, record_only}
 use Rattle.numbers.specs.Fields.{header_numbers, record_numbers}
 use Rattle.numbers.specs.From.{named_size, header_from, record_from}
 use Rattle.sheet.specs.declared.Refusal.{Refusal}
 
-pub header_from_only : (ns : List ℕ) (r s : Result Header Refusal) → told_header r ≡ header_from ns → told_header s ≡ header_from ns → r ≡ s
+pub header_from_only : (ns : List ℕ) (r s : Result Header Refusal) → told_result r ≡ header_from ns → told_result s ≡ header_from ns → r ≡ s
 header_from_only ns r s e f = header_only (header_from ns) r s e f
 
-pub record_from_only : (i : ℕ) (ns : List ℕ) (r s : Result Record Refusal) → told_record r ≡ record_from i ns → told_record s ≡ record_from i ns → r ≡ s
+pub record_from_only : (i : ℕ) (ns : List ℕ) (r s : Result Record Refusal) → told_result r ≡ record_from i ns → told_result s ≡ record_from i ns → r ≡ s
 record_from_only i ns r s e f = record_only (record_from i ns) r s e f
 
 pub header_size_only : (ns : List ℕ) (a b : ℕ) → a ≡ named_size ns → b ≡ named_size ns → a ≡ b

@@ -6,7 +6,7 @@ use Rattle.loads.specs.declared.Load.{Load}
 use Rattle.loads.specs.laws.Only.{load_only}
 use Rattle.loads.specs.Sources.{told_load}
 use Rattle.sheet.specs.Refusals.{Answer}
-use Rattle.sheet.specs.laws.RefusalLaws.{given_refused, refusal_only, refused_number, refused_place, given_same}
+use Rattle.sheet.specs.laws.RefusalLaws.{as_only}
 use Rattle.plating.specs.declared.PlateWork.{PlateWork}
 use Rattle.plating.specs.Work.{Work, told_work, told_worked}
 use Rattle.sheet.specs.declared.Refusal.{Refusal}
@@ -34,7 +34,4 @@ work_only v w e =
     ap₂ with_load load e
 
 pub plate_worked_only : (a : Answer Work) (i j : Result PlateWork Refusal) → told_worked i ≡ a → told_worked j ≡ a → i ≡ j
-plate_worked_only a (Ok v) (Ok w) p q = ap Ok (work_only v w (given_same (p ∙ sym q)))
-plate_worked_only a (Ok v) (Err r) p q = given_refused (p ∙ sym q)
-plate_worked_only a (Err r) (Ok w) p q = given_refused (q ∙ sym p)
-plate_worked_only a (Err r) (Err s) p q = ap Err (refusal_only r s (refused_number (p ∙ sym q)) (refused_place (p ∙ sym q)))
+plate_worked_only = as_only told_work work_only

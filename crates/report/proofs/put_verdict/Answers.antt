@@ -4,8 +4,8 @@ use mathlib.Core.List.{List}
 use Prim.Native.Nat.{ℕ}
 use native.Mathlib.Omega.{arith}
 use lib.ListN.{length}
-use Rattle.sheet.specs.Refusals.{given}
-use Rattle.checker.specs.Entry.{told_entry, read_entry}
+use Rattle.sheet.specs.Refusals.{given, told_result}
+use Rattle.checker.specs.Entry.{read_entry}
 use Rattle.decimal.specs.Laid.{Laid}
 use Rattle.decimal.specs.laws.LaidLaws.{laid_none}
 use Rattle.report.specs.laws.PiecesLaws.{verdict_line_lem, verdict_none, verdict_most}
@@ -16,7 +16,7 @@ use Rattle.report.proofs.put_verdict.Goals as goal
 -- Assumes nothing.
 -- past the match there is a verdict
 verdict_given : (c : In-Ok) → given c.in-Ok.e ≡ read_entry c.args.verdict.now
-verdict_given c = sym (ap told_entry c.in-Ok.is) ∙ c.read_verdict.ensures
+verdict_given c = sym (ap told_result c.in-Ok.is) ∙ c.read_verdict.ensures
 
 pub put_entry-requires : goal.put_entry-requires
 put_entry-requires c =
@@ -32,4 +32,4 @@ pub returns-in-Err : goal.returns-in-Err
 returns-in-Err c =
     let a = c.args in
     subst (λ (t : List ℕ). Laid a.page.now a.at t a.at a.page.now)
-    (verdict_none a.verdict.now _ _ (sym (ap told_entry c.in-Err.is) ∙ c.read_verdict.ensures)) (laid_none a.page.now a.at)
+    (verdict_none a.verdict.now _ _ (sym (ap told_result c.in-Err.is) ∙ c.read_verdict.ensures)) (laid_none a.page.now a.at)

@@ -4,7 +4,7 @@ use Rattle.std.specs.Prelude.{ℕ, ◌+◌, ◌*◌, ◌≤◌, ◌≡◌, refl,
 use Rattle.std.proofs.Common.{sym, ap, ◌∙◌, arith, length-append, take-take}
 use Rattle.sheet.specs.declared.Header.{Header}
 use Rattle.sheet.specs.declared.Record.{Record}
-use Rattle.sheet.specs.Refusals.{Answer, given, refused}
+use Rattle.sheet.specs.Refusals.{Answer, given, refused, told_result}
 use Rattle.sheet.specs.laws.RecordBack.{record_read_fine}
 use Rattle.checker.specs.Check.{◌then◌, records_part, record_part, Sheet, sheet_in, entry_of, verdicts, failures}
 use Rattle.checker.specs.Entry.{entry_values}
@@ -18,7 +18,7 @@ use Rattle.checker.specs.Rows.{Refusable}
 use Rattle.checker.specs.laws.Bounds.{sheet_told, sheet_counts}
 use Rattle.report.specs.Text.{lines_of, printed, line, lines_text, refused_word, text_by, text_of}
 use Rattle.report.specs.laws.TextLaws.{pair_most, entry_most, lines_last}
-use Rattle.report.specs.Page.{longest_line, longest, told_length, Tells}
+use Rattle.report.specs.Page.{longest_line, longest, Tells}
 use Rattle.report.specs.laws.PageLaws.{told_all}
 use Rattle.sheet.specs.declared.Refusal.{Refusal}
 
@@ -61,7 +61,7 @@ text_most s = go (sheet_in s room) refl (sheet_told s room)
         omega (arith, length-append refused_word (line (k ∷ p ∷ [])), most)
 
 -- so that a slice as long as a page is never too short
-pub answer_told : (s o : List ℕ) (r : Result ℕ Refusal) (after : List ℕ) → longest ≤ length o → Tells (text_of s) o r after → (told_length r ≡ given (length (text_of s))) × (after ≡ text_of s ++ drop (length (text_of s)) o)
+pub answer_told : (s o : List ℕ) (r : Result ℕ Refusal) (after : List ℕ) → longest ≤ length o → Tells (text_of s) o r after → (told_result r ≡ given (length (text_of s))) × (after ≡ text_of s ++ drop (length (text_of s)) o)
 answer_told s o r after l t = told_all (text_of s) o r after (omega (arith, text_most s)) t
 
 -- ---- the sheet's length

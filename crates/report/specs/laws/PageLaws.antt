@@ -10,11 +10,11 @@ use Rattle.decimal.specs.laws.PutLaws.{put_none, bytes_all}
 use Rattle.decimal.specs.Laid.{Laid}
 use Rattle.decimal.specs.laws.LaidLaws.{laid_front}
 use Rattle.sheet.specs.declared.Refusal.{Refusal}
-use Rattle.sheet.specs.Refusals.{Answer, given, refused}
-use Rattle.sheet.specs.laws.RefusalLaws.{refusal_only, given_refused, given_same, refused_number, refused_place}
+use Rattle.sheet.specs.Refusals.{Answer, given, refused, told_result}
+use Rattle.sheet.specs.laws.RefusalLaws.{result_only, given_refused, given_same}
 use Rattle.report.specs.declared.Page.{Page}
 use Rattle.report.specs.Text.{text_of}
-use Rattle.report.specs.Page.{longest, blank, Pages, told_length, length_in, Tells}
+use Rattle.report.specs.Page.{longest, blank, Pages, length_in, Tells}
 use Rattle.report.specs.Pieces.{refusal_text, TellsRefusal}
 
 -- ---- a page
@@ -51,7 +51,7 @@ page_only s p q f g = ap₂ {C = Page} (λ b l. record { bytes = b; len = l }) (
 
 module _ (text o : List ℕ) where
   -- it is too short
-  pub tells_none : (r : Result ℕ Refusal) → length o < length text → told_length r ≡ refused 5 0 → Tells text o r o
+  pub tells_none : (r : Result ℕ Refusal) → length o < length text → told_result r ≡ refused 5 0 → Tells text o r o
   unfolding length_in
   tells_none r l e = record { answer = e ∙ rw (lt-leb _ _ l); bytes = (put_none text o l).bytes }
 
@@ -61,22 +61,16 @@ module _ (text o : List ℕ) where
   tells_all n after l e f = record { answer = ap given e ∙ rw (le-leb _ _ l); bytes = f }
 
   -- and the other way: what the promise says of a slice with room
-  pub told_all : (r : Result ℕ Refusal) (after : List ℕ) → length text ≤ length o → Tells text o r after → (told_length r ≡ given (length text)) × (after ≡ text ++ drop (length text) o)
+  pub told_all : (r : Result ℕ Refusal) (after : List ℕ) → length text ≤ length o → Tells text o r after → (told_result r ≡ given (length text)) × (after ≡ text ++ drop (length text) o)
   unfolding length_in
   told_all r after l t = (t.answer ∙ rw (le-leb _ _ l), t.bytes ∙ bytes_all text o l)
 
 -- so that 22 bytes are never too short for a refusal's line
-pub refusal_told : (x : Refusal) (o : List ℕ) (r : Result ℕ Refusal) (after : List ℕ) → 22 ≤ length o → TellsRefusal x o r after → (told_length r ≡ given (length (refusal_text x))) × (after ≡ refusal_text x ++ drop (length (refusal_text x)) o)
+pub refusal_told : (x : Refusal) (o : List ℕ) (r : Result ℕ Refusal) (after : List ℕ) → 22 ≤ length o → TellsRefusal x o r after → (told_result r ≡ given (length (refusal_text x))) × (after ≡ refusal_text x ++ drop (length (refusal_text x)) o)
 refusal_told x o r after l t = told_all (refusal_text x) o r after (omega (arith, t.most)) t.tells
 
-told_only : (a : Answer ℕ) (q r : Result ℕ Refusal) → told_length q ≡ a → told_length r ≡ a → q ≡ r
-told_only a (Ok m) (Ok n) f g = ap Ok (given_same (f ∙ sym g))
-told_only a (Ok m) (Err y) f g = given_refused (f ∙ sym g)
-told_only a (Err x) (Ok n) f g = given_refused (g ∙ sym f)
-told_only a (Err x) (Err y) f g = ap Err (refusal_only x y (refused_number (f ∙ sym g)) (refused_place (f ∙ sym g)))
-
 tells_only : (text o : List ℕ) (q r : Result ℕ Refusal) (a b : List ℕ) → Tells text o q a → Tells text o r b → (q ≡ r) × (a ≡ b)
-tells_only text o q r a b f g = (told_only (length_in text o) q r f.answer g.answer, f.bytes ∙ sym g.bytes)
+tells_only text o q r a b f g = (result_only (length_in text o) q r f.answer g.answer, f.bytes ∙ sym g.bytes)
 
 pub write_answer_only : (s o : List ℕ) (q r : Result ℕ Refusal) (a b : List ℕ) → Tells (text_of s) o q a → Tells (text_of s) o r b → (q ≡ r) × (a ≡ b)
 write_answer_only s o q r a b f g = tells_only (text_of s) o q r a b f g
@@ -85,6 +79,6 @@ pub write_refusal_only : (x : Refusal) (o : List ℕ) (q r : Result ℕ Refusal)
 write_refusal_only x o q r a b f g = tells_only (refusal_text x) o q r a b f.tells g.tells
 
 -- a length that is told is what the answer holds, whatever would stand for a refusal
-pub length_told : (r : Result ℕ Refusal) (n other : ℕ) → told_length r ≡ given n → result_unwrap_or r other ≡ n
+pub length_told : (r : Result ℕ Refusal) (n other : ℕ) → told_result r ≡ given n → result_unwrap_or r other ≡ n
 length_told (Ok m) n other e = given_same e
 length_told (Err x) n other e = given_refused (sym e)

@@ -7,7 +7,7 @@ use Rattle.sheet.specs.declared.Header.{Header}
 use Rattle.sheet.specs.declared.Record.{Record}
 use Rattle.sheet.specs.declared.Refusal.{Refusal}
 use Rattle.sheet.specs.declared.Refusal.TheVariants.{SheetShort, Version, HeaderField, TooSlender, SheetLength, OutputShort, Kind, Field, Order, NoSuchId, NoRoom, Text, FieldCount}
-use Rattle.sheet.specs.Refusals.{Answer, given, refused, number_of, place_of, told, told_outcome, told_header, told_record, refused_at}
+use Rattle.sheet.specs.Refusals.{Answer, given, refused, number_of, place_of, told, refused_at, told_result, told_as}
 
 -- the refusal of a number and a place
 abbrev pub refusal_of : (k p : ℕ) → Refusal
@@ -38,42 +38,6 @@ back (FieldCount p) = refl
 pub refusal_only : (r s : Refusal) → number_of r ≡ number_of s → place_of r ≡ place_of s → r ≡ s
 refusal_only r s e f = sym (back r) ∙ ap₂ refusal_of e f ∙ back s
 
--- an answer taken back to the code's
-abbrev outcome_of : Answer (Unit {0}) → Result (Unit {0}) Refusal
-outcome_of (given u) = (Ok tt)
-outcome_of (refused k p) = Err (refusal_of k p)
-
-outcome_back : (o : Result (Unit {0}) Refusal) → outcome_of (told_outcome o) ≡ o
-outcome_back (Ok tt) = refl
-outcome_back (Err r) = ap Err (back r)
-
-pub outcome_only : (a : Answer (Unit {0})) (o p : Result (Unit {0}) Refusal) → told_outcome o ≡ a → told_outcome p ≡ a → o ≡ p
-outcome_only a o p e f = sym (outcome_back o) ∙ ap outcome_of (e ∙ sym f) ∙ outcome_back p
-
-abbrev header_of : Answer Header → Result Header Refusal
-header_of (given h) = Ok h
-header_of (refused k p) = Err (refusal_of k p)
-
-header_back : (r : Result Header Refusal) → header_of (told_header r) ≡ r
-header_back (Ok h) = refl
-header_back (Err r) = ap Err (back r)
-
-pub header_only : (a : Answer Header) (r s : Result Header Refusal) → told_header r ≡ a → told_header s ≡ a → r ≡ s
-header_only a r s e f = sym (header_back r) ∙ ap header_of (e ∙ sym f) ∙ header_back s
-
-abbrev record_of : Answer Record → Result Record Refusal
-record_of (given r) = Ok r
-record_of (refused k p) = Err (refusal_of k p)
-
-record_back : (r : Result Record Refusal) → record_of (told_record r) ≡ r
-record_back (Ok r) = refl
-record_back (Err r) = ap Err (back r)
-
-pub record_only : (a : Answer Record) (r s : Result Record Refusal) → told_record r ≡ a → told_record s ≡ a → r ≡ s
-record_only a r s e f = sym (record_back r) ∙ ap record_of (e ∙ sym f) ∙ record_back s
-
--- ---- what is refused by a first faulty field
-
 -- what is given is not refused
 pub given_refused : {A B : Type 0} {a : A} {k p : ℕ} → given a ≡ refused k p → B
 given_refused {A} e = let z : ◌≡◌ {A = ℕ} 0 1 = cc in absurd (omega arith)
@@ -86,6 +50,27 @@ refused_place e = cc
 
 pub given_same : {A : Type 0} {a b : A} → ◌≡◌ {A = Answer A} (given a) (given b) → a ≡ b
 given_same e = cc
+
+-- two answers of the code that say the same, where what is told of a value tells it from others
+pub as_only : {A B : Type 0} (f : A → B) → ((x y : A) → f x ≡ f y → x ≡ y) → (a : Answer B) (q r : Result A Refusal) → told_as f q ≡ a → told_as f r ≡ a → q ≡ r
+as_only f apart a (Ok x) (Ok y) d e = ap Ok (apart x y (given_same (d ∙ sym e)))
+as_only f apart a (Ok x) (Err s) d e = given_refused (d ∙ sym e)
+as_only f apart a (Err r) (Ok y) d e = given_refused (e ∙ sym d)
+as_only f apart a (Err r) (Err s) d e = ap Err (refusal_only r s (refused_number (d ∙ sym e)) (refused_place (d ∙ sym e)))
+
+pub result_only : {A : Type 0} (a : Answer A) (q r : Result A Refusal) → told_result q ≡ a → told_result r ≡ a → q ≡ r
+result_only = as_only (λ x. x) (λ x y e. e)
+
+pub outcome_only : (a : Answer (Unit {0})) (o p : Result (Unit {0}) Refusal) → told_result o ≡ a → told_result p ≡ a → o ≡ p
+outcome_only = result_only
+
+pub header_only : (a : Answer Header) (r s : Result Header Refusal) → told_result r ≡ a → told_result s ≡ a → r ≡ s
+header_only = result_only
+
+pub record_only : (a : Answer Record) (r s : Result Record Refusal) → told_result r ≡ a → told_result s ≡ a → r ≡ s
+record_only = result_only
+
+-- ---- what is refused by a first faulty field
 
 -- the answer by the field: none, the first, a later one
 module _ {A : Type 0} (first : Answer A) (later : ℕ → Answer A) (f : ℕ) (fine : Answer A) where

@@ -2,9 +2,9 @@ use Rattle.std.specs.Prelude.{Result, Ok, Err}
 use Rattle.std.proofs.Common.{ℕ, ◌≡◌, true, false, List, length, sym, subst, ◌∙◌}
 use Rattle.fields.specs.Lines.{lines_at}
 use Rattle.sheet.specs.declared.Refusal.{Refusal}
-use Rattle.sheet.specs.Refusals.{number_of, place_of}
+use Rattle.sheet.specs.Refusals.{number_of, place_of, told_result}
 use Rattle.filling.specs.Filling.{lines_left}
-use Rattle.sheet_csv.specs.Read.{sheet_of, sheet_from, told_converted, Converts}
+use Rattle.sheet_csv.specs.Read.{sheet_of, sheet_from, Converts}
 use Rattle.sheet_csv.specs.Table.{unfilled_from, by_line, stands, table_from}
 use Rattle.sheet_csv.specs.laws.TableLaws.{look_taken, look_lent, look_other, look_again, look_stands}
 use Rattle.sheet_csv.proofs.read_table.Goals as goal
@@ -24,11 +24,11 @@ module _ (s o : List ℕ) (first : Result ℕ Refusal) (mid : List ℕ) (h : Con
     unfolding lines_left lines_at sheet_from
     lent = subst (λ (l : List ℕ). Converts (unfilled_from s (length l)) l second after) (look_lent (sheet_from s (length o)) (unfilled_from s (length o)) o first mid h x e) g
 
-    again : stands (number_of x) (place_of x) (told_converted second) ≡ false → Converts (table_from s (length o)) o second after
+    again : stands (number_of x) (place_of x) (told_result second) ≡ false → Converts (table_from s (length o)) o second after
     unfolding lines_left lines_at sheet_from table_from
     again u = look_again (sheet_from s (length o)) (unfilled_from s (length o)) o first mid h x e f second after lent u
 
-    stood : stands (number_of x) (place_of x) (told_converted second) ≡ true → Converts (table_from s (length o)) o (Err x) after
+    stood : stands (number_of x) (place_of x) (told_result second) ≡ true → Converts (table_from s (length o)) o (Err x) after
     unfolding lines_left lines_at sheet_from table_from
     stood u = look_stands (sheet_from s (length o)) (unfilled_from s (length o)) o first mid h x e f second after lent u
 

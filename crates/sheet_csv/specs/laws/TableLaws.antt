@@ -3,11 +3,11 @@
 use Rattle.std.specs.Prelude.{ℕ, ◌≡◌, refl, Bool, true, false, cond, not, ◌&&◌, ◌||◌, List, eqb, Result, Ok, Err}
 use Rattle.std.proofs.Common.{sym, ap, ap₂, subst, ◌∙◌, true≢false, eqb-true}
 use Rattle.sheet.specs.declared.Refusal.{Refusal}
-use Rattle.sheet.specs.Refusals.{Answer, given, refused, number_of, place_of}
+use Rattle.sheet.specs.Refusals.{Answer, given, refused, number_of, place_of, told_result}
 use Rattle.sheet.specs.laws.RefusalLaws.{given_refused, refused_number, refused_place}
 use Rattle.fields.specs.Lines.{Lines, lines_at}
 use Rattle.filling.specs.Filling.{lines_left}
-use Rattle.sheet_csv.specs.Read.{sheet_of, sheet_from, told_converted, length_of, output_by, Converts}
+use Rattle.sheet_csv.specs.Read.{sheet_of, sheet_from, length_of, output_by, Converts}
 use Rattle.sheet_csv.specs.Table.{unfilled_from, by_line, stands, of_both, table_from}
 
 -- ---- what the code answers
@@ -17,17 +17,17 @@ module _ (a b : Answer (List ℕ)) (o : List ℕ) (first : Result ℕ Refusal) (
   pub look_taken : (n : ℕ) → first ≡ Ok n → Converts (of_both a b) o first mid
   look_taken n e = subst (λ (x : Answer (List ℕ)). Converts x o first mid) (sym (go a h.answer)) h
     where
-      go : (x : Answer (List ℕ)) → told_converted first ≡ length_of x → of_both x b ≡ x
+      go : (x : Answer (List ℕ)) → told_result first ≡ length_of x → of_both x b ≡ x
       go (given c) f = refl
-      go (refused k p) f = given_refused (sym (ap told_converted e) ∙ f)
+      go (refused k p) f = given_refused (sym (ap told_result e) ∙ f)
 
   module _ (x : Refusal) (e : first ≡ Err x) where
     turned : a ≡ refused (number_of x) (place_of x)
     turned = go a h.answer
       where
-        go : (y : Answer (List ℕ)) → told_converted first ≡ length_of y → y ≡ refused (number_of x) (place_of x)
-        go (given c) f = given_refused (sym f ∙ ap told_converted e)
-        go (refused k p) f = let t = sym f ∙ ap told_converted e in ap₂ refused (refused_number t) (refused_place t)
+        go : (y : Answer (List ℕ)) → told_result first ≡ length_of y → y ≡ refused (number_of x) (place_of x)
+        go (given c) f = given_refused (sym f ∙ ap told_result e)
+        go (refused k p) f = let t = sym f ∙ ap told_result e in ap₂ refused (refused_number t) (refused_place t)
 
     pub look_lent : mid ≡ o
     look_lent = h.bytes ∙ ap (λ (y : Answer (List ℕ)). output_by y o) turned
@@ -37,14 +37,14 @@ module _ (a b : Answer (List ℕ)) (o : List ℕ) (first : Result ℕ Refusal) (
 
     module _ (f : by_line (number_of x) ≡ true) (second : Result ℕ Refusal) (after : List ℕ) (g : Converts b o second after) where
       -- the code goes by the answer that it has
-      same : (y : Answer (List ℕ)) → told_converted second ≡ length_of y → stands (number_of x) (place_of x) (told_converted second) ≡ stands (number_of x) (place_of x) y
+      same : (y : Answer (List ℕ)) → told_result second ≡ length_of y → stands (number_of x) (place_of x) (told_result second) ≡ stands (number_of x) (place_of x) y
       same (given c) u = ap (stands (number_of x) (place_of x)) u
       same (refused k p) u = ap (stands (number_of x) (place_of x)) u
 
-      pub look_again : stands (number_of x) (place_of x) (told_converted second) ≡ false → Converts (of_both a b) o second after
+      pub look_again : stands (number_of x) (place_of x) (told_result second) ≡ false → Converts (of_both a b) o second after
       look_again u = subst (λ (y : Answer (List ℕ)). Converts y o second after) (sym (ap (λ (y : Answer (List ℕ)). of_both y b) turned ∙ rw (f, sym (same b g.answer) ∙ u))) g
 
-      pub look_stands : stands (number_of x) (place_of x) (told_converted second) ≡ true → Converts (of_both a b) o (Err x) after
+      pub look_stands : stands (number_of x) (place_of x) (told_result second) ≡ true → Converts (of_both a b) o (Err x) after
       look_stands u =
           let v = sym (same b g.answer) ∙ u in
           let w : of_both a b ≡ refused (number_of x) (place_of x) = ap (λ (y : Answer (List ℕ)). of_both y b) turned ∙ rw (f, v) in

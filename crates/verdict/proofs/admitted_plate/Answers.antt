@@ -2,7 +2,7 @@
 use Rattle.std.specs.Prelude.{Err}
 use mathlib.Core.Path.{◌≡◌, sym, ap, ◌∙◌}
 use Rattle.std.proofs.Common.{rules}
-use Rattle.sheet.specs.Refusals.{told_outcome, record_refused, given}
+use Rattle.sheet.specs.Refusals.{record_refused, given, told_result}
 use Rattle.sheet.specs.Record.{of_plate, record_fault}
 use Rattle.verdict.specs.laws.JudgedLaws.{header_first, then_record}
 use Rattle.verdict.proofs.admitted_plate.Goals as goal
@@ -11,12 +11,12 @@ pub returns-in_err-header_fault : goal.returns-in_err-header_fault
 returns-in_err-header_fault c =
     let a = c.args in
     let passed_on : c.from_residual.result ≡ Err c.in_err-header_fault.field-0.0 = search rules in
-    ap told_outcome passed_on ∙ sym (header_first a.h (of_plate a.kind a.id a.p) _ _ (sym c.header_fault.ensures ∙ ap told_outcome c.in_err-header_fault.was))
+    ap told_result passed_on ∙ sym (header_first a.h (of_plate a.kind a.id a.p) _ _ (sym c.header_fault.ensures ∙ ap told_result c.in_err-header_fault.was))
 
 -- LOOK: κs/given
 pub returns : goal.returns
 returns c =
     let a = c.args in
     let r = of_plate a.kind a.id a.p in
-    let second : told_outcome c.plate_outcome.result ≡ record_refused 0 (record_fault r 0) (given tt) = c.plate_outcome.ensures in
-    second ∙ then_record a.h r (sym c.header_fault.ensures ∙ ap told_outcome c.in_ok-header_fault.was)
+    let second : told_result c.plate_outcome.result ≡ record_refused 0 (record_fault r 0) (given tt) = c.plate_outcome.ensures in
+    second ∙ then_record a.h r (sym c.header_fault.ensures ∙ ap told_result c.in_ok-header_fault.was)

@@ -9,11 +9,11 @@ use Rattle.sheet.specs.declared.Record.{Record}
 use Rattle.sheet.specs.declared.Refusal.{Refusal}
 use Rattle.sheet.specs.Header.{header_fault}
 use Rattle.sheet.specs.Record.{record_fault}
-use Rattle.sheet.specs.Refusals.{Answer, given, refused, told, told_outcome, header_refused, record_refused}
-use Rattle.sheet.specs.laws.RefusalLaws.{given_refused, refusal_only, refused_number, refused_place, given_same, by_none}
+use Rattle.sheet.specs.Refusals.{Answer, given, refused, told, header_refused, record_refused, told_result}
+use Rattle.sheet.specs.laws.RefusalLaws.{given_refused, refusal_only, refused_number, refused_place, given_same, by_none, as_only}
 use Rattle.loads.specs.laws.Only.{source_only}
 use Rattle.verdict.specs.declared.Verdict.{Verdict}
-use Rattle.verdict.specs.Judged.{Finding, told_judged, judged_by, Sound}
+use Rattle.verdict.specs.Judged.{Finding, told_judged, judged_by, Sound, found}
 use Rattle.verdict.specs.declared.Judged.{Judged}
 
 -- the tests that the answer goes by
@@ -62,21 +62,16 @@ module _ (h : Header) (r : Record) where
       tested_refused (eqb (header_fault h) 0) (eqb (header_fault h) 1) (eqb (record_fault r 0) 0) (eqb (record_fault r 0) 1) (header_fault h) (32 * 0 + record_fault r 0) a b k p e
 
 -- an answer to whether the two are within their values: nothing is at fault, or the refusal is what judging answers
-module _ (h : Header) (r : Record) (o : Result (Unit {0}) Refusal) (asked : told_outcome o ≡ judged_by h r (tt {0})) where
+module _ (h : Header) (r : Record) (o : Result (Unit {0}) Refusal) (asked : told_result o ≡ judged_by h r (tt {0})) where
   pub admitted_sound : o ≡ (Ok tt) → Sound h r
-  admitted_sound e = given_sound h r (tt {0}) (tt {0}) (sym asked ∙ ap told_outcome e)
+  admitted_sound e = given_sound h r (tt {0}) (tt {0}) (sym asked ∙ ap told_result e)
 
   pub turned_away : {A : Type 0} (a : A) (x : Refusal) → o ≡ Err x → told x ≡ judged_by h r a
-  turned_away a x e = sym (refused_same h r (tt {0}) a _ _ (sym asked ∙ ap told_outcome e))
+  turned_away a x e = sym (refused_same h r (tt {0}) a _ _ (sym asked ∙ ap told_result e))
 
 -- two answers that say the same are equal
 pub judged_only : (a : Answer Finding) (i j : Result Judged Refusal) → told_judged i ≡ a → told_judged j ≡ a → i ≡ j
-judged_only a (Ok i) (Ok j) p q =
-    let e = given_same (p ∙ sym q) in
-    ap₂ {C = Result Judged Refusal} (λ v s. Ok (record { verdict = v; source = s })) (ap (λ (f : Finding). f.verdict) e) (source_only i.source j.source (ap (λ (f : Finding). f.source) e))
-judged_only a (Ok i) (Err r) p q = given_refused (p ∙ sym q)
-judged_only a (Err r) (Ok j) p q = given_refused (q ∙ sym p)
-judged_only a (Err r) (Err s) p q = ap Err (refusal_only r s (refused_number (p ∙ sym q)) (refused_place (p ∙ sym q)))
+judged_only = as_only found (λ i j e. ap₂ {C = Judged} (λ v s. record { verdict = v; source = s }) (ap (λ (f : Finding). f.verdict) e) (source_only i.source j.source (ap (λ (f : Finding). f.source) e)))
 
 -- the header goes first
 module _ (h : Header) (r : Record) where

@@ -1,8 +1,8 @@
 -- `streams::parts::print` is safe and ends: the line has room.
 use Rattle.std.proofs.Common.{◌≡◌, ℕ, ◌≤◌, List, length, replicate, sym, arith, length-take-le}
+use Rattle.sheet.specs.Refusals.{told_result}
 use Rattle.decimal.specs.Laid.{Laid}
 use Rattle.decimal.specs.laws.LaidLaws.{laid_inside}
-use Rattle.sheet_csv.specs.Read.{told_converted}
 use Rattle.streams.specs.Parts.{line_for}
 use Rattle.streams.proofs.parts.print.Goals as goal
 
@@ -12,7 +12,7 @@ within text k l =
     omega (arith, most, l.place, k)
 
 pub slice_bounds-line-end : goal.slice_bounds-line-end
-slice_bounds-line-end g c = within (line_for (told_converted c.args.c)) c.put_line-end.auto.line c.put_line-end.ensures
+slice_bounds-line-end g c = within (line_for (told_result c.args.c)) c.put_line-end.auto.line c.put_line-end.ensures
 
 pub slice_bounds-write_all-end : goal.slice_bounds-write_all-end
-slice_bounds-write_all-end g c = sym (length-take-le _ _ (within (line_for (told_converted c.args.c)) c.put_line-end.auto.line c.put_line-end.ensures))
+slice_bounds-write_all-end g c = sym (length-take-le _ _ (within (line_for (told_result c.args.c)) c.put_line-end.auto.line c.put_line-end.ensures))

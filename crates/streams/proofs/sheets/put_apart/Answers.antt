@@ -3,22 +3,22 @@ use Rattle.std.specs.Prelude.{Result, Ok}
 use Rattle.std.proofs.Common.{◌≡◌, ℕ, ◌<◌, List, [], ◌∷◌, ◌++◌, length, take, drop, sym, ap, ◌∙◌, arith, add-one, take_at}
 use lib.ListN.{set, length-set}
 use lib.Seq.{take-suc-set}
-use Rattle.sheet.specs.Refusals.{given}
+use Rattle.sheet.specs.Refusals.{given, told_result}
 use Rattle.sheet.specs.laws.RefusalLaws.{given_same, given_refused}
 use Rattle.report.specs.Text.{text_of}
-use Rattle.report.specs.Page.{longest, told_length, Tells}
+use Rattle.report.specs.Page.{longest, Tells}
 use Rattle.report.specs.laws.Longest.{text_most, answer_told}
 use Rattle.streams.proofs.sheets.put_apart.Goals as goal
 use Rattle.sheet.specs.declared.Refusal.{Refusal}
 
 -- the text stands in front, and its length is told
 module _ (s o : List ℕ) (room : longest < length o) {r : Result ℕ Refusal} {after : List ℕ} (t : Tells (text_of s) o r after) where
-  told : (told_length r ≡ given (length (text_of s))) × (after ≡ text_of s ++ drop (length (text_of s)) o)
+  told : (told_result r ≡ given (length (text_of s))) × (after ≡ text_of s ++ drop (length (text_of s)) o)
   told = answer_told s o r after (omega (arith, room)) t
 
   -- its length
   len_is : (len : ℕ) → r ≡ Ok len → len ≡ length (text_of s)
-  len_is len e = given_same (sym (ap told_length e) ∙ told.0)
+  len_is len e = given_same (sym (ap told_result e) ∙ told.0)
 
   -- and the byte behind it is in the slice
   behind : (len : ℕ) → r ≡ Ok len → length after ≡ length o → len < length after
@@ -50,4 +50,4 @@ returns c =
 pub returns-in_default : goal.returns-in_default
 returns-in_default c =
     let t = told c.args.sheet.now c.args.text.now c.requires c.write_answer.ensures in
-    given_refused (sym t.0 ∙ ap told_length c.in_default.is)
+    given_refused (sym t.0 ∙ ap told_result c.in_default.is)

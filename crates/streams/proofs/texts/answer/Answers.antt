@@ -4,9 +4,9 @@ use mathlib.Core.Path.{◌≡◌, ap, ◌∙◌}
 use mathlib.Core.List.{List}
 use native.Mathlib.Omega.{arith}
 use lib.ListN.{length, drop, length-append}
-use Rattle.sheet.specs.Refusals.{Answer, given, refused}
+use Rattle.sheet.specs.Refusals.{Answer, given, refused, told_result}
 use Rattle.decimal.specs.laws.LaidLaws.{laid_inside, laid_taken}
-use Rattle.sheet_csv.specs.Read.{told_converted, length_of, output_by}
+use Rattle.sheet_csv.specs.Read.{length_of, output_by}
 use Rattle.streams.specs.Parts.{line_for, ShortLine}
 use Rattle.streams.proofs.texts.answer.Goals as goal
 
@@ -17,7 +17,7 @@ inside (refused m p) o after l k e = tt
 
 pub returns : goal.returns
 returns c =
-    let text = line_for (told_converted c.converted-c.result) in
+    let text = line_for (told_result c.converted-c.result) in
     let room = laid_inside c.args.line.now text c.put_line.ensures c.put_line.auto.line in
     record {
       inside = omega (arith, room, c.put_line.ensures.place, c.put_line.auto.line);
