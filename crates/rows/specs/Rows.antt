@@ -1,6 +1,6 @@
 -- A line of numbers as the bytes of a header or of a record, or why it is none: 15 for a wrong count of fields, 14 for a field that is no number so written
 -- or too wide. What is no number counts as one that is too wide.
-use Rattle.std.specs.Prelude.{ℕ, ◌+◌, ◌-◌, Bool, cond, not, ◌&&◌, List, [], ◌∷◌, ◌++◌, length, get_or, replicate, eqb}
+use Rattle.std.specs.Prelude.{ℕ, ◌+◌, ◌-◌, Bool, cond, not, ◌&&◌, List, [], ◌∷◌, ◌++◌, length, get_or, replicate, eqb, Option, Some, None, Result, Ok, Err}
 use Rattle.quantity.specs.Range.{Range, within, from}
 use Rattle.layout.specs.Layout.{pack, unpack, bytes}
 use Rattle.sheet.specs.Versions.{Version, first_bytes, version_numbers, numbered}
@@ -10,7 +10,7 @@ use Rattle.sheet.specs.Refusals.{Answer, given, refused, told}
 use Rattle.text.specs.declared.LineEnd.{LineEnd}
 use Rattle.text.specs.Line.{Numbers}
 use Rattle.rows.specs.declared.Row.{Row}
-use Rattle.rows.specs.declared.RowEnd.{RowEnd}
+use Rattle.sheet.specs.declared.Refusal.{Refusal}
 use Rattle.rows.specs.Pack.{fields_from, fields_of, below, powers}
 use Rattle.rows.specs.Forms.{first_count, own_count, record_widths, record_count}
 
@@ -103,14 +103,15 @@ pub record Shown : Type 0 where
   pub size : ℕ
   pub bytes : List ℕ
 
--- what the code's answer says
-abbrev pub told_end : RowEnd → Answer LineEnd
-told_end (RowEnd.More next) = given (LineEnd.More next)
-told_end RowEnd.Last = given LineEnd.Last
-told_end (RowEnd.Refused r) = told r
+-- how a line ends behind which the next one starts at a place, if there is one
+abbrev pub end_by : Option ℕ → LineEnd
+end_by (Some next) = LineEnd.More next
+end_by None = LineEnd.Last
 
-abbrev pub told_row : Row → Shown
-told_row r = record { answer = told_end r.end; size = r.size; bytes = r.bytes }
+-- what the code's answer says; of a line that is turned away there are no bytes
+abbrev pub told_row : Result Row Refusal → Shown
+told_row (Ok r) = record { answer = given (end_by r.next); size = r.size; bytes = r.bytes }
+told_row (Err x) = record { answer = told x; size = 0; bytes = zeros 20 }
 
 -- a line's bytes in front of zeros; of one that is turned away nothing
 abbrev pub shown : Answer Made → Shown

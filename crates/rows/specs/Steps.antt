@@ -1,8 +1,7 @@
 -- What the functions of this crate say to each other. No promise to a caller rests on this.
-use Rattle.std.specs.Prelude.{ℕ, Bool, true, false, List, ◌++◌, take, drop}
+use Rattle.std.specs.Prelude.{ℕ, Bool, true, false, List, ◌++◌, take, drop, Option, Some, None}
 use Rattle.text.specs.declared.LineEnd.{LineEnd}
 use Rattle.rows.specs.declared.form.Form.{Form}
-use Rattle.rows.specs.declared.RowEnd.{RowEnd}
 use Rattle.rows.specs.Pack.{fields_from, fields_of, packed_on}
 use Rattle.rows.specs.Forms.{first_count}
 use Rattle.rows.specs.Rows.{zeros}
@@ -12,10 +11,11 @@ is_fault (LineEnd.More next) = false
 is_fault LineEnd.Last = false
 is_fault LineEnd.Fault = true
 
-abbrev pub row_end : LineEnd → RowEnd
-row_end (LineEnd.More next) = RowEnd.More next
-row_end LineEnd.Last = RowEnd.Last
-row_end LineEnd.Fault = RowEnd.Last
+-- where the line behind one that ends so starts
+abbrev pub next_of : LineEnd → Option ℕ
+next_of (LineEnd.More next) = Some next
+next_of LineEnd.Last = None
+next_of LineEnd.Fault = None
 
 -- of thirteen numbers those of the first fields, and those behind them, with zeros behind each
 abbrev pub first_part : List ℕ → List ℕ

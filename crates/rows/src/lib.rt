@@ -6,30 +6,21 @@ mod pack;
 
 ghost use Rattle.std.specs.Prelude.{◌≡◌, not, ◌&&◌, ◌+◌, ◌≤◌, eqb};
 ghost use Rattle.quantity.specs.Range.{within, from};
-ghost use Rattle.sheet.specs.Refusals.{told};
 ghost use Rattle.filling.specs.Filling.{line_left};
 ghost use Rattle.rows.specs.Pack.{below, fields_of};
 ghost use Rattle.rows.specs.Rows.{taken as taken_of, header_line, record_line, row_by, header_row, record_row, shown, told_row};
-ghost use Rattle.rows.specs.Steps.{is_fault, row_end, first_part, own_part, placed_of};
+ghost use Rattle.rows.specs.Steps.{is_fault, next_of, first_part, own_part, placed_of};
 
 use form::Form;
 use sheet::Refusal;
 use text::LineEnd;
 
-// How a line ends that can be made into bytes, or why it cannot.
-#[derive(Clone, Copy)]
-pub enum RowEnd {
-    More(usize),
-    Last,
-    Refused(Refusal),
-}
-
-// The bytes of a line, so many of them and then zeros; of one that is turned away there are none.
+// The bytes of a line, so many of them and then zeros, and where the next line starts, if there is one.
 #[derive(Clone, Copy)]
 pub struct Row {
     pub bytes: [u8; 20],
     pub size: usize,
-    pub end: RowEnd,
+    pub next: Option<usize>,
 }
 
 fn is_within(x: u32, low: u32, high: u32) -> bool
@@ -71,30 +62,17 @@ fn own_part(n: [u32; 13]) -> [u32; 13]
 fn is_fault(end: LineEnd) -> bool
     ensures { result ≡ is_fault end }
 {
-    match end {
-        LineEnd::More(_) => false,
-        LineEnd::Last => false,
-        LineEnd::Fault => true,
-    }
+    matches!(end, LineEnd::Fault)
 }
 
-fn refused(x: Refusal) -> Row
-    ensures { told_row result ≡ shown (told x) }
-{
-    Row {
-        bytes: [0u8; 20],
-        size: 0,
-        end: RowEnd::Refused(x),
-    }
-}
-
-fn row_end(end: LineEnd) -> RowEnd
-    ensures { result ≡ row_end end }
+// Where the line behind one that ends so starts.
+fn next_of(end: LineEnd) -> Option<usize>
+    ensures { result ≡ next_of end }
 {
     match end {
-        LineEnd::More(next) => RowEnd::More(next),
-        LineEnd::Last => RowEnd::Last,
-        LineEnd::Fault => RowEnd::Last,
+        LineEnd::More(next) => Some(next),
+        LineEnd::Last => None,
+        LineEnd::Fault => None,
     }
 }
 
@@ -102,10 +80,7 @@ fn row_end(end: LineEnd) -> RowEnd
 fn miscounted(known: bool, count: usize, numbers: usize) -> bool
     ensures { result ≡ (known && not (eqb count numbers)) }
 {
-    if known {
-        return count != numbers;
-    }
-    false
+    known && count != numbers
 }
 
 // The numbers into the bytes of their fields, which begin at a place.
@@ -121,40 +96,37 @@ fn placed(nums: [u32; 13], form: Form, at: usize, bytes: [u8; 20]) -> [u8; 20]
     out
 }
 
-fn record_row(nums: [u32; 13], count: usize, line: u32, end: LineEnd) -> Row
+fn record_row(nums: [u32; 13], count: usize, line: u32, end: LineEnd) -> Result<Row, Refusal>
     ensures { told_row result ≡ shown (row_by line end (record_line line count nums)) }
 {
     if is_fault(end) {
-        return refused(Refusal::Text(line));
+        return Err(Refusal::Text(line));
     }
     let kind = nums[0];
     let known = is_within(kind, 1, 8);
     let form = form::record(kind);
     if miscounted(known, count, form.numbers) {
-        return refused(Refusal::FieldCount(line));
+        return Err(Refusal::FieldCount(line));
     }
     let ns = taken(known, nums);
-    let limits = form.limits;
-    if pack::fits(ns, limits, form.count) {
-        let bytes = placed(ns, form, 0, [0u8; 20]);
-        return Row {
-            bytes,
-            size: form.size,
-            end: row_end(end),
-        };
+    if !pack::fits(ns, form.limits, form.count) {
+        return Err(Refusal::Text(line));
     }
-    refused(Refusal::Text(line))
+    let bytes = placed(ns, form, 0, [0u8; 20]);
+    Ok(Row {
+        bytes,
+        size: form.size,
+        next: next_of(end),
+    })
 }
 
 // The line of a text that starts at a place, as a record; where it is filled up, without its filling.
-pub fn record_at(text: &[u8], at: usize, line: u32, filled: bool) -> Row
+pub fn record_at(text: &[u8], at: usize, line: u32, filled: bool) -> Result<Row, Refusal>
     ensures { told_row result ≡ shown (record_row line (line_left filled text.now at)) }
 {
     let mut nums = [0u32; 13];
     let read = filling::line_at(text, at, filled, &mut nums);
-    let count = read.count;
-    let end = read.end;
-    record_row(nums, count, line, end)
+    record_row(nums, read.count, line, read.end)
 }
 
 // Whether the numbers fit the fields of both parts of a header.
@@ -162,49 +134,42 @@ fn both_fit(first: [u32; 13], f: Form, own: [u32; 13], o: Form) -> bool
     requires { (f.count ≤ 13) × (o.count ≤ 13) }
     ensures { result ≡ (below (fields_of f.count f.limits) (fields_of f.count first) && below (fields_of o.count o.limits) (fields_of o.count own)) }
 {
-    let first_limits = f.limits;
-    let own_limits = o.limits;
-    if pack::fits(first, first_limits, f.count) {
-        return pack::fits(own, own_limits, o.count);
-    }
-    false
+    pack::fits(first, f.limits, f.count) && pack::fits(own, o.limits, o.count)
 }
 
-fn header_row(nums: [u32; 13], count: usize, line: u32, end: LineEnd) -> Row
+fn header_row(nums: [u32; 13], count: usize, line: u32, end: LineEnd) -> Result<Row, Refusal>
     ensures { told_row result ≡ shown (row_by line end (header_line line count nums)) }
 {
     if is_fault(end) {
-        return refused(Refusal::Text(line));
+        return Err(Refusal::Text(line));
     }
     let version = nums[0];
     let known = is_within(version, 1, 2);
     let first = form::first();
     let own = form::own(version);
     if miscounted(known, count, first.numbers + own.numbers) {
-        return refused(Refusal::FieldCount(line));
+        return Err(Refusal::FieldCount(line));
     }
     let ns = taken(known, nums);
     let head = first_part(ns);
     let tail = own_part(ns);
-    if both_fit(head, first, tail, own) {
-        let bytes = placed(head, first, 0, [0u8; 20]);
-        let bytes = placed(tail, own, first.size, bytes);
-        return Row {
-            bytes,
-            size: first.size + own.size,
-            end: row_end(end),
-        };
+    if !both_fit(head, first, tail, own) {
+        return Err(Refusal::Text(line));
     }
-    refused(Refusal::Text(line))
+    let front = placed(head, first, 0, [0u8; 20]);
+    let bytes = placed(tail, own, first.size, front);
+    Ok(Row {
+        bytes,
+        size: first.size + own.size,
+        next: next_of(end),
+    })
 }
 
 // The first line of a text, as a header, likewise.
-pub fn header_at(text: &[u8], filled: bool) -> Row
+pub fn header_at(text: &[u8], filled: bool) -> Result<Row, Refusal>
     ensures { told_row result ≡ shown (header_row 1 (line_left filled text.now 0)) }
 {
     let mut nums = [0u32; 13];
     let read = filling::line_at(text, 0, filled, &mut nums);
-    let count = read.count;
-    let end = read.end;
-    header_row(nums, count, 1, end)
+    header_row(nums, read.count, 1, read.end)
 }

@@ -1,6 +1,6 @@
 -- The lines of records put one after another: those left, behind the bytes that are there, make what all of them make.
 -- Assumes nothing.
-use Rattle.std.specs.Prelude.{Result, Ok, Err}
+use Rattle.std.specs.Prelude.{Option, Some, None, Result, Ok, Err}
 use Prim.Native.Nat.{ℕ, ◌+◌, ◌-◌, ◌≤◌}
 use mathlib.Core.Path.{◌≡◌, refl, sym, ap, subst, ◌∙◌}
 use mathlib.Core.Logic.{inl, ⊎_elim}
@@ -18,7 +18,6 @@ use Rattle.sheet.specs.declared.Refusal.{Refusal}
 use Rattle.sheet.specs.Refusals.{Answer, given, refused}
 use Rattle.filling.specs.Filling.{line_left, lines_left}
 use Rattle.rows.specs.declared.Row.{Row}
-use Rattle.rows.specs.declared.RowEnd.TheVariants as RowEnd
 use Rattle.rows.specs.Rows.{header_row, record_row, told_row, shown}
 use Rattle.checker.specs.Check.{◌then◌}
 use Rattle.sheet_csv.specs.Read.{next_line, records_made, sheet_made}
@@ -71,15 +70,15 @@ begin filled s at head draft l e =
     }
 
 module _ (whole : Answer (List ℕ)) (front : List ℕ) (filled : Bool) (s : List ℕ) (p here end : ℕ) (draft : List ℕ) (f : Filling whole front filled s p here end draft)
-    (r : Row) (shows : told_row r ≡ shown (record_row p (line_left filled s here))) where
+    (r : Row) (shows : told_row (Ok r) ≡ shown (record_row p (line_left filled s here))) where
   -- the line has another behind it
-  pub on : (n : ℕ) → r.end ≡ RowEnd.More n → Goes (records_made (next_line p)) (records_made p (lines_left filled s here)) filled s here r (record_row p (line_left filled s here)) shows (records_by_row p filled s here) n
+  pub on : (n : ℕ) → r.next ≡ Some n → Goes (records_made (next_line p)) (records_made p (lines_left filled s here)) filled s here r (record_row p (line_left filled s here)) shows (records_by_row p filled s here) n
   on n e = row_more (records_made (next_line p)) (records_made p (lines_left filled s here)) filled s here r (record_row p (line_left filled s here)) shows (records_by_row p filled s here) n e
 
-  pub ends : r.end ≡ RowEnd.Last → Stops (records_made (next_line p)) (records_made p (lines_left filled s here)) filled s here r (record_row p (line_left filled s here)) shows (records_by_row p filled s here)
+  pub ends : r.next ≡ None → Stops (records_made (next_line p)) (records_made p (lines_left filled s here)) filled s here r (record_row p (line_left filled s here)) shows (records_by_row p filled s here)
   ends e = row_last (records_made (next_line p)) (records_made p (lines_left filled s here)) filled s here r (record_row p (line_left filled s here)) shows (records_by_row p filled s here) e
 
-  pub go_on : (n : ℕ) → r.end ≡ RowEnd.More n → (next : ℕ) (after : List ℕ) → PutsBehind (take r.size r.bytes) draft end next after → (q : ℕ) → q ≡ next_line p → Filling whole front filled s q n next after
+  pub go_on : (n : ℕ) → r.next ≡ Some n → (next : ℕ) (after : List ℕ) → PutsBehind (take r.size r.bytes) draft end next after → (q : ℕ) → q ≡ next_line p → Filling whole front filled s q n next after
   go_on n e next after u q z =
       let g = on n e in
       let b = g.made in
@@ -93,7 +92,7 @@ module _ (whole : Answer (List ℕ)) (front : List ℕ) (filled : Bool) (s : Lis
             ∙ ap (λ (k : ℕ). records_made k (lines_left filled s n) then λ bs. given ((f.made ++ b) ++ bs)) (sym z);
       }
 
-  pub finish : r.end ≡ RowEnd.Last → (next : ℕ) (after : List ℕ) → PutsBehind (take r.size r.bytes) draft end next after → Fills whole front (Ok next) after
+  pub finish : r.next ≡ None → (next : ℕ) (after : List ℕ) → PutsBehind (take r.size r.bytes) draft end next after → Fills whole front (Ok next) after
   finish e next after u =
       let g = ends e in
       let b = g.made in
@@ -102,10 +101,11 @@ module _ (whole : Answer (List ℕ)) (front : List ℕ) (filled : Bool) (s : Lis
       subst (λ (x : Answer (List ℕ)). Fills x front (Ok next) after) (sym (f.rest ∙ given_in_front (records_made p (lines_left filled s here)) f.made b g.rest))
       (subst (λ (x : List ℕ). Held x next after) (append_assoc front f.made b) h.0)
 
-  pub turned_away : (x : Refusal) → r.end ≡ RowEnd.Refused x → Fills whole front (Err x) draft
-  turned_away x e =
-      let g = row_refused (records_made (next_line p)) (records_made p (lines_left filled s here)) filled s here r (record_row p (line_left filled s here)) shows (records_by_row p filled s here) x e in
-      subst (λ (y : Answer (List ℕ)). Fills y front (Err x) draft) (sym (f.rest ∙ refused_in_front (records_made p (lines_left filled s here)) f.made _ _ g)) refl
+pub turned_away : (whole : Answer (List ℕ)) (front : List ℕ) (filled : Bool) (s : List ℕ) (p here end : ℕ) (draft : List ℕ) → Filling whole front filled s p here end draft
+    → (x : Refusal) → told_row (Err x) ≡ shown (record_row p (line_left filled s here)) → Fills whole front (Err x) draft
+turned_away whole front filled s p here end draft f x shows =
+    let g = row_refused (records_made (next_line p)) (records_made p (lines_left filled s here)) filled s here (record_row p (line_left filled s here)) x shows (records_by_row p filled s here) in
+    subst (λ (y : Answer (List ℕ)). Fills y front (Err x) draft) (sym (f.rest ∙ refused_in_front (records_made p (lines_left filled s here)) f.made _ _ g)) refl
 
 -- ---- the header
 
@@ -117,26 +117,21 @@ behind (refused k p) front (Ok end) draft f = elim f [ ]
 behind (given b) front (Ok end) draft f = f
 behind (refused k p) front (Err x) draft f = f
 
-module _ (filled : Bool) (s draft : List ℕ) (size : length draft ≡ draft_size) (r : Row) (shows : told_row r ≡ shown (header_row 1 (line_left filled s 0))) where
-  pub head_on : (n : ℕ) → r.end ≡ RowEnd.More n → Goes (records_made 2) (sheet_made (lines_left filled s 0)) filled s 0 r (header_row 1 (line_left filled s 0)) shows (sheet_by_row filled s) n
+module _ (filled : Bool) (s draft : List ℕ) (size : length draft ≡ draft_size) (r : Row) (shows : told_row (Ok r) ≡ shown (header_row 1 (line_left filled s 0))) where
+  pub head_on : (n : ℕ) → r.next ≡ Some n → Goes (records_made 2) (sheet_made (lines_left filled s 0)) filled s 0 r (header_row 1 (line_left filled s 0)) shows (sheet_by_row filled s) n
   head_on n e = row_more (records_made 2) (sheet_made (lines_left filled s 0)) filled s 0 r (header_row 1 (line_left filled s 0)) shows (sheet_by_row filled s) n e
 
-  pub head_ends : r.end ≡ RowEnd.Last → Stops (records_made 2) (sheet_made (lines_left filled s 0)) filled s 0 r (header_row 1 (line_left filled s 0)) shows (sheet_by_row filled s)
+  pub head_ends : r.next ≡ None → Stops (records_made 2) (sheet_made (lines_left filled s 0)) filled s 0 r (header_row 1 (line_left filled s 0)) shows (sheet_by_row filled s)
   head_ends e = row_last (records_made 2) (sheet_made (lines_left filled s 0)) filled s 0 r (header_row 1 (line_left filled s 0)) shows (sheet_by_row filled s) e
 
-  pub head_refused : (x : Refusal) → r.end ≡ RowEnd.Refused x → Fills (sheet_made (lines_left filled s 0)) [] (Err x) draft
-  head_refused x e =
-      subst (λ (y : Answer (List ℕ)). Fills y [] (Err x) draft)
-      (sym (row_refused (records_made 2) (sheet_made (lines_left filled s 0)) filled s 0 r (header_row 1 (line_left filled s 0)) shows (sheet_by_row filled s) x e)) refl
-
-  pub head_alone : r.end ≡ RowEnd.Last → (next : ℕ) (after : List ℕ) → PutsBehind (take r.size r.bytes) draft 0 next after → Fills (sheet_made (lines_left filled s 0)) [] (Ok next) after
+  pub head_alone : r.next ≡ None → (next : ℕ) (after : List ℕ) → PutsBehind (take r.size r.bytes) draft 0 next after → Fills (sheet_made (lines_left filled s 0)) [] (Ok next) after
   head_alone e next after u =
       let g = head_ends e in
       let small = header_twenty 1 (line_left filled s 0) _ g.line in
       let v : PutsBehind g.made draft 0 next after = subst (λ (x : List ℕ). PutsBehind x draft 0 next after) g.bytes.front u in
       subst (λ (x : Answer (List ℕ)). Fills x [] (Ok next) after) (sym g.rest) (held_first g.made draft next after (omega arith) v).0
 
-  module _ (n : ℕ) (e : r.end ≡ RowEnd.More n) (next : ℕ) (after : List ℕ) (u : PutsBehind (take r.size r.bytes) draft 0 next after) where
+  module _ (n : ℕ) (e : r.next ≡ Some n) (next : ℕ) (after : List ℕ) (u : PutsBehind (take r.size r.bytes) draft 0 next after) where
     held : Held (head_on n e).made next after × (length after ≡ length draft)
     held =
         let g = head_on n e in
@@ -151,3 +146,12 @@ module _ (filled : Bool) (s draft : List ℕ) (size : length draft ≡ draft_siz
         let small = header_twenty 1 (line_left filled s 0) _ g.line in
         let front : take next after ≡ g.made = held.0.front ∙ take_all next g.made (⊎_elim (λ h. omega arith) (λ h. absurd (omega (arith, held.0.within))) held.0.much) in
         subst (λ (x : Answer (List ℕ)). Fills x [] m done) (sym g.rest) (behind (records_made 2 (lines_left filled s n)) g.made m done (subst (λ (x : List ℕ). Fills (records_made 2 (lines_left filled s n)) x m done) front f))
+
+pub head_refused : (filled : Bool) (s draft : List ℕ) (x : Refusal) → told_row (Err x) ≡ shown (header_row 1 (line_left filled s 0)) → Fills (sheet_made (lines_left filled s 0)) [] (Err x) draft
+head_refused filled s draft x shows =
+    subst (λ (y : Answer (List ℕ)). Fills y [] (Err x) draft)
+    (sym (row_refused (records_made 2) (sheet_made (lines_left filled s 0)) filled s 0 (header_row 1 (line_left filled s 0)) x shows (sheet_by_row filled s))) refl
+
+-- an answer that is passed on fills what it filled
+pub fills_on : (a : Answer (List ℕ)) (front draft : List ℕ) {r q : Result ℕ Refusal} → r ≡ q → Fills a front q draft → Fills a front r draft
+fills_on a front draft e f = subst (λ (x : Result ℕ Refusal). Fills a front x draft) (sym e) f

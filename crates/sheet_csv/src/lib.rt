@@ -11,7 +11,7 @@ ghost use Rattle.sheet.specs.Refusals.{number_of, place_of, told_result};
 ghost use Rattle.sheet_csv.specs.Write.{text_from};
 ghost use Rattle.sheet_csv.specs.Steps.{draft_size, fits_in, sound_in, PutsBehind, Fills};
 
-use rows::{Row, RowEnd};
+use rows::Row;
 use sheet::{MOST, RECORD, Refusal};
 
 // With a record more than the longest sheet has it is seen to be too long, whatever the lines behind it are.
@@ -25,9 +25,7 @@ fn put_row(row: Row, draft: &mut [u8], end: usize) -> usize
     requires { (row.size ≤ length row.bytes) × (end ≤ length draft.old) }
     ensures { PutsBehind (take row.size row.bytes) draft.old end result draft.new }
 {
-    let size = row.size;
-    let bytes = row.bytes;
-    end + decimal::write_text(&bytes[..size], &mut draft[end..])
+    end + decimal::write_text(&row.bytes[..row.size], &mut draft[end..])
 }
 
 fn next_line(line: u32) -> u32
@@ -45,20 +43,13 @@ fn put_records(text: &[u8], at: usize, filled: bool, draft: &mut [u8], head: usi
     let mut line: u32 = 2;
     let mut end = head;
     loop {
-        let row = rows::record_at(text, here, line, filled);
-        match row.end {
-            RowEnd::More(next) => {
-                end = put_row(row, draft, end);
-                line = next_line(line);
-                here = next;
-            }
-            RowEnd::Last => {
-                return Ok(put_row(row, draft, end));
-            }
-            RowEnd::Refused(x) => {
-                return Err(x);
-            }
-        }
+        let row = rows::record_at(text, here, line, filled)?;
+        end = put_row(row, draft, end);
+        let Some(next) = row.next else {
+            return Ok(end);
+        };
+        line = next_line(line);
+        here = next;
     }
 }
 
@@ -67,14 +58,11 @@ fn put_lines(text: &[u8], filled: bool, draft: &mut [u8]) -> Result<usize, Refus
     requires { length draft.old ≡ draft_size }
     ensures { Fills (sheet_made (lines_left filled text.now 0)) [] result draft.new }
 {
-    let row = rows::header_at(text, filled);
-    match row.end {
-        RowEnd::Refused(x) => Err(x),
-        RowEnd::Last => Ok(put_row(row, draft, 0)),
-        RowEnd::More(next) => {
-            let head = put_row(row, draft, 0);
-            put_records(text, next, filled, draft, head)
-        }
+    let row = rows::header_at(text, filled)?;
+    let head = put_row(row, draft, 0);
+    match row.next {
+        Some(next) => put_records(text, next, filled, draft, head),
+        None => Ok(head),
     }
 }
 

@@ -1,34 +1,32 @@
 -- Two rows that meet a promise of this crate are equal: `header_at` and `record_at`.
 -- Assumes nothing.
-use Rattle.std.specs.Prelude.{◌≡◌}
+use Rattle.std.specs.Prelude.{ℕ, ◌≡◌, refl, Option, Some, None, Result, Ok, Err}
 use Rattle.std.proofs.Common.{sym, ap, ap₂, ◌∙◌}
-use Rattle.sheet.specs.Refusals.{Answer}
+use Rattle.sheet.specs.declared.Refusal.{Refusal}
 use Rattle.sheet.specs.laws.RefusalLaws.{refusal_only, given_refused, given_same, refused_number, refused_place}
 use Rattle.text.specs.declared.LineEnd.{LineEnd}
 use Rattle.rows.specs.declared.Row.{Row}
-use Rattle.rows.specs.declared.RowEnd.{RowEnd}
-use Rattle.rows.specs.Rows.{Shown, told_end, told_row}
+use Rattle.rows.specs.Rows.{Shown, end_by, told_row}
+use Rattle.rows.specs.Steps.{next_of}
 
--- the code's end from what it says
-abbrev end_of : LineEnd → RowEnd
-end_of (LineEnd.More n) = RowEnd.More n
-end_of LineEnd.Last = RowEnd.Last
-end_of LineEnd.Fault = RowEnd.Last
+-- the next line's place from what is said of the end
+next_back : (next : Option ℕ) → next_of (end_by next) ≡ next
+next_back (Some n) = refl
+next_back None = refl
 
-end_only : (a : Answer LineEnd) (q r : RowEnd) → told_end q ≡ a → told_end r ≡ a → q ≡ r
-end_only a (RowEnd.More m) (RowEnd.More n) e f = ap end_of (given_same (e ∙ sym f))
-end_only a (RowEnd.More m) RowEnd.Last e f = ap end_of (given_same (e ∙ sym f))
-end_only a (RowEnd.More m) (RowEnd.Refused y) e f = given_refused (e ∙ sym f)
-end_only a RowEnd.Last (RowEnd.More n) e f = ap end_of (given_same (e ∙ sym f))
-end_only a RowEnd.Last RowEnd.Last e f = ap end_of (given_same (e ∙ sym f))
-end_only a RowEnd.Last (RowEnd.Refused y) e f = given_refused (e ∙ sym f)
-end_only a (RowEnd.Refused x) (RowEnd.More n) e f = given_refused (f ∙ sym e)
-end_only a (RowEnd.Refused x) RowEnd.Last e f = given_refused (f ∙ sym e)
-end_only a (RowEnd.Refused x) (RowEnd.Refused y) e f = ap RowEnd.Refused (refusal_only x y (refused_number (e ∙ sym f)) (refused_place (e ∙ sym f)))
+next_only : (m n : Option ℕ) → end_by m ≡ end_by n → m ≡ n
+next_only m n e = sym (next_back m) ∙ ap next_of e ∙ next_back n
 
-pub row_only : (a : Shown) (q r : Row) → told_row q ≡ a → told_row r ≡ a → q ≡ r
-row_only a q r e f =
-    let end : q.end ≡ r.end = end_only a.answer q.end r.end (ap (λ (w : Shown). w.answer) e) (ap (λ (w : Shown). w.answer) f) in
-    let size : q.size ≡ r.size = ap (λ (w : Shown). w.size) (e ∙ sym f) in
-    let bytes : q.bytes ≡ r.bytes = ap (λ (w : Shown). w.bytes) (e ∙ sym f) in
-    ap₂ {C = Row} (λ b n. record { bytes = b; size = n; end = q.end }) bytes size ∙ ap (λ (x : RowEnd). record { bytes = r.bytes; size = r.size; end = x }) end
+pub row_only : (a : Shown) (q r : Result Row Refusal) → told_row q ≡ a → told_row r ≡ a → q ≡ r
+row_only a (Ok q) (Ok r) e f =
+    let same = e ∙ sym f in
+    let next : q.next ≡ r.next = next_only q.next r.next (given_same (ap (λ (w : Shown). w.answer) same)) in
+    let size : q.size ≡ r.size = ap (λ (w : Shown). w.size) same in
+    let bytes : q.bytes ≡ r.bytes = ap (λ (w : Shown). w.bytes) same in
+    ap₂ {C = Result Row Refusal} (λ b n. Ok (record { bytes = b; size = n; next = q.next })) bytes size
+    ∙ ap (λ (x : Option ℕ). Ok (record { bytes = r.bytes; size = r.size; next = x })) next
+row_only a (Ok q) (Err y) e f = given_refused (ap (λ (w : Shown). w.answer) (e ∙ sym f))
+row_only a (Err x) (Ok r) e f = given_refused (ap (λ (w : Shown). w.answer) (f ∙ sym e))
+row_only a (Err x) (Err y) e f =
+    let same = ap (λ (w : Shown). w.answer) (e ∙ sym f) in
+    ap Err (refusal_only x y (refused_number same) (refused_place same))

@@ -23,8 +23,8 @@ use Rattle.rows.specs.declared.form.Form.{Form}
 use Rattle.rows.specs.Pack.{fields_from, fields_of, below, packed_on, powers}
 use Rattle.rows.specs.laws.PackLaws.{packed_whole}
 use Rattle.rows.specs.Forms.{first_count, own_count, record_widths, record_count, first_form, own_form, record_form}
-use Rattle.rows.specs.Rows.{zeros, kinds, first_of, taken, line_by, firsts_of, owns_of, header_made, header_line, records_of, record_made, record_line, ended_by, row_by, told_end, Shown, shown}
-use Rattle.rows.specs.Steps.{is_fault, row_end, first_part, own_part, placed_of}
+use Rattle.rows.specs.Rows.{zeros, kinds, first_of, taken, line_by, firsts_of, owns_of, header_made, header_line, records_of, record_made, record_line, ended_by, row_by, end_by, Shown, shown}
+use Rattle.rows.specs.Steps.{is_fault, next_of, first_part, own_part, placed_of}
 
 -- ---- which answer it is
 
@@ -40,7 +40,7 @@ row_open line LineEnd.Fault a f = clash refl (sym f)
 row_open line LineEnd.Last a f = refl
 row_open line (LineEnd.More next) a f = refl
 
-end_told : (e : LineEnd) → false ≡ is_fault e → told_end (row_end e) ≡ given e
+end_told : (e : LineEnd) → false ≡ is_fault e → end_by (next_of e) ≡ e
 end_told LineEnd.Fault f = clash refl (sym f)
 end_told LineEnd.Last f = refl
 end_told (LineEnd.More next) f = refl
@@ -54,9 +54,9 @@ module _ (line : ℕ) (e : LineEnd) (o : false ≡ is_fault e) (m f : Bool) (b :
 
   -- with the bytes in front of zeros
   by_none : false ≡ m → true ≡ f → (n : ℕ) → n ≡ length b → (z : List ℕ) → z ≡ b ++ zeros (20 - length b)
-      → record { answer = told_end (row_end e); size = n; bytes = z } ≡ shown (row_by line e (line_by line m f b))
+      → record { answer = given (end_by (next_of e)); size = n; bytes = z } ≡ shown (row_by line e (line_by line m f b))
   by_none t u n size z is =
-      ap₂ {C = Shown} (λ x w. record { answer = x; size = n; bytes = w }) (end_told e o) is
+      ap₂ {C = Shown} (λ x w. record { answer = given x; size = n; bytes = w }) (end_told e o) is
       ∙ ap (λ (k : ℕ). record { answer = given e; size = k; bytes = b ++ zeros (20 - length b) }) size
       ∙ sym (ap shown (row_open line e (line_by line m f b) o ∙ ap₂ (λ (x y : Bool). ended_by e (line_by line x y b)) (sym t) (sym u)))
 
@@ -146,7 +146,7 @@ module _ (nums : List ℕ) (count line : ℕ) (end : LineEnd) (o : false ≡ is_
     record_wide w = by_width line end o wrong narrow (record_made kind own) (right ∙ counts) (w ∙ fits)
 
     pub record_fine : true ≡ below (fields_of f.count f.limits) (fields_of f.count ns) → (b : List ℕ) → b ≡ placed_of ns f 0 (zeros 20)
-        → record { answer = told_end (row_end end); size = f.size; bytes = b } ≡ shown (row_by line end (record_line line count nums))
+        → record { answer = given (end_by (next_of end)); size = f.size; bytes = b } ≡ shown (row_by line end (record_line line count nums))
     unfolding record_line
     record_fine w b p =
         let made = record_made kind own in
@@ -249,7 +249,7 @@ module _ (nums : List ℕ) (count line : ℕ) (end : LineEnd) (o : false ≡ is_
 
     pub header_fine : true ≡ (below (fields_of f.count f.limits) (fields_of f.count a) && below (fields_of g.count g.limits) (fields_of g.count b))
         → (x y : List ℕ) → x ≡ placed_of a f 0 (zeros 20) → y ≡ placed_of b g f.size x
-        → record { answer = told_end (row_end end); size = f.size + g.size; bytes = y } ≡ shown (row_by line end (header_line line count nums))
+        → record { answer = given (end_by (next_of end)); size = f.size + g.size; bytes = y } ≡ shown (row_by line end (header_line line count nums))
     unfolding header_line
     header_fine w x y p q =
         let size = own_bytes version in

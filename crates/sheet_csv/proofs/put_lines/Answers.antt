@@ -1,18 +1,22 @@
-use Rattle.sheet_csv.proofs.Filling.{head_refused, head_alone, head_room, head_and_records}
+use Rattle.std.specs.Prelude.{Err}
+use Rattle.std.proofs.Common.{◌≡◌, ap, sym, ◌∙◌, rules}
+use Rattle.rows.specs.Rows.{told_row}
+use Rattle.sheet_csv.proofs.Filling.{head_refused, head_alone, head_room, head_and_records, fills_on}
 use Rattle.sheet_csv.proofs.put_lines.Goals as goal
 
 pub put_records-requires : goal.put_records-requires
 put_records-requires c =
-    head_room c.args.filled c.args.text.now c.args.draft.now c.requires c.header_at-row.result c.header_at-row.ensures _ c.in-More.is _ _ c.put_row-head.ensures
+    head_room c.args.filled c.args.text.now c.args.draft.now c.requires c.in_ok-row.row (sym (ap told_row c.in_ok-row.was) ∙ c.header_at.ensures) _ c.in-Some.is _ _ c.put_row-head.ensures
 
-pub returns-in-Refused : goal.returns-in-Refused
-returns-in-Refused c =
-    head_refused c.args.filled c.args.text.now c.args.draft.now c.requires c.header_at-row.result c.header_at-row.ensures _ c.in-Refused.is
+pub returns-in_err-row : goal.returns-in_err-row
+returns-in_err-row c =
+    let passed_on : c.from_residual.result ≡ Err c.in_err-row.field-0.0 = search rules in
+    fills_on _ _ c.args.draft.now passed_on (head_refused c.args.filled c.args.text.now c.args.draft.now _ (sym (ap told_row c.in_err-row.was) ∙ c.header_at.ensures))
 
-pub returns-in-Last : goal.returns-in-Last
-returns-in-Last c =
-    head_alone c.args.filled c.args.text.now c.args.draft.now c.requires c.header_at-row.result c.header_at-row.ensures c.in-Last.is _ _ c.put_row.ensures
+pub returns-in-None : goal.returns-in-None
+returns-in-None c =
+    head_alone c.args.filled c.args.text.now c.args.draft.now c.requires c.in_ok-row.row (sym (ap told_row c.in_ok-row.was) ∙ c.header_at.ensures) c.in-None.is _ _ c.put_row-head.ensures
 
-pub returns-in-More : goal.returns-in-More
-returns-in-More c =
-    head_and_records c.args.filled c.args.text.now c.args.draft.now c.requires c.header_at-row.result c.header_at-row.ensures _ c.in-More.is _ _ c.put_row-head.ensures _ _ c.put_records.ensures
+pub returns-in-Some : goal.returns-in-Some
+returns-in-Some c =
+    head_and_records c.args.filled c.args.text.now c.args.draft.now c.requires c.in_ok-row.row (sym (ap told_row c.in_ok-row.was) ∙ c.header_at.ensures) _ c.in-Some.is _ _ c.put_row-head.ensures _ _ c.put_records.ensures

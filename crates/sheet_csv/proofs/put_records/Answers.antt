@@ -1,21 +1,25 @@
-use Rattle.std.proofs.Common.{arith}
-use Rattle.sheet_csv.proofs.Filling.{begin, on, go_on, finish, turned_away}
+use Rattle.std.specs.Prelude.{Err}
+use Rattle.std.proofs.Common.{◌≡◌, arith, ap, sym, ◌∙◌, rules}
+use Rattle.rows.specs.Rows.{told_row}
+use Rattle.sheet_csv.proofs.Filling.{begin, on, go_on, finish, turned_away, fills_on}
 use Rattle.sheet_csv.proofs.put_records.Goals as goal
 
-pub loop-next-init : goal.loop-next-init
-loop-next-init c = begin _ _ _ _ _ c.requires.1 c.requires.0
+pub loop-row-init : goal.loop-row-init
+loop-row-init c = begin _ _ _ _ _ c.requires.1 c.requires.0
 
-pub loop-next-smaller : goal.loop-next-smaller
-loop-next-smaller c =
-    let g = on _ _ _ _ _ _ _ _ c.loop-next.invariant c.record_at-row.result c.record_at-row.ensures _ c.in-More.is in
+pub loop-row-smaller : goal.loop-row-smaller
+loop-row-smaller c =
+    let g = on _ _ _ _ _ _ _ _ c.loop-row.invariant c.in_ok-row.row (sym (ap told_row c.in_ok-row.was) ∙ c.record_at.ensures) _ c.in-Some.is in
     omega (arith, g.on, g.within)
 
-pub loop-next-preserved : goal.loop-next-preserved
-loop-next-preserved c =
-    go_on _ _ _ _ _ _ _ _ c.loop-next.invariant c.record_at-row.result c.record_at-row.ensures _ c.in-More.is _ _ c.put_row-end.ensures _ c.next_line-line.ensures
+pub loop-row-preserved : goal.loop-row-preserved
+loop-row-preserved c =
+    go_on _ _ _ _ _ _ _ _ c.loop-row.invariant c.in_ok-row.row (sym (ap told_row c.in_ok-row.was) ∙ c.record_at.ensures) _ c.in-Some.is _ _ c.put_row-end.ensures _ c.next_line-line.ensures
 
-pub returns-in-Last : goal.returns-in-Last
-returns-in-Last c = finish _ _ _ _ _ _ _ _ c.loop-next.invariant c.record_at-row.result c.record_at-row.ensures c.in-Last.is _ _ c.put_row.ensures
+pub returns-in_default : goal.returns-in_default
+returns-in_default c = finish _ _ _ _ _ _ _ _ c.loop-row.invariant c.in_ok-row.row (sym (ap told_row c.in_ok-row.was) ∙ c.record_at.ensures) c.in_default.is _ _ c.put_row-end.ensures
 
-pub returns-in-Refused : goal.returns-in-Refused
-returns-in-Refused c = turned_away _ _ _ _ _ _ _ _ c.loop-next.invariant c.record_at-row.result c.record_at-row.ensures _ c.in-Refused.is
+pub returns-in_err-row : goal.returns-in_err-row
+returns-in_err-row c =
+    let passed_on : c.from_residual.result ≡ Err c.in_err-row.field-0.0 = search rules in
+    fills_on _ _ c.loop-row.draft passed_on (turned_away _ _ _ _ _ _ _ _ c.loop-row.invariant _ (sym (ap told_row c.in_err-row.was) ∙ c.record_at.ensures))

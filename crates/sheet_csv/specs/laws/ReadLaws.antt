@@ -1,6 +1,6 @@
 -- The bytes that the lines of a text make, by the first of them.
 -- Assumes nothing.
-use Rattle.std.specs.Prelude.{ℕ, ◌+◌, ◌-◌, ◌≤◌, ◌<◌, ◌≡◌, refl, Bool, true, false, not, ◌&&◌, length, take, eqb}
+use Rattle.std.specs.Prelude.{ℕ, ◌+◌, ◌-◌, ◌≤◌, ◌<◌, ◌≡◌, refl, Bool, true, false, not, ◌&&◌, length, take, eqb, Option, Some, None, Ok, Err}
 use Rattle.std.proofs.Common.{sym, ap₂, subst, ◌∙◌, arith, length-append, take_at}
 use Rattle.std.proofs.Math.Path.{ap}
 use mathlib.Core.List.{List, [], ◌++◌, map, append-nil, append_assoc}
@@ -21,8 +21,7 @@ use Rattle.text.specs.laws.LinesLaws.{value_in}
 use Rattle.filling.specs.Filling.{line_left, lines_left}
 use Rattle.filling.specs.laws.RowLaws.{RowLeft, more, last, broken, row_left}
 use Rattle.rows.specs.declared.Row.{Row}
-use Rattle.rows.specs.declared.RowEnd.{RowEnd}
-use Rattle.rows.specs.Rows.{zeros, kinds, first_of, taken, line_by, firsts_of, owns_of, header_made, records_of, record_made, header_line, record_line, Made, ended_by, row_by, header_row, record_row, Shown, told_end, told_row, shown}
+use Rattle.rows.specs.Rows.{zeros, kinds, first_of, taken, line_by, firsts_of, owns_of, header_made, records_of, record_made, header_line, record_line, Made, ended_by, row_by, header_row, record_row, Shown, end_by, told_row, shown}
 use Rattle.rows.specs.Pack.{below, powers}
 use Rattle.rows.specs.Forms.{first_count, own_count, record_widths, record_count}
 use Rattle.rows.specs.laws.RowLaws.{own_small}
@@ -111,25 +110,20 @@ pub record Bytes (r : Row) (b : List ℕ) : Type 0 where
   pub inside : r.size ≤ length r.bytes
   pub size : r.size ≡ length b
 
-abbrev pub RowSays : Row → Answer Made → Type 0
-RowSays r (given m) = (told_end r.end ≡ given m.end) × Bytes r m.bytes
-RowSays r (refused k q) = told_end r.end ≡ refused k q
-
-pub row_says : (r : Row) (a : Answer Made) → told_row r ≡ shown a → RowSays r a
-row_says r (given m) e =
+pub row_says : (r : Row) (m : Made) → told_row (Ok r) ≡ shown (given m) → (end_by r.next ≡ m.end) × Bytes r m.bytes
+row_says r m e =
     let size : r.size ≡ length m.bytes = ap (λ (w : Shown). w.size) e in
     let bytes : r.bytes ≡ m.bytes ++ zeros (20 - length m.bytes) = ap (λ (w : Shown). w.bytes) e in (
-      ap (λ (w : Shown). w.answer) e,
+      given_same (ap (λ (w : Shown). w.answer) e),
       record {
         front = ap (take r.size) bytes ∙ take_at m.bytes (zeros (20 - length m.bytes)) r.size (sym size);
         inside = omega (arith, ap length bytes, length-append m.bytes (zeros (20 - length m.bytes)));
         size = size;
       },
     )
-row_says r (refused k q) e = ap (λ (w : Shown). w.answer) e
 
--- so what all lines make, by how the code's row ends
-module _ (R : Lines → Answer (List ℕ)) (whole : Answer (List ℕ)) (filled : Bool) (s : List ℕ) (at : ℕ) (r : Row) (a : Answer Made) (shows : told_row r ≡ shown a) (says : Says R whole filled s at a) where
+-- so what all lines make, by whether another line comes behind the code's row
+module _ (R : Lines → Answer (List ℕ)) (whole : Answer (List ℕ)) (filled : Bool) (s : List ℕ) (at : ℕ) (r : Row) (a : Answer Made) (shows : told_row (Ok r) ≡ shown a) (says : Says R whole filled s at a) where
   -- the bytes of the line, and where the next one starts
   pub record Goes (n : ℕ) : Type 0 where
     pub made : List ℕ
@@ -139,15 +133,16 @@ module _ (R : Lines → Answer (List ℕ)) (whole : Answer (List ℕ)) (filled :
     pub within : n ≤ length s
     pub rest : whole ≡ (R (lines_left filled s n) then λ bs. given (made ++ bs))
 
-  pub row_more : (n : ℕ) → r.end ≡ RowEnd.More n → Goes n
-  row_more n e = go a refl says (row_says r a shows)
+  pub row_more : (n : ℕ) → r.next ≡ Some n → Goes n
+  row_more n e = go a refl says shows
     where
-      go : (x : Answer Made) → a ≡ x → Says R whole filled s at x → RowSays r x → Goes n
-      go (given m) f g h =
-          let end : m.end ≡ LineEnd.More n = given_same (sym h.0 ∙ ap told_end e) in
+      go : (x : Answer Made) → a ≡ x → Says R whole filled s at x → told_row (Ok r) ≡ shown x → Goes n
+      go (given m) f g t =
+          let h = row_says r m t in
+          let end : m.end ≡ LineEnd.More n = sym h.0 ∙ ap end_by e in
           let t = subst (λ (z : LineEnd). SaysEnd R whole filled s at m.bytes z) end g in
           record { made = m.bytes; bytes = h.1; line = f ∙ ap (λ (z : LineEnd). given (record { bytes = m.bytes; end = z })) end; on = t.0; within = t.1; rest = t.2 }
-      go (refused k q) f g h = given_refused (sym (ap told_end e) ∙ h)
+      go (refused k q) f g t = given_refused (ap (λ (w : Shown). w.answer) t)
 
   -- the last line
   pub record Stops : Type 0 where
@@ -156,22 +151,20 @@ module _ (R : Lines → Answer (List ℕ)) (whole : Answer (List ℕ)) (filled :
     pub line : a ≡ given (record { bytes = made; end = LineEnd.Last })
     pub rest : whole ≡ given made
 
-  pub row_last : r.end ≡ RowEnd.Last → Stops
-  row_last e = go a refl says (row_says r a shows)
+  pub row_last : r.next ≡ None → Stops
+  row_last e = go a refl says shows
     where
-      go : (x : Answer Made) → a ≡ x → Says R whole filled s at x → RowSays r x → Stops
-      go (given m) f g h =
-          let end : m.end ≡ LineEnd.Last = given_same (sym h.0 ∙ ap told_end e) in
+      go : (x : Answer Made) → a ≡ x → Says R whole filled s at x → told_row (Ok r) ≡ shown x → Stops
+      go (given m) f g t =
+          let h = row_says r m t in
+          let end : m.end ≡ LineEnd.Last = sym h.0 ∙ ap end_by e in
           record { made = m.bytes; bytes = h.1; line = f ∙ ap (λ (z : LineEnd). given (record { bytes = m.bytes; end = z })) end; rest = subst (λ (z : LineEnd). SaysEnd R whole filled s at m.bytes z) end g }
-      go (refused k q) f g h = given_refused (sym (ap told_end e) ∙ h)
+      go (refused k q) f g t = given_refused (ap (λ (w : Shown). w.answer) t)
 
-  -- a line that is turned away
-  pub row_refused : (x : Refusal) → r.end ≡ RowEnd.Refused x → whole ≡ told x
-  row_refused x e = go a says (row_says r a shows)
-    where
-      go : (y : Answer Made) → Says R whole filled s at y → RowSays r y → whole ≡ told x
-      go (given m) g h = given_refused (sym h.0 ∙ ap told_end e)
-      go (refused k q) g h = let t = sym h ∙ ap told_end e in g ∙ ap₂ refused (refused_number t) (refused_place t)
+-- a line that is turned away
+pub row_refused : (R : Lines → Answer (List ℕ)) (whole : Answer (List ℕ)) (filled : Bool) (s : List ℕ) (at : ℕ) (a : Answer Made) (x : Refusal) → told_row (Err x) ≡ shown a → Says R whole filled s at a → whole ≡ told x
+row_refused R whole filled s at (given m) x t g = given_refused (sym (ap (λ (w : Shown). w.answer) t))
+row_refused R whole filled s at (refused k q) x t g = let h = ap (λ (w : Shown). w.answer) t in g ∙ sym (ap₂ refused (refused_number h) (refused_place h))
 
 -- ---- how many bytes a line has
 
