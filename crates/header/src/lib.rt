@@ -13,7 +13,7 @@ ghost use Rattle.sheet.specs.Writes.{Writes};
 
 use layout::Short;
 use layout::powers::{P3, P7, P12, P20, P27, P28, P36, P37, P46, P60};
-use quantity::Span;
+use quantity::{Quantity, Span};
 use sheet::{Header, HeaderRead, Outcome, Own, Refusal, Section};
 
 // How many bytes hold what every version has.
@@ -68,7 +68,7 @@ fn fault(h: Header, spare: u32, rest: u32) -> u8
     let f = layout::fault_unless(h.moment, 0, 1000000, 6, f);
     let f = wave_fault(h.wave.0, 4, f);
     let f = layout::fault_unless(h.draught.0 as u32, 1, 1000, 3, f);
-    let f = layout::fault_unless(h.length.0 as u32, 4000, Span::HIGH as u32, 2, f);
+    let f = layout::fault_unless(h.length.0 as u32, 4000, Span::HIGH, 2, f);
     let number = version.number as u32;
     layout::fault_unless(h.version as u32, number, number, 1, f)
 }

@@ -147,7 +147,7 @@ fn own_held(f: [u32; 10]) -> Own
 {
     if f[0] == 2 {
         let inner_modulus = f[8];
-        let depth = held::span_of(f[9]);
+        let depth = held::quantity_of(f[9]);
         return Own::Two(Section {
             inner_modulus,
             depth,
@@ -160,9 +160,9 @@ fn header_held(f: [u32; 10]) -> Header
     ensures { result ≡ header_held f }
 {
     let version = held::byte(f[0]);
-    let length = held::span_of(f[1]);
-    let draught = held::span_of(f[2]);
-    let wave = held::span_of(f[3]);
+    let length = held::quantity_of(f[1]);
+    let draught = held::quantity_of(f[2]);
+    let wave = held::quantity_of(f[3]);
     let two_runs = f[4] == 1;
     let moment = f[5];
     let bottom_modulus = f[6];
@@ -220,14 +220,14 @@ pub fn header_from(f: [u32; 10]) -> HeaderRead
 fn plate_held(f: [u32; 13]) -> Plate
     ensures { result ≡ plate_held f }
 {
-    let factor = held::factor_of(f[2]);
-    let z = held::span_of(f[3]);
-    let spacing = held::spacing_of(f[4]);
-    let thickness = held::thickness_of(f[5]);
-    let b1 = held::span_of(f[6]);
-    let b2 = held::span_of(f[7]);
+    let factor = held::quantity_of(f[2]);
+    let z = held::quantity_of(f[3]);
+    let spacing = held::quantity_of(f[4]);
+    let thickness = held::quantity_of(f[5]);
+    let b1 = held::quantity_of(f[6]);
+    let b2 = held::quantity_of(f[7]);
     let ballast = f[8] == 1;
-    let tank_top = held::span_of(f[9]);
+    let tank_top = held::quantity_of(f[9]);
     let cargo = f[10];
     Plate {
         factor,
@@ -245,17 +245,17 @@ fn plate_held(f: [u32; 13]) -> Plate
 fn member_held(f: [u32; 13]) -> Member
     ensures { result ≡ member_held f }
 {
-    let z = held::span_of(f[2]);
-    let spacing = held::spacing_of(f[3]);
-    let span = held::span_of(f[4]);
-    let thickness = held::thickness_of(f[5]);
+    let z = held::quantity_of(f[2]);
+    let spacing = held::quantity_of(f[3]);
+    let span = held::quantity_of(f[4]);
+    let thickness = held::quantity_of(f[5]);
     let bending = held::byte(f[6]);
     let shear = held::byte(f[7]);
     let eta = held::byte(f[8]);
     let stress = held::byte(f[9]);
-    let modulus = held::modulus_of(f[10]);
-    let area = held::shear_area_of(f[11]);
-    let factor = held::factor_of(f[12]);
+    let modulus = held::quantity_of(f[10]);
+    let area = held::quantity_of(f[11]);
+    let factor = held::quantity_of(f[12]);
     Member {
         z,
         spacing,

@@ -9,7 +9,7 @@ ghost use Rattle.sheet.specs.Record.{member_values, member_at, member_fault};
 use crate::choice::pick;
 use layout::Long;
 use layout::powers::{P6, P18, P24, P28, P40, P41, P49, P50, P56, P60, P63};
-use quantity::{Modulus, ShearArea, Spacing, Span, SteelFactor, Thickness};
+use quantity::{Modulus, Quantity, ShearArea, Spacing, Span, SteelFactor, Thickness};
 use sheet::{Member, kinds};
 
 // The same of a member's last three fields: W, A and K.
@@ -18,15 +18,15 @@ fn scantling_fault(m: Member) -> u8
 {
     let f = layout::fault_unless(
         m.factor.0 as u32,
-        SteelFactor::LOW as u32,
-        SteelFactor::HIGH as u32,
+        SteelFactor::LOW,
+        SteelFactor::HIGH,
         13,
         0,
     );
     let f = layout::fault_unless(
         m.area.0 as u32,
-        ShearArea::LOW as u32,
-        ShearArea::HIGH as u32,
+        ShearArea::LOW,
+        ShearArea::HIGH,
         12,
         f,
     );
@@ -50,16 +50,16 @@ pub fn fault(kind: u8, id: u16, m: Member) -> u8
     let f = layout::fault_unless(m.bending as u32, 1, 100, 7, f);
     let f = layout::fault_unless(
         m.thickness.0 as u32,
-        Thickness::LOW as u32,
-        Thickness::HIGH as u32,
+        Thickness::LOW,
+        Thickness::HIGH,
         6,
         f,
     );
     let f = layout::fault_unless(m.span.0 as u32, 10, 1000, 5, f);
     let f = layout::fault_unless(
         m.spacing.0 as u32,
-        Spacing::LOW as u32,
-        Spacing::HIGH as u32,
+        Spacing::LOW,
+        Spacing::HIGH,
         4,
         f,
     );

@@ -8,7 +8,7 @@ ghost use Rattle.sheet.specs.Record.{plate_values, plate_at, plate_fault};
 use crate::choice::{bit, pick};
 use layout::Long;
 use layout::powers::{P6, P18, P20, P30, P38, P40, P49, P50, P60};
-use quantity::{Spacing, Span, SteelFactor, Thickness};
+use quantity::{Quantity, Spacing, Span, SteelFactor, Thickness};
 use sheet::{Plate, kinds};
 
 // The first field outside its values, kind being 1, or 0. It goes from the last field to the first, so that the first has the last word.
@@ -33,17 +33,17 @@ pub fn fault(kind: u8, id: u16, p: Plate, spare: u32) -> u8
     let f = layout::fault_unless(p.b1.0 as u32, b_low, b_high, 7, f);
     let f = layout::fault_unless(
         p.thickness.0 as u32,
-        Thickness::LOW as u32,
-        Thickness::HIGH as u32,
+        Thickness::LOW,
+        Thickness::HIGH,
         6,
         f,
     );
-    let f = layout::fault_unless(p.spacing.0 as u32, Spacing::LOW as u32, 2000, 5, f);
+    let f = layout::fault_unless(p.spacing.0 as u32, Spacing::LOW, 2000, 5, f);
     let f = layout::fault_unless(z, 0, 1000, 4, f);
     let f = layout::fault_unless(
         p.factor.0 as u32,
-        SteelFactor::LOW as u32,
-        SteelFactor::HIGH as u32,
+        SteelFactor::LOW,
+        SteelFactor::HIGH,
         3,
         f,
     );
