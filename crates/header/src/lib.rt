@@ -22,23 +22,15 @@ const FIRST: usize = 12;
 // ZB and ZDB are from 1 to this.
 const MODULUS_HIGH: u32 = 100000000;
 
-fn bit(b: bool) -> u64
-    ensures { result ≡ cond b 1 0 }
-{
-    if b { 1 } else { 0 }
-}
-
 // The field's number where the wave height is none of 0, 0.6 m and 1.2 m, else what the later fields gave.
 fn wave_fault(x: u16, field: u8, rest: u8) -> u8
     ensures { result ≡ cond (among waves x) rest field }
 {
-    if x == 0 {
-        return rest;
+    if matches!(x, 0 | 60 | 120) {
+        rest
+    } else {
+        field
     }
-    if x == 60 {
-        return rest;
-    }
-    if x == 120 { rest } else { field }
 }
 
 // The first field of its own that is outside its values, or 0.
@@ -123,7 +115,7 @@ fn number_of(h: Header) -> Short
 {
     let modulus = h.bottom_modulus as u64;
     let top = (h.version as u64) * P60 + (h.length.0 as u64) * P46 + (h.draught.0 as u64) * P36;
-    let mid = (h.wave.0 as u64) * P28 + bit(h.two_runs) * P27 + (h.moment as u64) * P7;
+    let mid = (h.wave.0 as u64) * P28 + u64::from(h.two_runs) * P27 + (h.moment as u64) * P7;
     let hi = top + mid + modulus / P20;
     let lo = (modulus % P20 * P12 + (h.count as u64) * P3) as u32;
     Short { hi, lo }
