@@ -15,7 +15,7 @@ ghost use Rattle.checker.specs.Unjudged.{records_sound, sound_header};
 ghost use Rattle.checker.specs.Passes.{Refuses, judged_after, Ready, told_passed, pass_over, number_bytes};
 
 use layout::powers::{P19, P22};
-use quantity::Modulus;
+use quantity::{Modulus, Quantity};
 use sheet::{Header, MOST, RECORD, Record, Refusal};
 use verdict::Judged;
 

@@ -15,7 +15,7 @@ ghost use Rattle.framing.specs.Bounds.{Product, Bounded};
 
 use gauge::Shape;
 use loads::{Line, Load};
-use quantity::{LineLoad, Modulus, ShearArea, Spacing, Span, SteelFactor, Thickness};
+use quantity::{LineLoad, Modulus, Quantity, ShearArea, Spacing, Span, SteelFactor, Thickness};
 use sheet::{Header, Member, Refusal};
 use verdict::{Judged, Verdict};
 
@@ -111,7 +111,7 @@ fn member_verdict(h: Header, kind: u8, m: Member, load: Load) -> Verdict
 {
     let web = rule4(kind, h.length, m.factor, m.spacing);
     if !gauge::meets(web, m.thickness.0 as u32) {
-        return verdict::failed(4, web, Thickness::HIGH as u32);
+        return verdict::failed(4, web, Thickness::HIGH);
     }
     let q = loads::line_load(load, m.spacing);
     let bending = rule5(kind, m.bending, m.eta, m.stress, q, m.span);
@@ -120,7 +120,7 @@ fn member_verdict(h: Header, kind: u8, m: Member, load: Load) -> Verdict
     }
     let shear = rule6(kind, m.shear, m.eta, q, m.span);
     if !gauge::meets(shear, m.area.0 as u32) {
-        return verdict::failed(6, shear, ShearArea::HIGH as u32);
+        return verdict::failed(6, shear, ShearArea::HIGH);
     }
     Verdict {
         rule: 0,

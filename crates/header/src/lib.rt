@@ -13,7 +13,7 @@ ghost use Rattle.sheet.specs.Writes.{Writes};
 
 use layout::Short;
 use layout::powers::{P3, P7, P12, P20, P27, P28, P36, P37, P46, P60};
-use quantity::Span;
+use quantity::{Quantity, Span};
 use sheet::{Header, Own, Refusal, Section};
 
 // How many bytes hold what every version has.
@@ -22,23 +22,15 @@ const FIRST: usize = 12;
 // ZB and ZDB are from 1 to this.
 const MODULUS_HIGH: u32 = 100000000;
 
-fn bit(b: bool) -> u64
-    ensures { result ≡ cond b 1 0 }
-{
-    if b { 1 } else { 0 }
-}
-
 // The field's number where the wave height is none of 0, 0.6 m and 1.2 m, else what the later fields gave.
 fn wave_fault(x: u16, field: u8, rest: u8) -> u8
     ensures { result ≡ cond (among waves x) rest field }
 {
-    if x == 0 {
-        return rest;
+    if matches!(x, 0 | 60 | 120) {
+        rest
+    } else {
+        field
     }
-    if x == 60 {
-        return rest;
-    }
-    if x == 120 { rest } else { field }
 }
 
 // The first field of its own that is outside its values, or 0.
@@ -67,7 +59,7 @@ fn fault(h: Header, spare: u32, rest: u32) -> u8
     let f = layout::fault_unless(h.moment, 0, 1000000, 6, f);
     let f = wave_fault(h.wave.0, 4, f);
     let f = layout::fault_unless(h.draught.0 as u32, 1, 1000, 3, f);
-    let f = layout::fault_unless(h.length.0 as u32, 4000, Span::HIGH as u32, 2, f);
+    let f = layout::fault_unless(h.length.0 as u32, 4000, Span::HIGH, 2, f);
     let number = version.number as u32;
     layout::fault_unless(h.version as u32, number, number, 1, f)
 }
@@ -122,7 +114,7 @@ fn number_of(h: Header) -> Short
 {
     let modulus = h.bottom_modulus as u64;
     let top = (h.version as u64) * P60 + (h.length.0 as u64) * P46 + (h.draught.0 as u64) * P36;
-    let mid = (h.wave.0 as u64) * P28 + bit(h.two_runs) * P27 + (h.moment as u64) * P7;
+    let mid = (h.wave.0 as u64) * P28 + u64::from(h.two_runs) * P27 + (h.moment as u64) * P7;
     let hi = top + mid + modulus / P20;
     let lo = (modulus % P20 * P12 + (h.count as u64) * P3) as u32;
     Short { hi, lo }

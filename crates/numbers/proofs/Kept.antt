@@ -1,18 +1,17 @@
--- A number as its field holds it, and a quantity as its maker answers: a line within the field's range allows the one exactly when it allows the other.
+-- A number as its field holds it: a line within the field's range allows the one exactly when it allows the other.
 -- Assumes nothing.
 use Prim.Native.Nat.{ℕ, ◌<◌}
-use mathlib.Core.Path.{◌≡◌, refl, sym, ap, ◌∙◌}
+use mathlib.Core.Path.{◌≡◌, refl, sym, ◌∙◌}
 use mathlib.Core.Bool.{Bool, true, false, cond, ◌&&◌, ◌||◌}
 use mathlib.Core.List.{List, [], ◌∷◌}
 use native.Mathlib.Omega.{arith}
 use lib.Dec.{leb, ltb}
 use borrow.Author.Tests.{le-leb, leb-true, ltb-true}
 use Rattle.truth.specs.laws.Tests.{both, clash, false_of}
-use Rattle.quantity.specs.Range.{Range, within, from}
-use Rattle.quantity.specs.Made.{Held, held as is_held, refused, Makes}
+use Rattle.quantity.specs.Range.{Range, within}
 use Rattle.layout.specs.Line.{among}
 use Rattle.quantity.specs.laws.RangeLaws.{low_high}
-use Rattle.numbers.specs.Held.{held, held_in}
+use Rattle.numbers.specs.Held.{held_in}
 
 -- whether a range lies within another
 abbrev pub lies_in : (r s : Range) → Bool
@@ -70,34 +69,3 @@ held_alone top r s x f = go (within r x) refl
     go : (b : Bool) → within r x ≡ b → within s x ≡ (b && within s (cond b x top))
     go true e = refl
     go false e = false_of (within s x) (λ a. clash (around r s x f a) e)
-
--- ---- a maker's answer
-
--- the number that an answer holds, or another
-abbrev pub held_or : ℕ → Held → ℕ
-held_or other (is_held x) = x
-held_or other refused = other
-
--- it is the number as it is held
-pub made_held : (top : ℕ) (r : Range) {low high y : ℕ} {a : Held} → Makes r low high y a → held_or top a ≡ held_in r top y
-made_held top r {y = y} m = ap (held_or top) m.answered ∙ go (within r y)
-  where
-    go : (b : Bool) → held_or top (cond b (is_held y) refused) ≡ cond b y top
-    go true = refl
-    go false = refl
-
--- also where the number is first held in the field
-pub made_short : (top : ℕ) (r : Range) (x : ℕ) {low high y : ℕ} {a : Held} → keeps top (from 0 top) (r ∷ []) ≡ true → y ≡ held top x → Makes r low high y a
-    → held_or top a ≡ held_in r top x
-made_short top r x f e m = made_held top r m ∙ ap (held_in r top) e ∙ go (within (from 0 top) x) refl
-  where
-    same : (b : Bool) → cond b top top ≡ top
-    same true = refl
-    same false = refl
-
-    outside : within (from 0 top) x ≡ false → within r x ≡ false
-    outside q = false_of (within r x) (λ a. clash (kept top (from 0 top) (r ∷ []) x f a).0 q)
-
-    go : (b : Bool) → within (from 0 top) x ≡ b → held_in r top (cond b x top) ≡ held_in r top x
-    go true q = refl
-    go false q = same (within r top) ∙ sym (ap (λ (b : Bool). cond b x top) (outside q))

@@ -3,7 +3,6 @@
 #![tactic(auto)]
 
 mod held;
-mod values;
 
 ghost use Rattle.std.specs.Prelude.{◌≡◌, cond, eqb};
 ghost use Rattle.sheet.specs.Refusals.{number_of, place_of, told_result};
@@ -19,60 +18,42 @@ fn own_numbers(own: Own) -> [u32; 2]
 {
     match own {
         Own::One => [0, 0],
-        Own::Two(section) => {
-            let depth = values::short(section.depth.0);
-            [section.inner_modulus, depth]
-        }
+        Own::Two(section) => [section.inner_modulus, u32::from(section.depth.0)],
     }
 }
 
 pub fn header_numbers(h: Header) -> [u32; 10]
     ensures { result ≡ header_numbers h }
 {
-    let version = h.version as u32;
-    let length = h.length.0 as u32;
-    let draught = h.draught.0 as u32;
-    let wave = h.wave.0 as u32;
-    let runs = values::flag(h.two_runs);
-    let count = h.count as u32;
-    let own = h.own;
-    let more = own_numbers(own);
+    let [inner_modulus, depth] = own_numbers(h.own);
     [
-        version,
-        length,
-        draught,
-        wave,
-        runs,
+        u32::from(h.version),
+        u32::from(h.length.0),
+        u32::from(h.draught.0),
+        u32::from(h.wave.0),
+        u32::from(h.two_runs),
         h.moment,
         h.bottom_modulus,
-        count,
-        more[0],
-        more[1],
+        u32::from(h.count),
+        inner_modulus,
+        depth,
     ]
 }
 
 fn plate_numbers(kind: u8, id: u16, p: Plate) -> [u32; 13]
     ensures { result ≡ plate_numbers kind id p }
 {
-    let factor = values::short(p.factor.0);
-    let z = values::short(p.z.0);
-    let spacing = values::short(p.spacing.0);
-    let thickness = values::short(p.thickness.0);
-    let b1 = values::short(p.b1.0);
-    let b2 = values::short(p.b2.0);
-    let ballast = values::flag(p.ballast);
-    let top = values::short(p.tank_top.0);
     [
-        values::byte(kind),
-        values::short(id),
-        factor,
-        z,
-        spacing,
-        thickness,
-        b1,
-        b2,
-        ballast,
-        top,
+        u32::from(kind),
+        u32::from(id),
+        u32::from(p.factor.0),
+        u32::from(p.z.0),
+        u32::from(p.spacing.0),
+        u32::from(p.thickness.0),
+        u32::from(p.b1.0),
+        u32::from(p.b2.0),
+        u32::from(p.ballast),
+        u32::from(p.tank_top.0),
         p.cargo,
         0,
         0,
@@ -82,42 +63,29 @@ fn plate_numbers(kind: u8, id: u16, p: Plate) -> [u32; 13]
 fn member_numbers(kind: u8, id: u16, m: Member) -> [u32; 13]
     ensures { result ≡ member_numbers kind id m }
 {
-    let z = values::short(m.z.0);
-    let spacing = values::short(m.spacing.0);
-    let span = values::short(m.span.0);
-    let thickness = values::short(m.thickness.0);
-    let bending = values::byte(m.bending);
-    let shear = values::byte(m.shear);
-    let eta = values::byte(m.eta);
-    let stress = values::byte(m.stress);
-    let area = values::short(m.area.0);
-    let factor = values::short(m.factor.0);
     [
-        values::byte(kind),
-        values::short(id),
-        z,
-        spacing,
-        span,
-        thickness,
-        bending,
-        shear,
-        eta,
-        stress,
+        u32::from(kind),
+        u32::from(id),
+        u32::from(m.z.0),
+        u32::from(m.spacing.0),
+        u32::from(m.span.0),
+        u32::from(m.thickness.0),
+        u32::from(m.bending),
+        u32::from(m.shear),
+        u32::from(m.eta),
+        u32::from(m.stress),
         m.modulus.0,
-        area,
-        factor,
+        u32::from(m.area.0),
+        u32::from(m.factor.0),
     ]
 }
 
 pub fn record_numbers(r: Record) -> [u32; 13]
     ensures { result ≡ record_numbers r }
 {
-    let kind = r.kind;
-    let id = r.id;
-    let body = r.body;
-    match body {
-        Body::Plate(p) => plate_numbers(kind, id, p),
-        Body::Member(m) => member_numbers(kind, id, m),
+    match r.body {
+        Body::Plate(p) => plate_numbers(r.kind, r.id, p),
+        Body::Member(m) => member_numbers(r.kind, r.id, m),
     }
 }
 
@@ -144,38 +112,28 @@ fn own_held(f: [u32; 10]) -> Own
     ensures { result ≡ own_held f }
 {
     if f[0] == 2 {
-        let inner_modulus = f[8];
-        let depth = held::span_of(f[9]);
-        return Own::Two(Section {
-            inner_modulus,
-            depth,
-        });
+        Own::Two(Section {
+            inner_modulus: f[8],
+            depth: held::quantity_of(f[9]),
+        })
+    } else {
+        Own::One
     }
-    Own::One
 }
 
 fn header_held(f: [u32; 10]) -> Header
     ensures { result ≡ header_held f }
 {
-    let version = held::byte(f[0]);
-    let length = held::span_of(f[1]);
-    let draught = held::span_of(f[2]);
-    let wave = held::span_of(f[3]);
-    let two_runs = f[4] == 1;
-    let moment = f[5];
-    let bottom_modulus = f[6];
-    let count = held::short(f[7]);
-    let own = own_held(f);
     Header {
-        version,
-        length,
-        draught,
-        wave,
-        two_runs,
-        moment,
-        bottom_modulus,
-        count,
-        own,
+        version: held::byte(f[0]),
+        length: held::quantity_of(f[1]),
+        draught: held::quantity_of(f[2]),
+        wave: held::quantity_of(f[3]),
+        two_runs: f[4] == 1,
+        moment: f[5],
+        bottom_modulus: f[6],
+        count: held::short(f[7]),
+        own: own_held(f),
     }
 }
 
@@ -183,9 +141,7 @@ fn header_held(f: [u32; 10]) -> Header
 pub fn header_size(f: [u32; 10]) -> usize
     ensures { result ≡ named_size f }
 {
-    let own = own_held(f);
-    let version = own.version();
-    version.size
+    own_held(f).version().size
 }
 
 // The first field of a header that is at fault although what it was held as is not, or 0: runs, and the numbers past n in version 1, which are 0.
@@ -214,76 +170,49 @@ pub fn header_from(f: [u32; 10]) -> Result<Header, Refusal>
 fn plate_held(f: [u32; 13]) -> Plate
     ensures { result ≡ plate_held f }
 {
-    let factor = held::factor_of(f[2]);
-    let z = held::span_of(f[3]);
-    let spacing = held::spacing_of(f[4]);
-    let thickness = held::thickness_of(f[5]);
-    let b1 = held::span_of(f[6]);
-    let b2 = held::span_of(f[7]);
-    let ballast = f[8] == 1;
-    let tank_top = held::span_of(f[9]);
-    let cargo = f[10];
     Plate {
-        factor,
-        z,
-        spacing,
-        thickness,
-        b1,
-        b2,
-        ballast,
-        tank_top,
-        cargo,
+        factor: held::quantity_of(f[2]),
+        z: held::quantity_of(f[3]),
+        spacing: held::quantity_of(f[4]),
+        thickness: held::quantity_of(f[5]),
+        b1: held::quantity_of(f[6]),
+        b2: held::quantity_of(f[7]),
+        ballast: f[8] == 1,
+        tank_top: held::quantity_of(f[9]),
+        cargo: f[10],
     }
 }
 
 fn member_held(f: [u32; 13]) -> Member
     ensures { result ≡ member_held f }
 {
-    let z = held::span_of(f[2]);
-    let spacing = held::spacing_of(f[3]);
-    let span = held::span_of(f[4]);
-    let thickness = held::thickness_of(f[5]);
-    let bending = held::byte(f[6]);
-    let shear = held::byte(f[7]);
-    let eta = held::byte(f[8]);
-    let stress = held::byte(f[9]);
-    let modulus = held::modulus_of(f[10]);
-    let area = held::shear_area_of(f[11]);
-    let factor = held::factor_of(f[12]);
     Member {
-        z,
-        spacing,
-        span,
-        thickness,
-        bending,
-        shear,
-        eta,
-        stress,
-        modulus,
-        area,
-        factor,
+        z: held::quantity_of(f[2]),
+        spacing: held::quantity_of(f[3]),
+        span: held::quantity_of(f[4]),
+        thickness: held::quantity_of(f[5]),
+        bending: held::byte(f[6]),
+        shear: held::byte(f[7]),
+        eta: held::byte(f[8]),
+        stress: held::byte(f[9]),
+        modulus: held::quantity_of(f[10]),
+        area: held::quantity_of(f[11]),
+        factor: held::quantity_of(f[12]),
     }
 }
 
 fn record_held(f: [u32; 13]) -> Record
     ensures { result ≡ record_held f }
 {
-    let kind = held::byte(f[0]);
-    let id = held::short(f[1]);
-    if f[0] < 5 {
-        let p = plate_held(f);
-        Record {
-            kind,
-            id,
-            body: Body::Plate(p),
-        }
+    let body = if f[0] < 5 {
+        Body::Plate(plate_held(f))
     } else {
-        let m = member_held(f);
-        Record {
-            kind,
-            id,
-            body: Body::Member(m),
-        }
+        Body::Member(member_held(f))
+    };
+    Record {
+        kind: held::byte(f[0]),
+        id: held::short(f[1]),
+        body,
     }
 }
 

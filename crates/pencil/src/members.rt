@@ -6,7 +6,7 @@ use crate::Section;
 use crate::lines::{ruled, verdict_line};
 use crate::numbers::{cut, divide, taken_apart, times};
 use framing::MemberWork;
-use quantity::{Modulus, ShearArea, Thickness};
+use quantity::{Modulus, Quantity, ShearArea, Thickness};
 use sheet::{Header, Member};
 
 pub fn member_first(h: Header, kind: u8, m: Member, w: MemberWork) -> Section
@@ -17,7 +17,7 @@ pub fn member_first(h: Header, kind: u8, m: Member, w: MemberWork) -> Section
     let k = factor.0 as u64;
     let per = 45 * m.spacing.0 as u64;
     let d = w.web;
-    let top = Thickness::HIGH as u32;
+    let top = Thickness::HIGH;
     let has = m.thickness.0 as u32;
     let none = [0u64; 7];
     if 6 <= kind {
@@ -128,7 +128,7 @@ pub fn member_third(kind: u8, m: Member, w: MemberWork) -> Section
     let d = w.shear;
     let verdict = w.verdict;
     let last = verdict_line(verdict);
-    let top = ShearArea::HIGH as u32;
+    let top = ShearArea::HIGH;
     let has = m.area.0 as u32;
     let none = [0u64; 7];
     let shear = m.shear as u64;

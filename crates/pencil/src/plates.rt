@@ -8,7 +8,7 @@ use crate::lines::{ruled, verdict_line};
 use crate::numbers::{cut, divide, taken_apart, times};
 use crate::{Form, Section};
 use plating::PlateWork;
-use quantity::{Spacing, SteelFactor, Thickness};
+use quantity::{Quantity, Spacing, SteelFactor, Thickness};
 use sheet::kinds::is_long;
 use sheet::{Header, Plate};
 
@@ -18,7 +18,7 @@ pub fn plate_first(h: Header, kind: u8, p: Plate, w: PlateWork) -> Section
     let n = h.length.0 as u64 * h.length.0 as u64 * p.factor.0 as u64;
     let per = 36 * p.spacing.0 as u64;
     let d = w.first;
-    let top = Thickness::HIGH as u32;
+    let top = Thickness::HIGH;
     let has = p.thickness.0 as u32;
     let none = [0u64; 7];
     match kind {
@@ -72,7 +72,7 @@ pub fn plate_second(kind: u8, p: Plate, w: PlateWork) -> Section
     let n = times(s * s * p.factor.0 as u64, load.pressure.0);
     let long = times(9, n);
     let d = w.second;
-    let top = Thickness::HIGH as u32;
+    let top = Thickness::HIGH;
     let has = p.thickness.0 as u32;
     let none = [0u64; 7];
     if is_long(kind) {
@@ -180,7 +180,7 @@ pub fn plate_third(h: Header, kind: u8, p: Plate, w: PlateWork) -> Section
         limit.whole,
         limit.left,
     ];
-    let top = Thickness::HIGH as u32;
+    let top = Thickness::HIGH;
     let has = p.thickness.0 as u32;
     ruled(
         front,

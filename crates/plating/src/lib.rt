@@ -17,7 +17,7 @@ ghost use Rattle.plating.specs.Bounds.{Panel, greatest_r};
 
 use gauge::Shape;
 use loads::Load;
-use quantity::{Spacing, Span, SteelFactor, Thickness};
+use quantity::{Quantity, Spacing, Span, SteelFactor, Thickness};
 use sheet::kinds::{is_bottom, is_long};
 use sheet::{Header, Plate, Refusal};
 use verdict::{Judged, Verdict};
@@ -196,7 +196,7 @@ fn plate_verdict(h: Header, kind: u8, p: Plate, load: Load) -> Verdict
     requires { HeaderRanges h × PlateRanges kind p × (load.pressure.0 ≡ plate_pressure h kind p) }
     ensures { result ≡ verdict_of (plate_rules h kind p) }
 {
-    let top = Thickness::HIGH as u32;
+    let top = Thickness::HIGH;
     let t = p.thickness.0 as u32;
     let d1 = rule1(kind, h.length, p.factor, p.spacing);
     if !gauge::meets(d1, t) {

@@ -1,22 +1,6 @@
 -- What a maker answers: the number held, or a refusal.
-use Rattle.std.specs.Prelude.{ℕ, ◌≡◌, cond}
-use Rattle.quantity.specs.Range.{Range, within}
-use Rattle.quantity.specs.declared.MadeSpan.{MadeSpan}
-use Rattle.quantity.specs.declared.MadeSpan.TheVariants.{Span as isSpan, Refused as noSpan}
-use Rattle.quantity.specs.declared.MadeSpacing.{MadeSpacing}
-use Rattle.quantity.specs.declared.MadeSpacing.TheVariants.{Spacing as isSpacing, Refused as noSpacing}
-use Rattle.quantity.specs.declared.MadeThickness.{MadeThickness}
-use Rattle.quantity.specs.declared.MadeThickness.TheVariants.{Thickness as isThickness, Refused as noThickness}
-use Rattle.quantity.specs.declared.MadeModulus.{MadeModulus}
-use Rattle.quantity.specs.declared.MadeModulus.TheVariants.{Modulus as isModulus, Refused as noModulus}
-use Rattle.quantity.specs.declared.MadeShearArea.{MadeShearArea}
-use Rattle.quantity.specs.declared.MadeShearArea.TheVariants.{ShearArea as isShearArea, Refused as noShearArea}
-use Rattle.quantity.specs.declared.MadePressure.{MadePressure}
-use Rattle.quantity.specs.declared.MadePressure.TheVariants.{Pressure as isPressure, Refused as noPressure}
-use Rattle.quantity.specs.declared.MadeLineLoad.{MadeLineLoad}
-use Rattle.quantity.specs.declared.MadeLineLoad.TheVariants.{LineLoad as isLineLoad, Refused as noLineLoad}
-use Rattle.quantity.specs.declared.MadeSteelFactor.{MadeSteelFactor}
-use Rattle.quantity.specs.declared.MadeSteelFactor.TheVariants.{SteelFactor as isSteelFactor, Refused as noSteelFactor}
+use Rattle.std.specs.Prelude.{ℕ, ◌≤◌, ◌≡◌, cond, Option, Some, None}
+use Rattle.quantity.specs.Range.{Range, from, within}
 
 -- a number that is held, or none
 pub data Held : Type 0 where
@@ -33,34 +17,21 @@ pub record Makes (r : Range) (low high x : ℕ) (answer : Held) : Type 0 where
   pub highest : high ≡ r.high
   pub answered : answer ≡ held_of r x
 
-abbrev pub told_span : MadeSpan → Held
-told_span (isSpan x) = held x.0
-told_span noSpan = refused
+-- a maker's answer, where this is the number that a quantity holds
+abbrev pub told : {A : Type 0} → (A → ℕ) → Option A → Held
+told number (Some a) = held (number a)
+told number None = refused
 
-abbrev pub told_spacing : MadeSpacing → Held
-told_spacing (isSpacing x) = held x.0
-told_spacing noSpacing = refused
+-- a number above the highest for which there is room as that highest
+abbrev pub held_below : (top x : ℕ) → ℕ
+held_below top x = cond (within (from 0 top) x) x top
 
-abbrev pub told_thickness : MadeThickness → Held
-told_thickness (isThickness x) = held x.0
-told_thickness noThickness = refused
-
-abbrev pub told_modulus : MadeModulus → Held
-told_modulus (isModulus x) = held x.0
-told_modulus noModulus = refused
-
-abbrev pub told_shear_area : MadeShearArea → Held
-told_shear_area (isShearArea x) = held x.0
-told_shear_area noShearArea = refused
-
-abbrev pub told_pressure : MadePressure → Held
-told_pressure (isPressure x) = held x.0
-told_pressure noPressure = refused
-
-abbrev pub told_line_load : MadeLineLoad → Held
-told_line_load (isLineLoad x) = held x.0
-told_line_load noLineLoad = refused
-
-abbrev pub told_steel_factor : MadeSteelFactor → Held
-told_steel_factor (isSteelFactor x) = held x.0
-told_steel_factor noSteelFactor = refused
+-- What a type of quantities keeps: its constants are the range's ends, it has room for the range in at most 64 bits, and each number makes one value,
+-- which holds it.
+pub record Holds {A : Type 0} (r : Range) (low high top : ℕ) (of : ℕ → A) (number : A → ℕ) : Type 0 where
+  pub lowest : low ≡ r.low
+  pub highest : high ≡ r.high
+  pub room : high ≤ top
+  pub narrow : top ≤ 18446744073709551615
+  pub number_of : (x : ℕ) → number (of x) ≡ x
+  pub of_number : (a : A) → of (number a) ≡ a

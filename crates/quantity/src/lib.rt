@@ -1,230 +1,268 @@
 // The eight quantities of the sheet. Each is a type of its own, so that none can be handed over for another; each has its lowest and
-// highest value, and a maker that refuses what lies outside them.
+// highest value, and all have one maker, which refuses what lies outside them.
 #![tactic(auto)]
 
-ghost use Rattle.quantity.specs.Range.{span, spacing, thickness, modulus, shear_area, pressure, line_load, steel_factor};
-ghost use Rattle.quantity.specs.Made.{Makes, told_span, told_spacing, told_thickness, told_modulus, told_shear_area, told_pressure, told_line_load, told_steel_factor};
+ghost use Rattle.std.specs.Prelude.{◌≡◌, ℕ, refl};
+ghost use Rattle.quantity.specs.Range.{Range, span, spacing, thickness, modulus, shear_area, pressure, line_load, steel_factor};
+ghost use Rattle.quantity.specs.Made.{Makes, Holds, held_below, told};
+ghost use Rattle.quantity.specs.laws.Holding.{holds};
 
-// A length, a height or a span, in cm.
-#[derive(Clone, Copy)]
+// A whole number with its lowest and its highest value.
+pub trait Quantity: Copy {
+    ghost range: { Range };
+
+    // The highest number for which the type has room.
+    ghost top: { ℕ };
+
+    // The value that holds a number, and the number that a value holds.
+    ghost of: { ℕ → Self };
+
+    ghost number: { Self → ℕ };
+
+    ghost LOW: { ℕ };
+
+    ghost HIGH: { ℕ };
+
+    const LOW: u32;
+
+    const HIGH: u32;
+
+    // The number in the type; one for which it has no room is held as the highest for which it has.
+    fn hold(x: u64) -> Self
+        ensures { result ≡ of (held_below top x) };
+
+    // What each type keeps.
+    ghost holds: { Holds range LOW HIGH top of number };
+
+    // The number as a quantity, or none where it lies outside the range.
+    final fn make(x: u64) -> Option<Self>
+        ensures { Makes range LOW HIGH x (told number result) }
+    {
+        let range = u64::from(Self::LOW)..=u64::from(Self::HIGH);
+        range.contains(&x).then(|| Self::hold(x))
+    }
+}
+
+// A length, a height or a span.
+#[derive(Clone, Copy, PartialEq, Eq, PartialOrd, Ord, Debug)]
 pub struct Span(pub u16);
 
-#[derive(Clone, Copy)]
-pub enum MadeSpan {
-    Span(Span),
-    Refused,
-}
+impl Quantity for Span {
+    ghost range = { span };
 
-impl Span {
-    pub const LOW: u16 = 0;
+    ghost LOW = { span.low };
 
-    pub const HIGH: u16 = 13500;
+    ghost HIGH = { span.high };
 
-    pub fn make(x: u16) -> MadeSpan
-        ensures { Makes span Span.LOW Span.HIGH x (told_span result) }
-    {
-        if x < Span::LOW {
-            return MadeSpan::Refused;
-        }
-        if Span::HIGH < x {
-            return MadeSpan::Refused;
-        }
-        MadeSpan::Span(Span(x))
+    ghost top = { 65535 };
+
+    ghost of = { λ x. record { 0 = x } };
+
+    ghost number = { λ q. q.0 };
+
+    ghost holds = { holds refl refl (λ x. refl) (λ q. refl) };
+
+    const LOW: u32 = 0; // cm
+
+    const HIGH: u32 = 13500; // cm
+
+    fn hold(x: u64) -> Span {
+        Span(u16::try_from(x).unwrap_or(u16::MAX))
     }
 }
 
-// The spacing S of frames, in mm.
-#[derive(Clone, Copy)]
+// The spacing S of frames.
+#[derive(Clone, Copy, PartialEq, Eq, PartialOrd, Ord, Debug)]
 pub struct Spacing(pub u16);
 
-#[derive(Clone, Copy)]
-pub enum MadeSpacing {
-    Spacing(Spacing),
-    Refused,
-}
+impl Quantity for Spacing {
+    ghost range = { spacing };
 
-impl Spacing {
-    pub const LOW: u16 = 100;
+    ghost LOW = { spacing.low };
 
-    pub const HIGH: u16 = 4000;
+    ghost HIGH = { spacing.high };
 
-    pub fn make(x: u16) -> MadeSpacing
-        ensures { Makes spacing Spacing.LOW Spacing.HIGH x (told_spacing result) }
-    {
-        if x < Spacing::LOW {
-            return MadeSpacing::Refused;
-        }
-        if Spacing::HIGH < x {
-            return MadeSpacing::Refused;
-        }
-        MadeSpacing::Spacing(Spacing(x))
+    ghost top = { 65535 };
+
+    ghost of = { λ x. record { 0 = x } };
+
+    ghost number = { λ q. q.0 };
+
+    ghost holds = { holds refl refl (λ x. refl) (λ q. refl) };
+
+    const LOW: u32 = 100; // mm
+
+    const HIGH: u32 = 4000; // mm
+
+    fn hold(x: u64) -> Spacing {
+        Spacing(u16::try_from(x).unwrap_or(u16::MAX))
     }
 }
 
-// The thickness T of a plate or a web, in hundredths of a mm.
-#[derive(Clone, Copy)]
+// The thickness T of a plate or a web.
+#[derive(Clone, Copy, PartialEq, Eq, PartialOrd, Ord, Debug)]
 pub struct Thickness(pub u16);
 
-#[derive(Clone, Copy)]
-pub enum MadeThickness {
-    Thickness(Thickness),
-    Refused,
-}
+impl Quantity for Thickness {
+    ghost range = { thickness };
 
-impl Thickness {
-    pub const LOW: u16 = 1;
+    ghost LOW = { thickness.low };
 
-    pub const HIGH: u16 = 4000;
+    ghost HIGH = { thickness.high };
 
-    pub fn make(x: u16) -> MadeThickness
-        ensures { Makes thickness Thickness.LOW Thickness.HIGH x (told_thickness result) }
-    {
-        if x < Thickness::LOW {
-            return MadeThickness::Refused;
-        }
-        if Thickness::HIGH < x {
-            return MadeThickness::Refused;
-        }
-        MadeThickness::Thickness(Thickness(x))
+    ghost top = { 65535 };
+
+    ghost of = { λ x. record { 0 = x } };
+
+    ghost number = { λ q. q.0 };
+
+    ghost holds = { holds refl refl (λ x. refl) (λ q. refl) };
+
+    const LOW: u32 = 1; // hundredths of a mm
+
+    const HIGH: u32 = 4000; // hundredths of a mm
+
+    fn hold(x: u64) -> Thickness {
+        Thickness(u16::try_from(x).unwrap_or(u16::MAX))
     }
 }
 
-// The section modulus W of a member, in tenths of a cm³.
-#[derive(Clone, Copy)]
+// The section modulus W of a member.
+#[derive(Clone, Copy, PartialEq, Eq, PartialOrd, Ord, Debug)]
 pub struct Modulus(pub u32);
 
-#[derive(Clone, Copy)]
-pub enum MadeModulus {
-    Modulus(Modulus),
-    Refused,
-}
+impl Quantity for Modulus {
+    ghost range = { modulus };
 
-impl Modulus {
-    pub const LOW: u32 = 1;
+    ghost LOW = { modulus.low };
 
-    pub const HIGH: u32 = 100000;
+    ghost HIGH = { modulus.high };
 
-    pub fn make(x: u32) -> MadeModulus
-        ensures { Makes modulus Modulus.LOW Modulus.HIGH x (told_modulus result) }
-    {
-        if x < Modulus::LOW {
-            return MadeModulus::Refused;
-        }
-        if Modulus::HIGH < x {
-            return MadeModulus::Refused;
-        }
-        MadeModulus::Modulus(Modulus(x))
+    ghost top = { 4294967295 };
+
+    ghost of = { λ x. record { 0 = x } };
+
+    ghost number = { λ q. q.0 };
+
+    ghost holds = { holds refl refl (λ x. refl) (λ q. refl) };
+
+    const LOW: u32 = 1; // tenths of a cm³
+
+    const HIGH: u32 = 100000; // tenths of a cm³
+
+    fn hold(x: u64) -> Modulus {
+        Modulus(u32::try_from(x).unwrap_or(u32::MAX))
     }
 }
 
-// The shear area A of a member, in hundredths of a cm².
-#[derive(Clone, Copy)]
+// The shear area A of a member.
+#[derive(Clone, Copy, PartialEq, Eq, PartialOrd, Ord, Debug)]
 pub struct ShearArea(pub u16);
 
-#[derive(Clone, Copy)]
-pub enum MadeShearArea {
-    ShearArea(ShearArea),
-    Refused,
-}
+impl Quantity for ShearArea {
+    ghost range = { shear_area };
 
-impl ShearArea {
-    pub const LOW: u16 = 1;
+    ghost LOW = { shear_area.low };
 
-    pub const HIGH: u16 = 16000;
+    ghost HIGH = { shear_area.high };
 
-    pub fn make(x: u16) -> MadeShearArea
-        ensures { Makes shear_area ShearArea.LOW ShearArea.HIGH x (told_shear_area result) }
-    {
-        if x < ShearArea::LOW {
-            return MadeShearArea::Refused;
-        }
-        if ShearArea::HIGH < x {
-            return MadeShearArea::Refused;
-        }
-        MadeShearArea::ShearArea(ShearArea(x))
+    ghost top = { 65535 };
+
+    ghost of = { λ x. record { 0 = x } };
+
+    ghost number = { λ q. q.0 };
+
+    ghost holds = { holds refl refl (λ x. refl) (λ q. refl) };
+
+    const LOW: u32 = 1; // hundredths of a cm²
+
+    const HIGH: u32 = 16000; // hundredths of a cm²
+
+    fn hold(x: u64) -> ShearArea {
+        ShearArea(u16::try_from(x).unwrap_or(u16::MAX))
     }
 }
 
-// A pressure P, in thousandths of a Pa.
-#[derive(Clone, Copy)]
+// A pressure P.
+#[derive(Clone, Copy, PartialEq, Eq, PartialOrd, Ord, Debug)]
 pub struct Pressure(pub u64);
 
-#[derive(Clone, Copy)]
-pub enum MadePressure {
-    Pressure(Pressure),
-    Refused,
-}
+impl Quantity for Pressure {
+    ghost range = { pressure };
 
-impl Pressure {
-    pub const LOW: u64 = 0;
+    ghost LOW = { pressure.low };
 
-    pub const HIGH: u64 = 200000000;
+    ghost HIGH = { pressure.high };
 
-    pub fn make(x: u64) -> MadePressure
-        ensures { Makes pressure Pressure.LOW Pressure.HIGH x (told_pressure result) }
-    {
-        if x < Pressure::LOW {
-            return MadePressure::Refused;
-        }
-        if Pressure::HIGH < x {
-            return MadePressure::Refused;
-        }
-        MadePressure::Pressure(Pressure(x))
+    ghost top = { 18446744073709551615 };
+
+    ghost of = { λ x. record { 0 = x } };
+
+    ghost number = { λ q. q.0 };
+
+    ghost holds = { holds refl refl (λ x. refl) (λ q. refl) };
+
+    const LOW: u32 = 0; // thousandths of a Pa
+
+    const HIGH: u32 = 200000000; // thousandths of a Pa
+
+    fn hold(x: u64) -> Pressure {
+        Pressure(x)
     }
 }
 
-// The line load q on a member, in N/m.
-#[derive(Clone, Copy)]
+// The line load q on a member.
+#[derive(Clone, Copy, PartialEq, Eq, PartialOrd, Ord, Debug)]
 pub struct LineLoad(pub u64);
 
-#[derive(Clone, Copy)]
-pub enum MadeLineLoad {
-    LineLoad(LineLoad),
-    Refused,
-}
+impl Quantity for LineLoad {
+    ghost range = { line_load };
 
-impl LineLoad {
-    pub const LOW: u64 = 0;
+    ghost LOW = { line_load.low };
 
-    pub const HIGH: u64 = 416415;
+    ghost HIGH = { line_load.high };
 
-    pub fn make(x: u64) -> MadeLineLoad
-        ensures { Makes line_load LineLoad.LOW LineLoad.HIGH x (told_line_load result) }
-    {
-        if x < LineLoad::LOW {
-            return MadeLineLoad::Refused;
-        }
-        if LineLoad::HIGH < x {
-            return MadeLineLoad::Refused;
-        }
-        MadeLineLoad::LineLoad(LineLoad(x))
+    ghost top = { 18446744073709551615 };
+
+    ghost of = { λ x. record { 0 = x } };
+
+    ghost number = { λ q. q.0 };
+
+    ghost holds = { holds refl refl (λ x. refl) (λ q. refl) };
+
+    const LOW: u32 = 0; // N/m
+
+    const HIGH: u32 = 416415; // N/m
+
+    fn hold(x: u64) -> LineLoad {
+        LineLoad(x)
     }
 }
 
 // The steel factor K = 1000k.
-#[derive(Clone, Copy)]
+#[derive(Clone, Copy, PartialEq, Eq, PartialOrd, Ord, Debug)]
 pub struct SteelFactor(pub u16);
 
-#[derive(Clone, Copy)]
-pub enum MadeSteelFactor {
-    SteelFactor(SteelFactor),
-    Refused,
-}
+impl Quantity for SteelFactor {
+    ghost range = { steel_factor };
 
-impl SteelFactor {
-    pub const LOW: u16 = 500;
+    ghost LOW = { steel_factor.low };
 
-    pub const HIGH: u16 = 1000;
+    ghost HIGH = { steel_factor.high };
 
-    pub fn make(x: u16) -> MadeSteelFactor
-        ensures { Makes steel_factor SteelFactor.LOW SteelFactor.HIGH x (told_steel_factor result) }
-    {
-        if x < SteelFactor::LOW {
-            return MadeSteelFactor::Refused;
-        }
-        if SteelFactor::HIGH < x {
-            return MadeSteelFactor::Refused;
-        }
-        MadeSteelFactor::SteelFactor(SteelFactor(x))
+    ghost top = { 65535 };
+
+    ghost of = { λ x. record { 0 = x } };
+
+    ghost number = { λ q. q.0 };
+
+    ghost holds = { holds refl refl (λ x. refl) (λ q. refl) };
+
+    const LOW: u32 = 500;
+
+    const HIGH: u32 = 1000;
+
+    fn hold(x: u64) -> SteelFactor {
+        SteelFactor(u16::try_from(x).unwrap_or(u16::MAX))
     }
 }

@@ -1,7 +1,6 @@
 // One record of the sheet: 128 bits, read from sixteen bytes and written to them.
 #![tactic(auto)]
 
-mod choice;
 mod member;
 mod plate;
 

@@ -6,10 +6,9 @@ ghost use Rattle.layout.specs.Bytes.{long_of};
 ghost use Rattle.sheet.specs.Lines.{member_widths};
 ghost use Rattle.sheet.specs.Record.{member_values, member_at, member_fault};
 
-use crate::choice::pick;
 use layout::Long;
 use layout::powers::{P6, P18, P24, P28, P40, P41, P49, P50, P56, P60, P63};
-use quantity::{Modulus, ShearArea, Spacing, Span, SteelFactor, Thickness};
+use quantity::{Modulus, Quantity, ShearArea, Spacing, Span, SteelFactor, Thickness};
 use sheet::{Member, kinds};
 
 // The same of a member's last three fields: W, A and K.
@@ -18,18 +17,12 @@ fn scantling_fault(m: Member) -> u8
 {
     let f = layout::fault_unless(
         m.factor.0 as u32,
-        SteelFactor::LOW as u32,
-        SteelFactor::HIGH as u32,
+        SteelFactor::LOW,
+        SteelFactor::HIGH,
         13,
         0,
     );
-    let f = layout::fault_unless(
-        m.area.0 as u32,
-        ShearArea::LOW as u32,
-        ShearArea::HIGH as u32,
-        12,
-        f,
-    );
+    let f = layout::fault_unless(m.area.0 as u32, ShearArea::LOW, ShearArea::HIGH, 12, f);
     layout::fault_unless(m.modulus.0, Modulus::LOW, Modulus::HIGH, 11, f)
 }
 
@@ -38,32 +31,17 @@ pub fn fault(kind: u8, id: u16, m: Member) -> u8
 {
     let floor = kinds::is_floor(kind);
     let f = scantling_fault(m);
-    let f = layout::fault_unless(m.stress as u32, 0, pick(floor, 0, 255), 10, f);
-    let f = layout::fault_unless(
-        m.eta as u32,
-        pick(floor, 100, 1),
-        pick(floor, 100, 100),
-        9,
-        f,
-    );
+    let stress = if floor { 0 } else { 255 };
+    let f = layout::fault_unless(m.stress as u32, 0, stress, 10, f);
+    let eta = if floor { 100 } else { 1 };
+    let f = layout::fault_unless(m.eta as u32, eta, 100, 9, f);
     let f = layout::fault_unless(m.shear as u32, 1, 100, 8, f);
     let f = layout::fault_unless(m.bending as u32, 1, 100, 7, f);
-    let f = layout::fault_unless(
-        m.thickness.0 as u32,
-        Thickness::LOW as u32,
-        Thickness::HIGH as u32,
-        6,
-        f,
-    );
+    let f = layout::fault_unless(m.thickness.0 as u32, Thickness::LOW, Thickness::HIGH, 6, f);
     let f = layout::fault_unless(m.span.0 as u32, 10, 1000, 5, f);
-    let f = layout::fault_unless(
-        m.spacing.0 as u32,
-        Spacing::LOW as u32,
-        Spacing::HIGH as u32,
-        4,
-        f,
-    );
-    let f = layout::fault_unless(m.z.0 as u32, 0, pick(kinds::is_deep(kind), 0, 1000), 3, f);
+    let f = layout::fault_unless(m.spacing.0 as u32, Spacing::LOW, Spacing::HIGH, 4, f);
+    let z = if kinds::is_deep(kind) { 0 } else { 1000 };
+    let f = layout::fault_unless(m.z.0 as u32, 0, z, 3, f);
     let f = layout::fault_unless(id as u32, 1, 1000, 2, f);
     layout::fault_unless(kind as u32, 5, 8, 1, f)
 }

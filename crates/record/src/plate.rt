@@ -5,10 +5,9 @@ ghost use Rattle.layout.specs.Bytes.{long_of};
 ghost use Rattle.sheet.specs.Lines.{plate_widths};
 ghost use Rattle.sheet.specs.Record.{plate_values, plate_at, plate_fault};
 
-use crate::choice::{bit, pick};
 use layout::Long;
 use layout::powers::{P6, P18, P20, P30, P38, P40, P49, P50, P60};
-use quantity::{Spacing, Span, SteelFactor, Thickness};
+use quantity::{Quantity, Spacing, Span, SteelFactor, Thickness};
 use sheet::{Plate, kinds};
 
 // The first field outside its values, kind being 1, or 0. It goes from the last field to the first, so that the first has the last word.
@@ -18,35 +17,20 @@ pub fn fault(kind: u8, id: u16, p: Plate, spare: u32) -> u8
     let long = kinds::is_long(kind);
     let ballast = p.ballast;
     let z = p.z.0 as u32;
-    let b_low = pick(long, 0, 10);
-    let b_high = pick(long, 0, 1000);
+    let b_low = if long { 0 } else { 10 };
+    let b_high = if long { 0 } else { 1000 };
+    let top_low = if ballast { z } else { 0 };
+    let top_high = if ballast { 1200 } else { 0 };
+    let cargo = if kinds::is_bottom(kind) { 0 } else { 200000 };
     let f = layout::fault_unless(spare, 0, 0, 12, 0);
-    let f = layout::fault_unless(p.cargo, 0, pick(kinds::is_bottom(kind), 0, 200000), 11, f);
-    let f = layout::fault_unless(
-        p.tank_top.0 as u32,
-        pick(ballast, z, 0),
-        pick(ballast, 1200, 0),
-        10,
-        f,
-    );
+    let f = layout::fault_unless(p.cargo, 0, cargo, 11, f);
+    let f = layout::fault_unless(p.tank_top.0 as u32, top_low, top_high, 10, f);
     let f = layout::fault_unless(p.b2.0 as u32, b_low, b_high, 8, f);
     let f = layout::fault_unless(p.b1.0 as u32, b_low, b_high, 7, f);
-    let f = layout::fault_unless(
-        p.thickness.0 as u32,
-        Thickness::LOW as u32,
-        Thickness::HIGH as u32,
-        6,
-        f,
-    );
-    let f = layout::fault_unless(p.spacing.0 as u32, Spacing::LOW as u32, 2000, 5, f);
+    let f = layout::fault_unless(p.thickness.0 as u32, Thickness::LOW, Thickness::HIGH, 6, f);
+    let f = layout::fault_unless(p.spacing.0 as u32, Spacing::LOW, 2000, 5, f);
     let f = layout::fault_unless(z, 0, 1000, 4, f);
-    let f = layout::fault_unless(
-        p.factor.0 as u32,
-        SteelFactor::LOW as u32,
-        SteelFactor::HIGH as u32,
-        3,
-        f,
-    );
+    let f = layout::fault_unless(p.factor.0 as u32, SteelFactor::LOW, SteelFactor::HIGH, 3, f);
     let f = layout::fault_unless(id as u32, 1, 1000, 2, f);
     layout::fault_unless(kind as u32, 1, 4, 1, f)
 }
@@ -86,7 +70,7 @@ pub fn number(kind: u8, id: u16, p: Plate) -> Long
     let b1 = p.b1.0 as u64;
     let top = (kind as u64) * P60 + (id as u64) * P50 + (p.factor.0 as u64) * P40;
     let mid = (p.z.0 as u64) * P30 + (p.spacing.0 as u64) * P18 + (p.thickness.0 as u64) * P6;
-    let low = b1 % 16 * P60 + (p.b2.0 as u64) * P50 + bit(p.ballast) * P49;
+    let low = b1 % 16 * P60 + (p.b2.0 as u64) * P50 + u64::from(p.ballast) * P49;
     Long {
         hi: top + mid + b1 / 16,
         lo: low + (p.tank_top.0 as u64) * P38 + (p.cargo as u64) * P20,

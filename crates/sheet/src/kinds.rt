@@ -5,10 +5,7 @@ ghost use Rattle.sheet.specs.Kinds.{is_long, is_bottom, is_floor, is_deep};
 pub fn is_long(kind: u8) -> bool
     ensures { result ≡ is_long kind }
 {
-    if kind == 2 {
-        return true;
-    }
-    kind == 4
+    matches!(kind, 2 | 4)
 }
 
 pub fn is_bottom(kind: u8) -> bool
@@ -26,8 +23,5 @@ pub fn is_deep(kind: u8) -> bool
 pub fn is_floor(kind: u8) -> bool
     ensures { result ≡ is_floor kind }
 {
-    if kind == 6 {
-        return true;
-    }
-    kind == 7
+    matches!(kind, 6 | 7)
 }

@@ -1,12 +1,15 @@
 -- `layout::read_word` meets its contract.
-use mathlib.Core.Path.{sym, ◌∙◌}
+use Rattle.std.specs.Int.{w64, from_be_bytes}
+use Rattle.std.proofs.Common.{sym, ap, ◌∙◌}
 use Rattle.layout.specs.laws.BytesLaws.{read_few, read_all}
+use Rattle.layout.proofs.Endian.{read_8}
 use Rattle.layout.proofs.read_word.Goals as goal
 
--- src/lib.rt:113:9
-pub returns-then-s-lt8 : goal.returns-then-s-lt8
-returns-then-s-lt8 c = sym (read_few 8 c.args.s.now c.if-s-lt8.true)
+pub returns-in-Some : goal.returns-in-Some
+returns-in-Some c =
+    let first = c.in-Some.ensures.cases in
+    let s = c.args.s.now in
+    c.from_be_bytes.ensures ∙ ap (from_be_bytes w64) first.same ∙ read_8 s first.enough ∙ sym (read_all 8 s first.enough)
 
--- src/lib.rt:109:1
-pub returns : goal.returns
-returns c = c.word.ensures ∙ sym (read_all 8 _ c.if-s-lt8.false)
+pub returns-in-None : goal.returns-in-None
+returns-in-None c = sym (read_few 8 c.args.s.now c.in-None.ensures.cases)

@@ -1,12 +1,13 @@
 -- `layout::write_half` meets its contract.
-use mathlib.Core.Path.{sym, ◌∙◌}
+use Rattle.std.proofs.Common.{sym, ap, ◌∙◌, ◌++◌, drop}
 use Rattle.layout.specs.laws.BytesLaws.{write_few, write_all_lem}
+use Rattle.layout.proofs.Endian.{written_4}
 use Rattle.layout.proofs.write_half.Goals as goal
 
--- src/lib.rt:101:1
-pub returns-then-out-ge4 : goal.returns-then-out-ge4
-returns-then-out-ge4 c = c.put_half.ensures ∙ sym (write_all_lem 4 _ _ c.if-out-ge4.true)
+pub returns-in-Some : goal.returns-in-Some
+returns-in-Some c =
+    let out = c.args.out.now in
+    ap (λ bs. bs ++ drop 4 out) (c.to_be_bytes.ensures ∙ written_4 c.args.w) ∙ sym (write_all_lem 4 c.args.w out c.in-Some.ensures.cases.enough)
 
--- src/lib.rt:101:1
-pub returns-else-out-ge4 : goal.returns-else-out-ge4
-returns-else-out-ge4 c = sym (write_few 4 _ _ c.if-out-ge4.false)
+pub returns-in_default : goal.returns-in_default
+returns-in_default c = sym (write_few 4 c.args.w c.args.out.now c.in_default.ensures.cases)

@@ -1,12 +1,13 @@
 -- `layout::write_word` meets its contract.
-use mathlib.Core.Path.{sym, ◌∙◌}
+use Rattle.std.proofs.Common.{sym, ap, ◌∙◌, ◌++◌, drop}
 use Rattle.layout.specs.laws.BytesLaws.{write_few, write_all_lem}
+use Rattle.layout.proofs.Endian.{written_8}
 use Rattle.layout.proofs.write_word.Goals as goal
 
--- src/lib.rt:118:1
-pub returns-then-out-ge8 : goal.returns-then-out-ge8
-returns-then-out-ge8 c = c.put_word.ensures ∙ sym (write_all_lem 8 _ _ c.if-out-ge8.true)
+pub returns-in-Some : goal.returns-in-Some
+returns-in-Some c =
+    let out = c.args.out.now in
+    ap (λ bs. bs ++ drop 8 out) (c.to_be_bytes.ensures ∙ written_8 c.args.w) ∙ sym (write_all_lem 8 c.args.w out c.in-Some.ensures.cases.enough)
 
--- src/lib.rt:118:1
-pub returns-else-out-ge8 : goal.returns-else-out-ge8
-returns-else-out-ge8 c = sym (write_few 8 _ _ c.if-out-ge8.false)
+pub returns-in_default : goal.returns-in_default
+returns-in_default c = sym (write_few 8 c.args.w c.args.out.now c.in_default.ensures.cases)
