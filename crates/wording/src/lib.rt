@@ -78,27 +78,39 @@ fn put_mark(mark: Mark, n: u64, page: &mut [u8], at: usize) -> usize
     }
 }
 
-// The register that a byte names, by its last five bits, so that every byte names one.
-fn register(byte: u8, given: &[u64; 32], own: &[u64; 32]) -> u64
-    ensures { result ≡ named given.now own.now byte }
-{
-    let k = (byte % 32) as usize;
-    if byte < b'`' { given[k] } else { own[k] }
+// The numbers that letters name: capitals those that were given, small letters the section's own.
+#[derive(Clone, Copy)]
+struct Registers<'a> {
+    given: &'a [u64; 32],
+    own: &'a [u64; 32],
+}
+
+impl Registers<'_> {
+    // By the letter's last five bits, so that every byte names one.
+    fn named(self, letter: u8) -> u64
+        ensures { result ≡ named self.entry.given.now self.entry.own.now letter }
+    {
+        let k = (letter % 32) as usize;
+        if letter < b'`' {
+            self.given[k]
+        } else {
+            self.own[k]
+        }
+    }
 }
 
 // A byte of the words. Behind a mark it names a register; a mark writes nothing itself.
 fn put_byte(
     mark: Option<Mark>,
     byte: u8,
-    given: &[u64; 32],
-    own: &[u64; 32],
+    registers: Registers<'_>,
     page: &mut [u8],
     at: usize,
 ) -> usize
-    ensures { Writes (piece_of given.now own.now (mark_byte mark) byte) (room_of (mark_byte mark)) (spot page.old at) (spot page.new result) }
+    ensures { Writes (piece_of registers.entry.given.now registers.entry.own.now (mark_byte mark) byte) (room_of (mark_byte mark)) (spot page.old at) (spot page.new result) }
 {
     if let Some(mark) = mark {
-        return put_mark(mark, register(byte, given, own), page, at);
+        return put_mark(mark, registers.named(byte), page, at);
     }
     match mark_of(byte) {
         Some(_) => at,
@@ -120,10 +132,11 @@ fn mark_behind(mark: Option<Mark>, byte: u8) -> Option<Mark>
 pub fn fill(words: &[u8], given: &[u64; 32], own: &[u64; 32], page: &mut [u8], at: usize) -> usize
     ensures { Writes (pieces given.now own.now 0 words.now) (most 0 words.now) (spot page.old at) (spot page.new result) }
 {
+    let registers = Registers { given, own };
     let mut next = at;
     let mut mark = None;
     for &byte in words {
-        next = put_byte(mark, byte, given, own, page, next);
+        next = put_byte(mark, byte, registers, page, next);
         mark = mark_behind(mark, byte);
     }
     next

@@ -30,7 +30,7 @@ unmarked (suc b) e = go (is_mark (suc b)) e
 
 pub returns-in-Some : goal.returns-in-Some
 unfolding piece_of
-returns-in-Some c = rw (c.in-Some.is, ne_eqb _ 0 (some_byte c.in-Some.mark), sym c.register.ensures) c.put_mark.ensures
+returns-in-Some c = rw (c.in-Some.is, ne_eqb _ 0 (some_byte c.in-Some.mark), sym c.named.ensures) c.put_mark.ensures
 
 pub returns-in-Some-mark_of : goal.returns-in-Some-mark_of
 unfolding piece_of
