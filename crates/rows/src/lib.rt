@@ -35,10 +35,7 @@ pub struct Row {
 fn is_within(x: u32, low: u32, high: u32) -> bool
     ensures { result ≡ within (from low high) x }
 {
-    if x < low {
-        return false;
-    }
-    x <= high
+    (low..=high).contains(&x)
 }
 
 // All numbers, and where the version or the kind is not known only the first.
@@ -71,11 +68,7 @@ fn own_part(n: [u32; 13]) -> [u32; 13]
 fn is_fault(end: LineEnd) -> bool
     ensures { result ≡ is_fault end }
 {
-    match end {
-        LineEnd::More(_) => false,
-        LineEnd::Last => false,
-        LineEnd::Fault => true,
-    }
+    matches!(end, LineEnd::Fault)
 }
 
 fn refused(x: Refusal) -> Row
@@ -93,8 +86,7 @@ fn row_end(end: LineEnd) -> RowEnd
 {
     match end {
         LineEnd::More(next) => RowEnd::More(next),
-        LineEnd::Last => RowEnd::Last,
-        LineEnd::Fault => RowEnd::Last,
+        LineEnd::Last | LineEnd::Fault => RowEnd::Last,
     }
 }
 
@@ -102,10 +94,7 @@ fn row_end(end: LineEnd) -> RowEnd
 fn miscounted(known: bool, count: usize, numbers: usize) -> bool
     ensures { result ≡ (known && not (eqb count numbers)) }
 {
-    if known {
-        return count != numbers;
-    }
-    false
+    known && count != numbers
 }
 
 // The numbers into the bytes of their fields, which begin at a place.
@@ -114,10 +103,9 @@ fn placed(nums: [u32; 13], form: Form, at: usize, bytes: [u8; 20]) -> [u8; 20]
     ensures { result ≡ placed_of nums form at bytes }
 {
     let mut out = bytes;
-    let limits = form.limits;
     let count = form.count;
     let end = at + form.size;
-    pack::put(nums, limits, count, &mut out[at..end]);
+    pack::put(&nums[..count], &form.limits[..count], &mut out[at..end]);
     out
 }
 
@@ -134,8 +122,7 @@ fn record_row(nums: [u32; 13], count: usize, line: u32, end: LineEnd) -> Row
         return refused(Refusal::FieldCount(line));
     }
     let ns = taken(known, nums);
-    let limits = form.limits;
-    if pack::fits(ns, limits, form.count) {
+    if form.fits(ns) {
         let bytes = placed(ns, form, 0, [0u8; 20]);
         return Row {
             bytes,
@@ -162,12 +149,7 @@ fn both_fit(first: [u32; 13], f: Form, own: [u32; 13], o: Form) -> bool
     requires { (f.count ≤ 13) × (o.count ≤ 13) }
     ensures { result ≡ (below (fields_of f.count f.limits) (fields_of f.count first) && below (fields_of o.count o.limits) (fields_of o.count own)) }
 {
-    let first_limits = f.limits;
-    let own_limits = o.limits;
-    if pack::fits(first, first_limits, f.count) {
-        return pack::fits(own, own_limits, o.count);
-    }
-    false
+    f.fits(first) && o.fits(own)
 }
 
 fn header_row(nums: [u32; 13], count: usize, line: u32, end: LineEnd) -> Row
