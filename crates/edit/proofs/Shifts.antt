@@ -5,13 +5,14 @@ use mathlib.Core.Path.{◌≡◌, sym, ap, ap₂, ◌∙◌}
 use mathlib.Core.List.{List, ◌++◌, append_assoc}
 use native.Mathlib.Omega.{arith}
 use lib.ListN.{length, take, drop}
-use lib.Seq.{length-take-le, take-append-add, paste}
+use lib.Seq.{length-take-le, take-append-add}
+use Rattle.std.specs.List.{copy_within}
 use Rattle.layout.specs.laws.BytesLaws.{drop_take}
 use Rattle.edit.specs.Steps.{opened, without, closed}
 
 module _ (xs : List ℕ) (at end : ℕ) where
   -- sixteen places up
-  pub moved_up : at ≤ end → paste xs (at + 16) (drop at xs) (end - at) ≡ opened xs at end
+  pub moved_up : at ≤ end → copy_within xs at end (at + 16) ≡ opened xs at end
   unfolding opened
   moved_up h =
       let inside : at + (end - at) ≡ end = omega arith in
@@ -20,7 +21,7 @@ module _ (xs : List ℕ) (at end : ℕ) where
       ∙ ap₂ (λ (m : List ℕ) (k : ℕ). take (at + 16) xs ++ (m ++ drop k xs)) (sym (drop_take at (end - at) xs) ∙ ap (λ (k : ℕ). drop at (take k xs)) inside) behind
 
   -- sixteen places down
-  pub moved_down : at + 16 ≤ end → end ≤ length xs → paste xs at (drop (at + 16) xs) (end - (at + 16)) ≡ closed xs at (end - 16)
+  pub moved_down : at + 16 ≤ end → end ≤ length xs → copy_within xs (at + 16) end at ≡ closed xs at (end - 16)
   unfolding closed
   moved_down h l =
       let n = end - (at + 16) in
