@@ -11,7 +11,6 @@ ghost use Rattle.edit.specs.Edit.{put_numbers_in, remove_in};
 ghost use Rattle.barge_edit.specs.Office.{record_count, EditInside, OfFile};
 
 use console::{Read, Said};
-use decimal::Number;
 use sheet::{ENOUGH, Refusal};
 use std::env::Env;
 use std::io;

@@ -2,7 +2,6 @@
 ghost use Rattle.std.specs.Prelude.{◌≡◌, ◌+◌, ◌≤◌, ◌<◌, length};
 ghost use Rattle.barge_edit.specs.Office.{fields_of};
 
-use decimal::Number;
 use std::env::{Env, FillError};
 use std::io::Write;
 
@@ -20,12 +19,10 @@ pub fn given(env: &impl Env, first: usize) -> usize {
 }
 
 // The number that word i is; none where it is missing, far too long or anything else.
-pub fn number(env: &impl Env, i: usize) -> Number {
+pub fn number(env: &impl Env, i: usize) -> Option<u32> {
     let mut space = [0u8; LONGEST];
-    match env.arg(i, &mut space) {
-        Ok(end) => decimal::read_number(&space[..end]),
-        Err(_) => Number::None,
-    }
+    let end = env.arg(i, &mut space).ok()?;
+    decimal::read_number(&space[..end])
 }
 
 // Says that word i is no number, where `place` counts from the first behind the sheet.
@@ -48,17 +45,12 @@ pub fn take(
 ) -> bool
     requires { (count ≤ length fields.old) × (first + count < 65536) }
 {
-    let mut i: usize = 0;
-    while i < count {
-        let n = number(env, first + i);
-        match n {
-            Number::Value(v) => fields[i] = v,
-            Number::None => {
-                refuse(env, err, first + i, i + 1);
-                return false;
-            }
-        }
-        i += 1;
+    for (i, field) in fields[..count].iter_mut().enumerate() {
+        let Some(n) = number(env, first + i) else {
+            refuse(env, err, first + i, i + 1);
+            return false;
+        };
+        *field = n;
     }
     true
 }
@@ -125,12 +117,9 @@ pub fn record(env: &impl Env, err: &mut impl Write, first: usize, fields: &mut [
         );
         return false;
     }
-    let kind = number(env, first);
-    match kind {
-        Number::Value(k) => take_fields(env, err, first, k, fields),
-        Number::None => {
-            refuse(env, err, first, 1);
-            false
-        }
-    }
+    let Some(kind) = number(env, first) else {
+        refuse(env, err, first, 1);
+        return false;
+    };
+    take_fields(env, err, first, kind, fields)
 }

@@ -13,7 +13,6 @@ ghost use Rattle.pencil.specs.Trail.{trail_text, room as trailRoom};
 ghost use Rattle.barge_explain.specs.Explain.{Sized, lead_pieces, piece_of, explained_text, Prints, Written};
 
 use console::{Read, Said};
-use decimal::Number;
 use sheet::{ENOUGH, Header, Record, Refusal};
 use std::env::{Env, FillError};
 use std::io;
@@ -150,15 +149,9 @@ fn asked_id(env: &impl Env) -> u32 {
         Err(FillError::NotPresent) => return 0,
         Err(FillError::TooLong) => return u32::MAX,
     };
-    let n = decimal::read_number(&space[..end]);
-    match n {
-        Number::Value(v) => {
-            if v == 0 {
-                return u32::MAX;
-            }
-            v
-        }
-        Number::None => u32::MAX,
+    match decimal::read_number(&space[..end]) {
+        Some(0) | None => u32::MAX,
+        Some(id) => id,
     }
 }
 

@@ -19,14 +19,12 @@ pub(crate) fn place_of(records: &[u8], n: u16, id: u32) -> u16
     requires { 16 * n ≤ length records.now }
     ensures { (result ≡ place_in records.now n id) × (result ≤ n) }
 {
-    let mut i: u16 = 0;
-    while i < n {
+    for i in 0..n {
         if id <= id_at(records, i) {
             return i;
         }
-        i += 1;
     }
-    i
+    n
 }
 
 // Whether the record at the place of an id has it.

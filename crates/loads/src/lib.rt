@@ -1,7 +1,7 @@
 // The pressures on the bottom, in thousandths of a Pa, each with the load that it comes from, and the line load that a member bears.
 #![tactic(auto)]
 
-ghost use Rattle.std.specs.Prelude.{◌≡◌, cond, ◌-◌, max};
+ghost use Rattle.std.specs.Prelude.{◌≡◌, cond, ◌-◌};
 ghost use Rattle.loads.specs.Loads.{water, wind as windOf, ballast as ballastOf, relief as reliefOf, two_run_water};
 ghost use Rattle.loads.specs.Sources.{number_of, told_load, told_line, line_named, heavier as heavierOf, sea_named, tank_named, bottom_named, inner_named, deep_named};
 
@@ -51,12 +51,6 @@ const WATER: u64 = 98100;
 // A cm of wave height.
 const WAVE: u64 = 50031;
 
-fn greater(a: u64, b: u64) -> u64
-    ensures { result ≡ max a b }
-{
-    if a <= b { b } else { a }
-}
-
 fn load_of(p: u64, source: Source) -> Load
     ensures { told_load result ≡ record { pressure = p; source = number_of source } }
 {
@@ -82,13 +76,6 @@ fn heavier(a: Load, b: Load) -> Load
     b
 }
 
-// a − b, and 0 where b is the greater.
-fn cut(a: u64, b: u64) -> u64
-    ensures { result ≡ a - b }
-{
-    if b <= a { a - b } else { 0 }
-}
-
 fn wind(wave: Span) -> u64
     ensures { result ≡ windOf wave.0 }
 {
@@ -109,21 +96,21 @@ pub fn sea(draught: Span, wave: Span, z: Span) -> Load
     if at <= d {
         return load_of(WATER * (d - at) + WAVE * h, Source::SeaBelow);
     }
-    load_of(greater(50150 * h, 3000000) + wind(wave), Source::SeaAbove)
+    load_of((50150 * h).max(3000000) + wind(wave), Source::SeaAbove)
 }
 
 // A ballast tank, filled to 100 cm over its top.
 fn tank(tank_top: Span, z: Span) -> u64
     ensures { result ≡ ballastOf tank_top.0 z.0 }
 {
-    WATER * cut(tank_top.0 as u64 + 100, z.0 as u64)
+    WATER * (tank_top.0 as u64 + 100).saturating_sub(z.0 as u64)
 }
 
 // What the sea outside takes off a ballast tank's pressure.
 fn relief(draught: Span, wave: Span) -> u64
     ensures { result ≡ reliefOf draught.0 wave.0 }
 {
-    cut(14715 * draught.0 as u64, WAVE * wave.0 as u64)
+    (14715 * draught.0 as u64).saturating_sub(WAVE * wave.0 as u64)
 }
 
 // A ballast tank's pressure on the bottom, less what the sea takes off it.
@@ -131,7 +118,7 @@ fn relieved(draught: Span, wave: Span, z: Span, tank_top: Span) -> Load
     ensures { told_load result ≡ tank_named (ballastOf tank_top.0 z.0 - reliefOf draught.0 wave.0) }
 {
     load_of(
-        cut(tank(tank_top, z), relief(draught, wave)),
+        tank(tank_top, z).saturating_sub(relief(draught, wave)),
         Source::Ballast,
     )
 }

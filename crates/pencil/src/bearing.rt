@@ -5,7 +5,6 @@ ghost use Rattle.pencil.specs.Numbers.{load_numbers};
 ghost use Rattle.pencil.specs.Trail.{Tells, head_of};
 
 use crate::Section;
-use crate::numbers::{cut, greater};
 use quantity::Span;
 
 fn wind_of(wave: Span) -> u64
@@ -25,12 +24,12 @@ fn load_numbers(draught: Span, wave: Span, z: Span, tank_top: Span, cargo: u32) 
     let h = wave.0 as u64;
     let at = z.0 as u64;
     let waves = 50031 * h;
-    let still = 98100 * cut(d, at);
-    let crest = greater(50150 * h, 3000000);
+    let still = 98100 * d.saturating_sub(at);
+    let crest = (50150 * h).max(3000000);
     let wind = wind_of(wave);
-    let tank = 98100 * cut(tank_top.0 as u64 + 100, at);
-    let relief = cut(14715 * d, waves);
-    let net = cut(tank, relief);
+    let tank = 98100 * (tank_top.0 as u64 + 100).saturating_sub(at);
+    let relief = (14715 * d).saturating_sub(waves);
+    let net = tank.saturating_sub(relief);
     let half = gauge::ceil_div(564075 * d, 10);
     [
         0,

@@ -4,7 +4,7 @@ ghost use Rattle.pencil.specs.Trail.{Tells, member_first, member_second, member_
 
 use crate::Section;
 use crate::lines::{ruled, verdict_line};
-use crate::numbers::{cut, divide, taken_apart, times};
+use crate::numbers::{divide, taken_apart, times};
 use framing::MemberWork;
 use quantity::{Modulus, Quantity, ShearArea, Thickness};
 use sheet::{Header, Member};
@@ -72,7 +72,7 @@ pub fn member_second(kind: u8, m: Member, w: MemberWork) -> Section
     let has = m.modulus.0;
     if kind < 6 {
         let p = times(times(833 * plain * eta, q), l2);
-        let a = 100000000000 * cut(214, m.stress as u64);
+        let a = 100000000000 * 214u64.saturating_sub(m.stress as u64);
         return ruled(
             [54, 57 + never, 0, 0, 0, 0],
             0,
@@ -104,7 +104,7 @@ pub fn member_second(kind: u8, m: Member, w: MemberWork) -> Section
         );
     }
     let p = times(times(25 * plain * eta, q), l2);
-    let a = 2000000000 * cut(197, m.stress as u64);
+    let a = 2000000000 * 197u64.saturating_sub(m.stress as u64);
     ruled(
         [55, 58 + never, 0, 0, 0, 0],
         0,

@@ -1,38 +1,17 @@
 // Numbers that the lines of a trail show: products, quotients, and what is worked out of a rule's shape.
-ghost use Rattle.std.specs.Prelude.{◌-◌, max, ◌≡◌};
-ghost use Rattle.pencil.specs.Numbers.{product, apart as apartOf, rule_numbers};
+ghost use Rattle.std.specs.Prelude.{◌-◌, ◌≡◌};
+ghost use Rattle.pencil.specs.Numbers.{product, rule_numbers};
 ghost use Rattle.pencil.specs.Code.{Divided, PartsOf, Tries};
 
 use crate::{Parts, Quotient, Tried};
 use gauge::Shape;
 
 // a·b, and 0 where it is past 64 bits.
+#[tactic(auto, unfolding(crate::specs::Numbers::product))]
 pub fn times(a: u64, b: u64) -> u64
     ensures { result ≡ product a b }
 {
-    if a == 0 {
-        return 0;
-    }
-    if b <= u64::MAX / a { a * b } else { 0 }
-}
-
-// a − b, and 0 where b is the greater.
-pub fn cut(a: u64, b: u64) -> u64
-    ensures { result ≡ a - b }
-{
-    if b <= a { a - b } else { 0 }
-}
-
-pub fn greater(a: u64, b: u64) -> u64
-    ensures { result ≡ max a b }
-{
-    if a <= b { b } else { a }
-}
-
-fn apart(a: u64, b: u64) -> u64
-    ensures { result ≡ apartOf a b }
-{
-    if a <= b { b - a } else { a - b }
+    a.checked_mul(b).unwrap_or(0)
 }
 
 pub fn divide(p: u64, a: u64) -> Quotient
@@ -75,7 +54,7 @@ pub fn taken_apart(d: Shape) -> Parts
 fn try_number(step: u64, t: u64, short: u64) -> Tried
     ensures { Tries (product step t - short) result }
 {
-    let x = cut(times(step, t), short);
+    let x = times(step, t).saturating_sub(short);
     let square = times(x, x);
     Tried { x, square }
 }
@@ -102,9 +81,9 @@ pub fn rule_numbers(
     let side = divide(p, a);
     let over = divide(short + root % 4294967296, step);
     let at_first = try_number(step, first, short);
-    let beside = cut(least, (least == first) as u64);
+    let beside = least.saturating_sub((least == first) as u64);
     let at_other = try_number(step, beside, short);
-    let margin = apart(least, has as u64);
+    let margin = least.abs_diff(has as u64);
     [
         0,
         side.whole,

@@ -5,7 +5,7 @@ ghost use Rattle.pencil.specs.Trail.{Tells, plate_first, plate_second, bending_l
 ghost use Rattle.pencil.specs.Code.{FormTold};
 
 use crate::lines::{ruled, verdict_line};
-use crate::numbers::{cut, divide, taken_apart, times};
+use crate::numbers::{divide, taken_apart, times};
 use crate::{Form, Section};
 use plating::PlateWork;
 use quantity::{Quantity, Spacing, SteelFactor, Thickness};
@@ -126,7 +126,7 @@ fn form_of(long: bool, second: bool, spacing: Spacing, factor: SteelFactor, k2: 
 {
     let s = spacing.0 as u64;
     let n = s * s * factor.0 as u64;
-    let left = cut(210000, r);
+    let left = 210000u64.saturating_sub(r);
     let side = times(k2, k2);
     let panel = 1156 * (s * s);
     let long_panel = 1521 * (s * s);

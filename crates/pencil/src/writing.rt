@@ -25,34 +25,24 @@ fn put_lines(lines: &[u8], given: &[u64; 32], own: &[u64; 32], page: &mut [u8], 
     ensures { Writes (line_pieces given.now own.now lines.now) (longest * length lines.now) (spot page.old at) (spot page.new result) }
 {
     let mut next = at;
-    let mut i: usize = 0;
-    while i < lines.len() {
-        let t = lines[i];
+    for &t in lines {
         next = put_line(t, given, own, page, next);
-        i += 1;
     }
     next
 }
 
-fn put_section(given: &[u64; 32], s: Section, page: &mut [u8], at: usize) -> usize
-    ensures { Writes (line_pieces given.now s.own s.lines) (longest * 9) (spot page.old at) (spot page.new result) }
+fn put_section(given: &[u64; 32], s: &Section, page: &mut [u8], at: usize) -> usize
+    ensures { Writes (line_pieces given.now s.now.own s.now.lines) (longest * 9) (spot page.old at) (spot page.new result) }
 {
-    let lines = s.lines;
-    let own = s.own;
-    put_lines(&lines, given, &own, page, at)
+    put_lines(&s.lines, given, &s.own, page, at)
 }
 
 // The sections one behind another.
 pub fn put_work(w: Work, page: &mut [u8], at: usize) -> usize
     ensures { Writes (work_pieces w) (longest * 36) (spot page.old at) (spot page.new result) }
 {
-    let given = w.given;
-    let head = w.head;
-    let one = w.one;
-    let two = w.two;
-    let three = w.three;
-    let next = put_section(&given, head, page, at);
-    let next = put_section(&given, one, page, next);
-    let next = put_section(&given, two, page, next);
-    put_section(&given, three, page, next)
+    let next = put_section(&w.given, &w.head, page, at);
+    let next = put_section(&w.given, &w.one, page, next);
+    let next = put_section(&w.given, &w.two, page, next);
+    put_section(&w.given, &w.three, page, next)
 }

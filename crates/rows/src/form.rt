@@ -1,6 +1,9 @@
 // The forms of a line: how wide its fields are, the zero bits at the end being one of them.
-ghost use Rattle.std.specs.Prelude.{◌≡◌, cond, ltb, eqb};
+ghost use Rattle.std.specs.Prelude.{◌≡◌, ◌≤◌, cond, ltb, eqb};
 ghost use Rattle.rows.specs.Forms.{first_form, own_form, record_form};
+ghost use Rattle.rows.specs.Pack.{below, fields_of};
+
+use crate::pack;
 
 // The fields' limits, two to the power of their bits, and how many there are; of these so many are written as numbers; the bytes that they fill.
 #[derive(Clone, Copy)]
@@ -9,6 +12,16 @@ pub struct Form {
     pub count: usize,
     pub numbers: usize,
     pub size: usize,
+}
+
+impl Form {
+    // Whether the numbers fit the fields.
+    pub fn fits(self, nums: [u32; 13]) -> bool
+        requires { self.count ≤ 13 }
+        ensures { result ≡ below (fields_of self.count self.limits) (fields_of self.count nums) }
+    {
+        pack::fits(&nums[..self.count], &self.limits[..self.count])
+    }
 }
 
 // What every version of the header has: bits 4, 14, 10, 8, 1, 20, 27, 9, and 3 that are zero.

@@ -26,10 +26,7 @@ pub struct Row {
 fn is_within(x: u32, low: u32, high: u32) -> bool
     ensures { result ≡ within (from low high) x }
 {
-    if x < low {
-        return false;
-    }
-    x <= high
+    (low..=high).contains(&x)
 }
 
 // All numbers, and where the version or the kind is not known only the first.
@@ -71,8 +68,7 @@ fn next_of(end: LineEnd) -> Option<usize>
 {
     match end {
         LineEnd::More(next) => Some(next),
-        LineEnd::Last => None,
-        LineEnd::Fault => None,
+        LineEnd::Last | LineEnd::Fault => None,
     }
 }
 
@@ -89,10 +85,9 @@ fn placed(nums: [u32; 13], form: Form, at: usize, bytes: [u8; 20]) -> [u8; 20]
     ensures { result ≡ placed_of nums form at bytes }
 {
     let mut out = bytes;
-    let limits = form.limits;
     let count = form.count;
     let end = at + form.size;
-    pack::put(nums, limits, count, &mut out[at..end]);
+    pack::put(&nums[..count], &form.limits[..count], &mut out[at..end]);
     out
 }
 
@@ -109,7 +104,7 @@ fn record_row(nums: [u32; 13], count: usize, line: u32, end: LineEnd) -> Result<
         return Err(Refusal::FieldCount(line));
     }
     let ns = taken(known, nums);
-    if !pack::fits(ns, form.limits, form.count) {
+    if !form.fits(ns) {
         return Err(Refusal::Text(line));
     }
     let bytes = placed(ns, form, 0, [0u8; 20]);
@@ -134,7 +129,7 @@ fn both_fit(first: [u32; 13], f: Form, own: [u32; 13], o: Form) -> bool
     requires { (f.count ≤ 13) × (o.count ≤ 13) }
     ensures { result ≡ (below (fields_of f.count f.limits) (fields_of f.count first) && below (fields_of o.count o.limits) (fields_of o.count own)) }
 {
-    pack::fits(first, f.limits, f.count) && pack::fits(own, o.limits, o.count)
+    f.fits(first) && o.fits(own)
 }
 
 fn header_row(nums: [u32; 13], count: usize, line: u32, end: LineEnd) -> Result<Row, Refusal>

@@ -1,7 +1,7 @@
 // Numbers packed into bytes, most significant bit first: the bytes are one number, and each further field is appended at its low end. A field's limit is two
 // to the power of its bits.
-ghost use Rattle.std.specs.Prelude.{◌≡◌, ◌+◌, ◌*◌, ◌<◌, ◌≤◌, ◌^◌};
-ghost use Rattle.rows.specs.Pack.{appended, below, packed_on, fields_of};
+ghost use Rattle.std.specs.Prelude.{◌≡◌, ◌+◌, ◌*◌, ◌<◌, ◌≤◌, ◌^◌, length};
+ghost use Rattle.rows.specs.Pack.{appended, below, packed_on};
 
 // A byte of the number times the limit, and what is carried from the byte behind it.
 fn turn(byte: u8, limit: u32, carry: u64) -> u64
@@ -16,38 +16,31 @@ fn append(out: &mut [u8], limit: u32, value: u32)
     ensures { out.new ≡ appended limit value out.old }
 {
     let mut carry = value as u64;
-    let mut i = out.len();
-    while 0 < i {
-        i -= 1;
+    for i in (0..out.len()).rev() {
         let t = turn(out[i], limit, carry);
         out[i] = (t % 256) as u8;
         carry = t / 256;
     }
 }
 
-// Whether each of the first numbers is below its limit.
-pub fn fits(nums: [u32; 13], limits: [u32; 13], count: usize) -> bool
-    requires { count ≤ 13 }
-    ensures { result ≡ below (fields_of count limits) (fields_of count nums) }
+// Whether each number is below its limit.
+pub fn fits(nums: &[u32], limits: &[u32]) -> bool
+    requires { length nums.now ≡ length limits.now }
+    ensures { result ≡ below limits.now nums.now }
 {
-    let mut i: usize = 0;
-    while i < count {
-        if limits[i] <= nums[i] {
+    for (&n, &limit) in nums.iter().zip(limits) {
+        if limit <= n {
             return false;
         }
-        i += 1;
     }
     true
 }
 
-// The first numbers, one behind the other; what the bytes held before goes out at the front.
-pub fn put(nums: [u32; 13], limits: [u32; 13], count: usize, out: &mut [u8])
-    requires { count ≤ 13 }
-    ensures { out.new ≡ packed_on (fields_of count limits) (fields_of count nums) out.old }
+// The numbers, one behind the other; what the bytes held before goes out at the front.
+pub fn put(nums: &[u32], limits: &[u32], out: &mut [u8])
+    ensures { out.new ≡ packed_on limits.now nums.now out.old }
 {
-    let mut i: usize = 0;
-    while i < count {
-        append(out, limits[i], nums[i]);
-        i += 1;
+    for (&n, &limit) in nums.iter().zip(limits) {
+        append(out, limit, n);
     }
 }

@@ -1,8 +1,10 @@
 -- Words with marks for numbers, and the pieces of text that they become.
-use Rattle.std.specs.Prelude.{ℕ, ◌+◌, ◌/◌, ◌%◌, Bool, ◌&&◌, cond, List, [], ◌∷◌, ◌++◌, get_or, leb, ltb, eqb}
+use Rattle.std.specs.Prelude.{ℕ, ◌+◌, ◌/◌, ◌%◌, Bool, ◌&&◌, cond, List, [], ◌∷◌, ◌++◌, get_or, leb, ltb, eqb, Option, Some, None}
 use Prim.Native.Char.{code}
 use Prim.Native.String.{String, [] as end, ◌∷◌ as ◌and◌}
 use Rattle.decimal.specs.Decimal.{decimal_of}
+use Rattle.wording.specs.declared.Mark.{Mark}
+use Rattle.wording.specs.declared.Mark.TheVariants.{Number, Thickness, Modulus, Area}
 
 -- ---- a text as bytes
 
@@ -22,6 +24,17 @@ bytes (c and s) = utf8 (code c) ++ bytes s
 -- # a number, $ a thickness, % a modulus, & an area; the letter behind it names the register
 abbrev pub is_mark : ℕ → Bool
 is_mark b = leb 35 b && leb b 38
+
+-- the byte that a kind of mark is, and 0 for none
+abbrev pub byte_of : Mark → ℕ
+byte_of Number = 35
+byte_of Thickness = 36
+byte_of Modulus = 37
+byte_of Area = 38
+
+abbrev pub mark_byte : Option Mark → ℕ
+mark_byte None = 0
+mark_byte (Some m) = byte_of m
 
 -- a number of hundredths, as it is and with the point, and then its unit
 abbrev pub hundredths : ℕ → List ℕ → List (List ℕ)

@@ -4,7 +4,7 @@
 
 ghost use Rattle.std.specs.Prelude.{◌+◌, ◌*◌, ◌≡◌, [], ◌∷◌, ◌++◌, length};
 ghost use Rattle.decimal.specs.Decimal.{decimal_of};
-ghost use Rattle.wording.specs.Words.{is_mark as isMarkOf, hundredths as hundredthsOf, tenths as tenthsOf, shown, named, piece_of, behind, pieces, longest_mark, room_of, most};
+ghost use Rattle.wording.specs.Words.{byte_of, mark_byte, hundredths as hundredthsOf, tenths as tenthsOf, shown, named, piece_of, behind, pieces, longest_mark, room_of, most};
 ghost use Rattle.wording.specs.Writes.{Writes, spot, number_most};
 
 // A text behind what the page has before `at`.
@@ -44,75 +44,100 @@ fn put_tenths(n: u64, unit: &[u8], page: &mut [u8], at: usize) -> usize
     put_number(n % 10, unit, page, point)
 }
 
-// A number as its mark says.
-fn put_mark(mark: u8, n: u64, page: &mut [u8], at: usize) -> usize
-    ensures { Writes (shown mark n) (longest_mark mark) (spot page.old at) (spot page.new result) }
+// How a number is told.
+#[derive(Clone, Copy)]
+enum Mark {
+    Number,
+    Thickness,
+    Modulus,
+    Area,
+}
+
+// The mark that a byte is.
+fn mark_of(byte: u8) -> Option<Mark>
+    ensures { mark_byte result ≡ behind 0 byte }
 {
-    match mark {
-        36 => put_hundredths(n, b" mm)", page, at),
-        37 => put_tenths(n, b" cm\xC2\xB3)", page, at),
-        38 => put_hundredths(n, b" cm\xC2\xB2)", page, at),
-        _ => put_number(n, b"", page, at),
+    match byte {
+        b'#' => Some(Mark::Number),
+        b'$' => Some(Mark::Thickness),
+        b'%' => Some(Mark::Modulus),
+        b'&' => Some(Mark::Area),
+        _ => None,
     }
 }
 
-fn is_mark(byte: u8) -> bool
-    ensures { result ≡ isMarkOf byte }
+// A number as its mark says.
+fn put_mark(mark: Mark, n: u64, page: &mut [u8], at: usize) -> usize
+    ensures { Writes (shown (byte_of mark) n) (longest_mark (byte_of mark)) (spot page.old at) (spot page.new result) }
 {
-    35 <= byte && byte <= 38
+    match mark {
+        Mark::Number => put_number(n, b"", page, at),
+        Mark::Thickness => put_hundredths(n, b" mm)", page, at),
+        Mark::Modulus => put_tenths(n, b" cm\xC2\xB3)", page, at),
+        Mark::Area => put_hundredths(n, b" cm\xC2\xB2)", page, at),
+    }
 }
 
-// The register that a byte names, by its last five bits, so that every byte names one.
-fn register(byte: u8, given: &[u64; 32], own: &[u64; 32]) -> u64
-    ensures { result ≡ named given.now own.now byte }
-{
-    let k = (byte % 32) as usize;
-    if byte < 96 { given[k] } else { own[k] }
+// The numbers that letters name: capitals those that were given, small letters the section's own.
+#[derive(Clone, Copy)]
+struct Registers<'a> {
+    given: &'a [u64; 32],
+    own: &'a [u64; 32],
+}
+
+impl Registers<'_> {
+    // By the letter's last five bits, so that every byte names one.
+    fn named(self, letter: u8) -> u64
+        ensures { result ≡ named self.entry.given.now self.entry.own.now letter }
+    {
+        let k = (letter % 32) as usize;
+        if letter < b'`' {
+            self.given[k]
+        } else {
+            self.own[k]
+        }
+    }
 }
 
 // A byte of the words. Behind a mark it names a register; a mark writes nothing itself.
 fn put_byte(
-    mark: u8,
+    mark: Option<Mark>,
     byte: u8,
-    given: &[u64; 32],
-    own: &[u64; 32],
+    registers: Registers<'_>,
     page: &mut [u8],
     at: usize,
 ) -> usize
-    ensures { Writes (piece_of given.now own.now mark byte) (room_of mark) (spot page.old at) (spot page.new result) }
+    ensures { Writes (piece_of registers.entry.given.now registers.entry.own.now (mark_byte mark) byte) (room_of (mark_byte mark)) (spot page.old at) (spot page.new result) }
 {
-    if mark != 0 {
-        let n = register(byte, given, own);
-        return put_mark(mark, n, page, at);
+    if let Some(mark) = mark {
+        return put_mark(mark, registers.named(byte), page, at);
     }
-    if is_mark(byte) {
-        return at;
+    match mark_of(byte) {
+        Some(_) => at,
+        None => put_text(&[byte], page, at),
     }
-    put_text(&[byte], page, at)
 }
 
-// The mark that the next byte stands behind, 0 where it stands behind none.
-fn mark_behind(mark: u8, byte: u8) -> u8
-    ensures { result ≡ behind mark byte }
+// The mark that the next byte stands behind.
+fn mark_behind(mark: Option<Mark>, byte: u8) -> Option<Mark>
+    ensures { mark_byte result ≡ behind (mark_byte mark) byte }
 {
-    if mark != 0 {
-        return 0;
+    match mark {
+        Some(_) => None,
+        None => mark_of(byte),
     }
-    if is_mark(byte) { byte } else { 0 }
 }
 
 // The words with the registers that they name.
 pub fn fill(words: &[u8], given: &[u64; 32], own: &[u64; 32], page: &mut [u8], at: usize) -> usize
     ensures { Writes (pieces given.now own.now 0 words.now) (most 0 words.now) (spot page.old at) (spot page.new result) }
 {
+    let registers = Registers { given, own };
     let mut next = at;
-    let mut mark: u8 = 0;
-    let mut i: usize = 0;
-    while i < words.len() {
-        let byte = words[i];
-        next = put_byte(mark, byte, given, own, page, next);
+    let mut mark = None;
+    for &byte in words {
+        next = put_byte(mark, byte, registers, page, next);
         mark = mark_behind(mark, byte);
-        i += 1;
     }
     next
 }

@@ -1,23 +1,30 @@
-use Rattle.std.proofs.Common.{◌+◌, drop, sym, ap, ◌∙◌, arith}
-use Rattle.decimal.specs.declared.Number.{Number}
-use Rattle.decimal.specs.laws.ReadLaws.{read_from, from_next, from_end, read_all, empty_read}
+use Rattle.std.proofs.Common.{ℕ, ◌+◌, drop, sym, ap, ◌∙◌, arith, rules, Option, Some}
+use Rattle.decimal.specs.laws.ReadLaws.{read_from, from_next, from_end, from_none, read_all, empty_read}
 use Rattle.decimal.proofs.read_number.Goals as goal
 
-pub returns-then-text-eq0 : goal.returns-then-text-eq0
-returns-then-text-eq0 c = empty_read c.args.text.now (omega arith)
+pub returns-then-is_empty : goal.returns-then-is_empty
+returns-then-is_empty c = empty_read c.args.text.now (search rules)
 
-pub loop-i-init : goal.loop-i-init
-loop-i-init c = (omega arith, read_all c.args.text.now (omega arith))
+pub loop-byte-init : goal.loop-byte-init
+loop-byte-init c = read_all c.args.text.now (search rules)
 
-pub loop-i-preserved : goal.loop-i-preserved
-loop-i-preserved c =
-    let l = c.loop-i in
-    let s = c.args.text.now in (
-      omega arith,
-      ap (λ (x : Number). read_from x (drop (l.i + 1) s)) c.with_byte-x.ensures ∙ from_next l.x s l.i (omega arith) ∙ l.invariant.1,
-    )
+pub loop-byte-preserved : goal.loop-byte-preserved
+loop-byte-preserved c =
+    let l = c.loop-byte in
+    let s = c.args.text.now in
+    ap (λ (x : Option ℕ). read_from x (drop (l.byte-index + 1) s)) (sym c.in_ok-n.was ∙ c.with_byte.ensures) ∙ from_next (Some l.n) s l.byte-index (omega arith) ∙ l.invariant
+
+pub returns-in_err-n : goal.returns-in_err-n
+returns-in_err-n c =
+    let l = c.loop-byte in
+    let s = c.args.text.now in
+    c.from_residual.ensures
+    ∙ sym (from_none (drop (l.byte-index + 1) s))
+    ∙ ap (λ (x : Option ℕ). read_from x (drop (l.byte-index + 1) s)) (sym c.in_err-n.was ∙ c.with_byte.ensures)
+    ∙ from_next (Some l.n) s l.byte-index (omega arith)
+    ∙ l.invariant
 
 pub returns : goal.returns
 returns c =
-    let l = c.loop-i in
-    sym (from_end l.x c.args.text.now l.i (omega arith)) ∙ l.invariant.1
+    let l = c.loop-byte in
+    sym (from_end (Some l.n) c.args.text.now l.byte-index (omega arith)) ∙ l.invariant

@@ -1,32 +1,20 @@
-use Rattle.std.proofs.Common.{ℕ, ◌≤◌, ◌-◌, ◌/◌, ◌++◌, length, drop, set, refl, ap, ◌∙◌, arith, rules}
+use Rattle.std.proofs.Common.{◌≡◌, ℕ, suc, ◌-◌, ◌/◌, ◌++◌, drop, set, sym, subst, arith}
 use Rattle.decimal.specs.Decimal.{decimal_of}
-use Rattle.decimal.specs.laws.DecimalLaws.{one_longer, decimal_some}
-use Rattle.decimal.proofs.Spelling.{digit_before, digit_first}
+use Rattle.decimal.proofs.Spelling.{Left, left_begins, left_less, left_none}
 use Rattle.decimal.proofs.spell.Goals as goal
 
-pub loop-left-init : goal.loop-left-init
-loop-left-init c = (search rules, search rules, refl)
+pub loop-at-init : goal.loop-at-init
+loop-at-init c = left_begins c.args.n c.args.count c.args.out.now c.requires.0
 
-pub overflow_sub-at : goal.overflow_sub-at
-overflow_sub-at c = omega (arith, one_longer c.loop-left.left c.loop-left-test.true)
-
-pub bounds-out-at : goal.bounds-out-at
-bounds-out-at c = omega (arith, one_longer c.loop-left.left c.loop-left-test.true)
-
-pub loop-left-preserved : goal.loop-left-preserved
-loop-left-preserved c =
-    let l = c.loop-left in
-    let room : l.at ≤ length l.out = omega arith in (
-      omega (arith, one_longer l.left c.loop-left-test.true),
-      omega arith,
-      ap (λ (b : ℕ). decimal_of (l.left / 10) ++ drop (l.at - 1) (set l.out (l.at - 1) b)) c.digit.ensures ∙ digit_before l.left l.out l.at l.invariant.0 room c.loop-left-test.true ∙ l.invariant.2,
-    )
-
-pub bounds-out-0 : goal.bounds-out-0
-bounds-out-0 c = omega (arith, decimal_some c.loop-left.left)
+pub loop-at-preserved : goal.loop-at-preserved
+loop-at-preserved c =
+    let l = c.loop-at in
+    let whole = decimal_of c.args.n ++ drop c.args.count c.args.out.now in
+    let one_more : l.at ≡ suc (l.at - 1) = omega arith in
+    let before = subst (λ (k : ℕ). Left whole k l.left l.out) one_more l.invariant in
+    subst (λ (b : ℕ). Left whole (l.at - 1) (l.left / 10) (set l.out (l.at - 1) b)) (sym c.digit.ensures) (left_less whole (l.at - 1) l.left l.out (omega arith) before)
 
 pub returns : goal.returns
 returns c =
-    let l = c.loop-left in
-    let room : l.at ≤ length l.out = omega arith in
-    ap (set l.out 0) c.digit-2.ensures ∙ digit_first l.left l.out l.at l.invariant.0 room c.loop-left-test.false ∙ l.invariant.2
+    let l = c.loop-at in
+    left_none (decimal_of c.args.n ++ drop c.args.count c.args.out.now) l.at l.left l.out (omega arith) l.invariant

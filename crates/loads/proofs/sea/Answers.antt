@@ -12,4 +12,4 @@ returns-then-at-d c = rw (le-leb _ _ c.if-at-d.true) c.load_of.ensures
 pub returns : goal.returns
 unfolding sea
 returns c =
-    rw (lt-leb _ _ c.if-at-d.false) (rw (c.wind.ensures, c.greater.ensures) at c.load_of-2.ensures)
+    rw (lt-leb _ _ c.if-at-d.false) (rw (c.wind.ensures, c.max.ensures) at c.load_of-2.ensures)

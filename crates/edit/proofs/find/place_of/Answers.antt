@@ -11,7 +11,7 @@ use Rattle.edit.proofs.find.place_of.Goals as goal
 pub loop-i-init : goal.loop-i-init
 loop-i-init c =
     let a = c.args in
-    (search rules, omega (arith, place_start a.records.now a.n a.id))
+    omega (arith, place_start a.records.now a.n a.id)
 
 -- src/find.rt:25:13
 pub returns-then-id-id_at : goal.returns-then-id-id_at
@@ -19,7 +19,7 @@ returns-then-id-id_at c =
     let l = c.loop-i in
     let a = c.args in
     let u : a.id ≤ id_in (record_part a.records.now l.i) = omega (arith, c.id_at.ensures, c.if-id-id_at.true) in
-    (omega (arith, place_here a.records.now a.n a.id l.i c.loop-i-test.true u, l.invariant.1), search rules)
+    (omega (arith, place_here a.records.now a.n a.id l.i c.loop-i-test.true u, l.invariant), search rules)
 
 -- src/find.rt:23:5
 pub loop-i-preserved : goal.loop-i-preserved
@@ -27,11 +27,11 @@ loop-i-preserved c =
     let l = c.loop-i in
     let a = c.args in
     let u : id_in (record_part a.records.now l.i) < a.id = omega (arith, c.id_at.ensures, c.if-id-id_at.false) in
-    (search rules, omega (arith, place_next a.records.now a.n a.id l.i c.loop-i-test.true u, l.invariant.1))
+    omega (arith, place_next a.records.now a.n a.id l.i c.loop-i-test.true u, l.invariant)
 
 -- src/find.rt:18:1
 pub returns : goal.returns
 returns c =
     let l = c.loop-i in
     let a = c.args in
-    (omega (arith, place_end a.records.now a.n a.id l.i c.loop-i-test.false, l.invariant.1), search rules)
+    (omega (arith, place_end a.records.now a.n a.id l.i c.loop-i-test.false, l.invariant), search rules)

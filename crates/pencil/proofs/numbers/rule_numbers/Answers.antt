@@ -1,8 +1,11 @@
 -- `pencil::numbers::rule_numbers` meets its contract.
-use Prim.Native.Nat.{ℕ, ◌+◌, ◌-◌, ◌/◌, ◌%◌}
+use Prim.Native.Nat.{ℕ, ◌+◌, ◌-◌, ◌/◌, ◌%◌, ◌≤◌}
 use mathlib.Core.Path.{◌≡◌, ap, ◌∙◌}
 use mathlib.Core.List.{List, [], ◌∷◌}
 use lib.Dec.{eqb}
+use native.Mathlib.Omega.{arith}
+use Rattle.std.proofs.Math.Decide.{dec_le}
+use borrow.Author.Tests.{le-leb, lt-leb}
 use mir.Val.{bool_byte}
 use Rattle.gauge.specs.Least.{number_of}
 use Rattle.pencil.specs.Numbers.{product, apart, rule_numbers}
@@ -28,14 +31,21 @@ tried_same p q r = rw (p, q, r)
 nearby : {a b a₂ b₂ : ℕ} → a ≡ a₂ → b ≡ b₂ → a - bool_byte (eqb a b) ≡ a₂ - bool_byte (eqb a₂ b₂)
 nearby p q = rw (p, q)
 
--- src/numbers.rt:83:1
+-- what one is over the other, whichever it is
+apart_same : (a b : ℕ) → (a - b) + (b - a) ≡ apart a b
+apart_same a b = go (dec_le a b)
+  where
+    go : Dec (a ≤ b) → (a - b) + (b - a) ≡ apart a b
+    go (yes l) = rw (le-leb a b l) (omega arith)
+    go (no l) = rw (lt-leb a b (omega arith)) (omega arith)
+
 pub returns : goal.returns
 unfolding rule_numbers
 returns c =
     let w = c.worked_in-worked.ensures in
     let t = c.taken_apart-parts.ensures in
     let least = c.number-least.ensures ∙ ap number_of w.least in
-    let beside = c.cut-beside.ensures ∙ nearby least w.first in
+    let beside = c.saturating_sub-beside.ensures ∙ nearby least w.first in
     listed_same
     c.divide-side.ensures.whole
     c.divide-side.ensures.left
@@ -50,6 +60,6 @@ returns c =
     (c.try_number-at_other.ensures.x ∙ tried_same t.step beside t.short)
     (c.try_number-at_other.ensures.square ∙ ap (λ (x : ℕ). product x x) (tried_same t.step beside t.short))
     least
-    (c.apart-margin.ensures ∙ ap (λ (l : ℕ). apart l c.args.has) least)
+    (c.abs_diff-margin.ensures ∙ ap (λ (l : ℕ). (l - c.args.has) + (c.args.has - l)) least ∙ apart_same _ c.args.has)
     t.step
     t.short

@@ -6,13 +6,13 @@ use Rattle.pencil.proofs.plates.form_of.Goals as goal
 -- src/plates.rt:136:13
 pub returns-then-long : goal.returns-then-long
 unfolding form_of
-returns-then-long c = rw (c.if-second.true, c.if-long.true) (record { p = refl; a = rw (c.times-a.ensures, c.cut-left.ensures); panel = refl })
+returns-then-long c = rw (c.if-second.true, c.if-long.true) (record { p = refl; a = rw (c.times-a.ensures, c.saturating_sub-left.ensures); panel = refl })
 
 -- src/plates.rt:144:9
 pub returns-then-second : goal.returns-then-second
 unfolding form_of
 returns-then-second c =
-    rw (c.if-second.true, c.if-long.false) (record { p = c.times-p.ensures; a = rw (c.times-a-then-second.ensures, c.times-side.ensures, c.cut-left.ensures); panel = refl })
+    rw (c.if-second.true, c.if-long.false) (record { p = c.times-p.ensures; a = rw (c.times-a-then-second.ensures, c.times-side.ensures, c.saturating_sub-left.ensures); panel = refl })
 
 -- src/plates.rt:148:9
 pub returns-then-long-2 : goal.returns-then-long-2
