@@ -215,13 +215,14 @@ fn judged_after(h: Header, bytes: &[u8], i: u16, before: u16) -> Result<Entry, R
     if raw.spare != 0 {
         return Err(why_refused(bytes, i, before));
     }
-    if r.id <= before {
+    let id = r.id;
+    if id <= before {
         return Err(why_refused(bytes, i, before));
     }
     let Ok(judged) = hull::judge(h, r) else {
         return Err(why_refused(bytes, i, before));
     };
-    Ok(entry_with(r.id, judged))
+    Ok(entry_with(id, judged))
 }
 
 fn judged_at(h: Header, records: &[u8], i: u16, before: u16) -> Result<Entry, Refusal>

@@ -72,11 +72,13 @@ fn put_new(buf: &mut [u8], len: usize, h: Header, i: u16, r: Record) -> Result<u
         return Err(Refusal::NoRoom);
     }
     let more = counted(h, h.count + 1);
-    let Ok(()) = header::header_fault(more) else {
-        return Err(Refusal::NoRoom);
-    };
-    insert(buf, len, more, i, r);
-    Ok(len + RECORD)
+    match header::header_fault(more) {
+        Err(_) => Err(Refusal::NoRoom),
+        Ok(()) => {
+            insert(buf, len, more, i, r);
+            Ok(len + RECORD)
+        }
+    }
 }
 
 // A sound record, which replaces the one with its id or goes in at its place.

@@ -23,17 +23,17 @@ returns-then-raw-ne0 c =
 
 -- src/lib.rt:255:35
 -- LOOK: before
-pub why_refused-requires-then-r-before : goal.why_refused-requires-then-r-before
-why_refused-requires-then-r-before c =
+pub why_refused-requires-then-id-before : goal.why_refused-requires-then-id-before
+why_refused-requires-then-id-before c =
     let a = c.args in
-    order_refused a.h a.i a.before a.bytes.now c.record_in-raw.result c.record_in-raw.ensures c.if-r-before.true
+    order_refused a.h a.i a.before a.bytes.now c.record_in-raw.result c.record_in-raw.ensures c.if-id-before.true
 
 -- src/lib.rt:255:9
 -- LOOK: before
-pub returns-then-r-before : goal.returns-then-r-before
-returns-then-r-before c =
+pub returns-then-id-before : goal.returns-then-id-before
+returns-then-id-before c =
     let a = c.args in
-    judged_refused a.h a.i a.before a.bytes.now _ _ c.why_refused-then-r-before.ensures
+    judged_refused a.h a.i a.before a.bytes.now _ _ c.why_refused-then-id-before.ensures
 
 -- src/lib.rt:259:35
 -- LOOK: before
@@ -59,4 +59,4 @@ returns c =
     let found : Finding = record { verdict = c.in-Ok.judged.verdict; source = number_of c.in-Ok.judged.source } in
     let entry : c.entry_with.result ≡ entry_with id found = c.entry_with.ensures in
     judged_good a.h a.i a.before a.bytes.now c.record_in-raw.result c.record_in-raw.ensures c.requires found c.if-raw-ne0.false
-    c.if-r-before.false (sym (ap told_judged c.in-Ok.is) ∙ c.judge.ensures) c.entry_with.result entry
+    c.if-id-before.false (sym (ap told_judged c.in-Ok.is) ∙ c.judge.ensures) c.entry_with.result entry

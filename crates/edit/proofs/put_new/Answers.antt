@@ -69,18 +69,18 @@ insert-requires c =
     }
 
 -- src/lib.rt:92:1
-pub returns-in_default : goal.returns-in_default
-returns-in_default c =
+pub returns-in-Err : goal.returns-in-Err
+returns-in-Err c =
     let a = c.args in
     let b = a.buf.now in
     put_full b a.len a.h c.requires.0 a.r c.requires.1 c.requires.3
-    (at_highest a.h (sound (goal.at.returns-in_default c).After-header_fault) a.len (length b) _ _ (room (goal.at.returns-in_default c).After-header_fault) (sym (ap told_result c.in_default.is) ∙ tested (goal.at.returns-in_default c).After-header_fault))
+    (at_highest a.h (sound (goal.at.returns-in-Err c).After-header_fault) a.len (length b) _ _ (room (goal.at.returns-in-Err c).After-header_fault) (sym (ap told_result c.in-Err.is) ∙ tested (goal.at.returns-in-Err c).After-header_fault))
 
 -- src/lib.rt:92:1
-pub returns : goal.returns
-returns c =
+pub returns-in-Ok : goal.returns-in-Ok
+returns-in-Ok c =
     let a = c.args in
     let b = a.buf.now in
-    put_inserted b a.len a.h c.requires.0 a.r c.requires.1 c.requires.3 (room_for_one a.h a.len (length b) (room (goal.at.returns c).After-header_fault) (fine (goal.at.returns c).In-Ok).1) c.counted-more.result (more (goal.at.returns c).After-header_fault)
+    put_inserted b a.len a.h c.requires.0 a.r c.requires.1 c.requires.3 (room_for_one a.h a.len (length b) (room (goal.at.returns-in-Ok c).After-header_fault) (fine (goal.at.returns-in-Ok c).In-Ok).1) c.counted-more.result (more (goal.at.returns-in-Ok c).After-header_fault)
     c.insert.new.buf
     (c.insert.ensures ∙ ap (λ n. inserting c.counted-more.result n a.len a.r b) c.requires.2)
