@@ -7,7 +7,7 @@ ghost use Rattle.sheet.specs.Versions.{enough};
 ghost use Rattle.report.specs.Text.{text_of};
 ghost use Rattle.report.specs.Page.{Pages};
 
-use console::{Read, Said};
+use console::Said;
 use report::Page;
 use sheet::ENOUGH;
 use std::io;
@@ -42,14 +42,11 @@ fn run<R: io::Read, W: Write>(input: &mut R, out: &mut W, err: &mut impl Write) 
     ensures { IfOk result (λ done. done ≡ true → IfSome (R.remaining input.old) (λ bytes. Appends (W.contents out.old) (W.contents out.new) (text_of bytes))) }
 {
     let mut sheet = [0u8; ENOUGH];
-    let read = console::load(input, err, &mut sheet);
-    match read {
-        Read::Failed => Ok(false),
-        Read::Got(got) => {
-            tell(out, err, &sheet, got)?;
-            Ok(true)
-        }
-    }
+    let Some(got) = console::load(input, err, &mut sheet) else {
+        return Ok(false);
+    };
+    tell(out, err, &sheet, got)?;
+    Ok(true)
 }
 
 fn main(rt: HostRuntime) -> ExitCode {

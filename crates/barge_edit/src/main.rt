@@ -10,7 +10,7 @@ ghost use Rattle.sheet.specs.Versions.{enough};
 ghost use Rattle.edit.specs.Edit.{put_numbers_in, remove_in};
 ghost use Rattle.barge_edit.specs.Office.{record_count, EditInside, OfFile};
 
-use console::{Read, Said};
+use console::Said;
 use sheet::{ENOUGH, Refusal};
 use std::env::Env;
 use std::io;
@@ -82,14 +82,11 @@ fn put(
         return Ok(());
     }
     let mut sheet = [0u8; ENOUGH];
-    let read = console::load(input, err, &mut sheet);
-    match read {
-        Read::Failed => Ok(()),
-        Read::Got(got) => {
-            let e = put_in(&mut sheet, got, fields);
-            finish(out, err, &sheet, e)
-        }
-    }
+    let Some(got) = console::load(input, err, &mut sheet) else {
+        return Ok(());
+    };
+    let e = put_in(&mut sheet, got, fields);
+    finish(out, err, &sheet, e)
 }
 
 fn remove(
@@ -108,14 +105,11 @@ fn remove(
         return Ok(());
     }
     let mut sheet = [0u8; ENOUGH];
-    let read = console::load(input, err, &mut sheet);
-    match read {
-        Read::Failed => Ok(()),
-        Read::Got(got) => {
-            let e = remove_in(&mut sheet, got, id[0]);
-            finish(out, err, &sheet, e)
-        }
-    }
+    let Some(got) = console::load(input, err, &mut sheet) else {
+        return Ok(());
+    };
+    let e = remove_in(&mut sheet, got, id[0]);
+    finish(out, err, &sheet, e)
 }
 
 // By the first letter of the command.
@@ -125,13 +119,13 @@ fn main(rt: HostRuntime) -> ExitCode {
     let mut err = Said::new(rt.stderr());
     let mut word = [0u8; 8];
     let _ = rt.arg(COMMAND, &mut word);
-    let written = if word[0] == b'p' {
-        put(&rt, &mut input, &mut out, &mut err)
-    } else if word[0] == b'r' {
-        remove(&rt, &mut input, &mut out, &mut err)
-    } else {
-        console::say(&mut err, b"the command is put or remove");
-        Ok(())
+    let written = match word[0] {
+        b'p' => put(&rt, &mut input, &mut out, &mut err),
+        b'r' => remove(&rt, &mut input, &mut out, &mut err),
+        _ => {
+            console::say(&mut err, b"the command is put or remove");
+            Ok(())
+        }
     };
     console::status(written, &err)
 }

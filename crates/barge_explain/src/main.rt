@@ -12,7 +12,7 @@ ghost use Rattle.wording.specs.Writes.{Writes, spot};
 ghost use Rattle.pencil.specs.Trail.{trail_text, room as trailRoom};
 ghost use Rattle.barge_explain.specs.Explain.{Sized, lead_pieces, piece_of, explained_text, Prints, Written};
 
-use console::{Read, Said};
+use console::Said;
 use sheet::{ENOUGH, Header, Record, Refusal};
 use std::env::{Env, FillError};
 use std::io;
@@ -188,10 +188,9 @@ fn tell(
 fn main(rt: HostRuntime) -> ExitCode {
     let mut err = Said::new(rt.stderr());
     let mut sheet = [0u8; ENOUGH];
-    let read = console::load(&mut rt.stdin(), &mut err, &mut sheet);
-    let written = match read {
-        Read::Failed => Ok(()),
-        Read::Got(got) => tell(&rt, &mut rt.stdout(), &mut err, &sheet, got),
+    let written = match console::load(&mut rt.stdin(), &mut err, &mut sheet) {
+        Some(got) => tell(&rt, &mut rt.stdout(), &mut err, &sheet, got),
+        None => Ok(()),
     };
     console::status(written, &err)
 }

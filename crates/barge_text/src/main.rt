@@ -13,7 +13,7 @@ ghost use Rattle.sheet_csv.specs.Read.{Converts};
 ghost use Rattle.sheet_csv.specs.Write.{text_from};
 ghost use Rattle.barge_text.specs.Convert.{MadeInside, line_in, printed_by, Shows, Replies};
 
-use console::{Read, Said};
+use console::Said;
 use report::Page;
 use sheet::Refusal;
 use std::env::Env;
@@ -34,7 +34,6 @@ enum Task {
     Sheet,
     Csv,
     Check,
-    None,
 }
 
 // What is printed of a text, and the line that it is turned away by, 0 where there is none.
@@ -189,11 +188,10 @@ fn take_text(
     checks: bool,
 ) -> io::Result<()> {
     let mut space = [0u8; TEXT_READ];
-    let read = console::load(input, err, &mut space);
-    match read {
-        Read::Failed => Ok(()),
-        Read::Got(got) => from_text(out, err, &space[..got], checks),
-    }
+    let Some(got) = console::load(input, err, &mut space) else {
+        return Ok(());
+    };
+    from_text(out, err, &space[..got], checks)
 }
 
 fn take_sheet(
@@ -202,39 +200,33 @@ fn take_sheet(
     err: &mut impl Write,
 ) -> io::Result<()> {
     let mut space = [0u8; sheet::ENOUGH];
-    let read = console::load(input, err, &mut space);
-    match read {
-        Read::Failed => Ok(()),
-        Read::Got(got) => make_text(out, err, &space, got),
-    }
+    let Some(got) = console::load(input, err, &mut space) else {
+        return Ok(());
+    };
+    make_text(out, err, &space, got)
 }
 
 // By its first two letters.
-fn command(env: &impl Env) -> Task {
+fn command(env: &impl Env) -> Option<Task> {
     let mut word = [0u8; 8];
     let _ = env.arg(COMMAND, &mut word);
-    if word[0] == b's' {
-        return Task::Sheet;
+    match (word[0], word[1]) {
+        (b's', _) => Some(Task::Sheet),
+        (b'c', b's') => Some(Task::Csv),
+        (b'c', _) => Some(Task::Check),
+        _ => None,
     }
-    if word[0] != b'c' {
-        return Task::None;
-    }
-    if word[1] == b's' {
-        return Task::Csv;
-    }
-    Task::Check
 }
 
 fn main(rt: HostRuntime) -> ExitCode {
     let mut input = rt.stdin();
     let mut out = rt.stdout();
     let mut err = Said::new(rt.stderr());
-    let task = command(&rt);
-    let written = match task {
-        Task::Sheet => take_text(&mut input, &mut out, &mut err, false),
-        Task::Csv => take_sheet(&mut input, &mut out, &mut err),
-        Task::Check => take_text(&mut input, &mut out, &mut err, true),
-        Task::None => {
+    let written = match command(&rt) {
+        Some(Task::Sheet) => take_text(&mut input, &mut out, &mut err, false),
+        Some(Task::Csv) => take_sheet(&mut input, &mut out, &mut err),
+        Some(Task::Check) => take_text(&mut input, &mut out, &mut err, true),
+        None => {
             console::say(&mut err, b"the command is sheet, csv or check");
             Ok(())
         }

@@ -36,23 +36,18 @@ fn ends_at(text: &[u8], i: usize) -> bool
 fn line_length(text: &[u8]) -> usize
     ensures { IsLine text.now result }
 {
-    let mut i: usize = 0;
-    while i < text.len() {
+    for i in 0..text.len() {
         if ends_at(text, i) {
             return i;
         }
-        i += 1;
     }
-    i
+    text.len()
 }
 
 fn prints(byte: u8) -> bool
     ensures { result ≡ is_printed byte }
 {
-    if byte < 32 {
-        return false;
-    }
-    byte < 127
+    matches!(byte, b' '..=b'~')
 }
 
 // A digit of base 16.
@@ -60,10 +55,10 @@ fn hex(n: u8) -> u8
     requires { n < 16 }
     ensures { result ≡ hex_digit n }
 {
-    if n < 10 {
-        return 48 + n;
+    match n {
+        0..=9 => b'0' + n,
+        _ => b'A' + (n - 10),
     }
-    55 + n
 }
 
 fn put(text: &[u8], out: &mut [u8], at: usize) -> usize
@@ -79,8 +74,7 @@ fn put_byte(byte: u8, out: &mut [u8], at: usize) -> usize
     ensures { Laid out.old at (shown_byte byte) result out.new }
 {
     if prints(byte) {
-        let itself = [byte];
-        return put(&itself, out, at);
+        return put(&[byte], out, at);
     }
     let spelled = [b'\\', b'x', hex(byte / 16), hex(byte % 16)];
     put(&spelled, out, at)
@@ -90,12 +84,9 @@ fn put_bytes(line: &[u8], out: &mut [u8]) -> usize
     requires { 4 * length line.now ≤ length out.old }
     ensures { Laid out.old 0 (shown line.now) result out.new }
 {
-    let mut at: usize = 0;
-    let mut i: usize = 0;
-    while i < line.len() {
-        let byte = line[i];
+    let mut at = 0;
+    for &byte in line {
         at = put_byte(byte, out, at);
-        i += 1;
     }
     at
 }

@@ -1,22 +1,20 @@
 -- What is known of an input that was read and when it looks like a text, and when whoever reads what is written has gone.
-use Rattle.std.specs.Prelude.{◌≡◌, ℕ, ◌≤◌, ◌<◌, Bool, true, false, cond, List, [], ◌∷◌, ltb, eqb, length, take, Option, Result, IsErrAnd}
+use Rattle.std.specs.Prelude.{◌≡◌, ℕ, ◌≤◌, ◌<◌, Bool, true, false, cond, List, [], ◌∷◌, ltb, eqb, length, take, Option, Some, None, Result, IsErrAnd}
 use Rattle.std.specs.Io.KnownBytes.{Consumes, IsAtEnd}
 use Rattle.std.specs.IoError.{error_kind}
 use Rattle.std.specs.declared.io.Error.{Error}
 use Rattle.std.specs.declared.io.ErrorKind.TheVariants.{BrokenPipe}
 use Rattle.console.specs.declared.Said.{Said}
-use Rattle.console.specs.declared.Read.{Read}
-use Rattle.console.specs.declared.Read.TheVariants.{Got, Failed}
 
 -- the first bytes of the input were read, no more than the space has
-abbrev pub Loaded : Read → List ℕ → Type 0
-Loaded (Got n) space = n ≤ length space
-Loaded Failed space = Unit {0}
+abbrev pub Loaded : Option ℕ → List ℕ → Type 0
+Loaded (Some n) space = n ≤ length space
+Loaded None space = Unit {0}
 
 -- of an input whose bytes are known: what was read are its first bytes, and where the space has room for more nothing is left of it
-abbrev pub Came : Option (List ℕ) → Option (List ℕ) → Read → List ℕ → Type 0
-Came old new (Got n) space = Consumes old new (take n space) × (n < length space → IsAtEnd new)
-Came old new Failed space = Unit {0}
+abbrev pub Came : Option (List ℕ) → Option (List ℕ) → Option ℕ → List ℕ → Type 0
+Came old new (Some n) space = Consumes old new (take n space) × (n < length space → IsAtEnd new)
+Came old new None space = Unit {0}
 
 -- a quote, 34, a digit, 48 to 57, or the first byte of a byte-order mark, 239
 abbrev pub begins_text : ℕ → Bool

@@ -14,13 +14,6 @@ use std::io;
 use std::io::{ErrorKind, Write};
 use std::process::ExitCode;
 
-// How many bytes were read, or that it could not be done.
-#[derive(Clone, Copy)]
-pub enum Read {
-    Got(usize),
-    Failed,
-}
-
 // Reads until the space is full or nothing comes any more.
 fn read_full<R: io::Read>(input: &mut R, space: &mut [u8]) -> io::Result<usize>
     ensures bound { ReadsAtMost result space.new }
@@ -38,17 +31,16 @@ fn read_full<R: io::Read>(input: &mut R, space: &mut [u8]) -> io::Result<usize>
     Ok(got)
 }
 
-// As much of the input as the space holds; why not is said.
-pub fn load<R: io::Read>(input: &mut R, err: &mut impl Write, space: &mut [u8]) -> Read
+// As much of the input as the space holds, and how many bytes that is; none where it cannot be read, and why is said.
+pub fn load<R: io::Read>(input: &mut R, err: &mut impl Write, space: &mut [u8]) -> Option<usize>
     ensures loaded { Loaded result space.new }
     ensures came { Came (R.remaining input.old) (R.remaining input.new) result space.new }
 {
-    let read = read_full(input, space);
-    match read {
-        Ok(got) => Read::Got(got),
+    match read_full(input, space) {
+        Ok(got) => Some(got),
         Err(e) => {
             failed(err, b"cannot read ", b"the input", e);
-            Read::Failed
+            None
         }
     }
 }
@@ -216,23 +208,17 @@ pub fn status<T: Drop, W>(written: io::Result<T>, err: &Said<W>) -> ExitCode
 fn begins_text(b: u8) -> bool
     ensures { result ≡ begins_text b }
 {
-    if b < 48 {
-        return b == 34;
-    }
-    if b < 58 {
-        return true;
-    }
-    b == 239
+    matches!(b, b'"' | b'0'..=b'9' | 0xEF)
 }
 
 // Whether an input looks like a text, by its first byte.
 pub fn looks_like_text(input: &[u8]) -> bool
     ensures { result ≡ looks_like_text input.now }
 {
-    if input.len() == 0 {
-        return false;
+    match input.first() {
+        Some(&b) => begins_text(b),
+        None => false,
     }
-    begins_text(input[0])
 }
 
 // A word to whoever hands over a text where a sheet is read.

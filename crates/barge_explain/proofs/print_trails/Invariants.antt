@@ -13,6 +13,3 @@ pub record Telling (old new : Option (List â„•)) (h : Header) (records : List â„
 
 abbrev pub invariant-loop-i : goal.invariant-loop-i
 invariant-loop-i g l = Telling (g.W.Write.contents l.initial.out) (g.W.Write.contents l.out) l.h l.records l.asked l.i l.begun
-
-abbrev pub decreases-loop-i : goal.decreases-loop-i
-decreases-loop-i g l = l.h.count - l.i

@@ -3,11 +3,10 @@
 use Rattle.std.specs.Prelude.{ℕ, ◌≤◌, ◌<◌, ◌≡◌, ◌⊎◌, ◌↔◌, Bool, true, false, List, ◌++◌, length, take, Option, None, Some}
 use Rattle.std.proofs.Common.{inl, inr, refl, sym, ap, ◌∙◌, arith, append-nil, take_all, take_at, length-take-le}
 use Rattle.std.proofs.Math.Decide.{dec_lt}
-use Rattle.console.specs.declared.Read.TheVariants.{Got}
 use Rattle.console.specs.Console.{Came}
 
 -- it is the input, or as much of it as the space holds
-pub came_front : (input : List ℕ) (new : Option (List ℕ)) (n : ℕ) (space : List ℕ) → n ≤ length space → Came (Some input) new (Got n) space → take n space ≡ take (length space) input
+pub came_front : (input : List ℕ) (new : Option (List ℕ)) (n : ℕ) (space : List ℕ) → n ≤ length space → Came (Some input) new (Some n) space → take n space ≡ take (length space) input
 came_front input None n space l c = absurd c.0
 came_front input (Some rest) n space l c = go (dec_lt n (length space))
   where

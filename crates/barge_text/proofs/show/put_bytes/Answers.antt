@@ -22,11 +22,11 @@ module _ {line out₀ out : List ℕ} {at i : ℕ} (p : Putting line out₀ out 
   done : length line ≤ i → Laid out₀ 0 (shown line) at out
   done l = subst (λ (x : List ℕ). Laid out₀ 0 (shown x) at out) (take_all i line l) p.front
 
-pub loop-i-init : goal.loop-i-init
-loop-i-init c = begin _ _ c.requires
+pub loop-byte-init : goal.loop-byte-init
+loop-byte-init c = begin _ _ c.requires
 
-pub loop-i-preserved : goal.loop-i-preserved
-loop-i-preserved c = turn c.loop-i.invariant c.loop-i-test.true c.put_byte-at.result c.put_byte-at.new.out c.put_byte-at.auto.out c.put_byte-at.ensures
+pub loop-byte-preserved : goal.loop-byte-preserved
+loop-byte-preserved c = turn c.loop-byte.invariant c.loop-byte-test.true c.put_byte-at.result c.put_byte-at.new.out c.put_byte-at.auto.out c.put_byte-at.ensures
 
 pub returns : goal.returns
-returns c = done c.loop-i.invariant c.loop-i-test.false
+returns c = done c.loop-byte.invariant c.loop-byte-test.false

@@ -1,5 +1,5 @@
 -- The bytes passed stand in front as they are shown.
-use Rattle.std.proofs.Common.{ℕ, length, ◌-◌, ◌*◌, ◌≡◌, ◌≤◌, List, take}
+use Rattle.std.proofs.Common.{ℕ, length, ◌*◌, ◌≡◌, ◌≤◌, List, take}
 use Rattle.decimal.specs.Laid.{Laid}
 use Rattle.barge_text.specs.Shown.{shown}
 use Rattle.barge_text.proofs.show.put_bytes.Given as goal
@@ -11,8 +11,5 @@ pub record Putting (line out₀ out : List ℕ) (at i : ℕ) : Type 0 where
   pub front : Laid out₀ 0 (shown (take i line)) at out
   pub short : at ≤ 4 * i
 
-abbrev pub invariant-loop-i : goal.invariant-loop-i
-invariant-loop-i l = Putting l.line l.initial.out l.out l.at l.i
-
-abbrev pub decreases-loop-i : goal.decreases-loop-i
-decreases-loop-i l = length l.line - l.i
+abbrev pub invariant-loop-byte : goal.invariant-loop-byte
+invariant-loop-byte l = Putting l.line l.initial.out l.out l.at l.byte-index
