@@ -44,7 +44,7 @@ pub trait Quantity: Copy {
 }
 
 // A length, a height or a span.
-#[derive(Clone, Copy, PartialEq, Eq, PartialOrd, Ord, Debug)]
+#[derive(Clone, Copy)]
 pub struct Span(pub u16);
 
 impl Quantity for Span {
@@ -72,7 +72,7 @@ impl Quantity for Span {
 }
 
 // The spacing S of frames.
-#[derive(Clone, Copy, PartialEq, Eq, PartialOrd, Ord, Debug)]
+#[derive(Clone, Copy)]
 pub struct Spacing(pub u16);
 
 impl Quantity for Spacing {
@@ -100,7 +100,7 @@ impl Quantity for Spacing {
 }
 
 // The thickness T of a plate or a web.
-#[derive(Clone, Copy, PartialEq, Eq, PartialOrd, Ord, Debug)]
+#[derive(Clone, Copy)]
 pub struct Thickness(pub u16);
 
 impl Quantity for Thickness {
@@ -128,7 +128,7 @@ impl Quantity for Thickness {
 }
 
 // The section modulus W of a member.
-#[derive(Clone, Copy, PartialEq, Eq, PartialOrd, Ord, Debug)]
+#[derive(Clone, Copy)]
 pub struct Modulus(pub u32);
 
 impl Quantity for Modulus {
@@ -156,7 +156,7 @@ impl Quantity for Modulus {
 }
 
 // The shear area A of a member.
-#[derive(Clone, Copy, PartialEq, Eq, PartialOrd, Ord, Debug)]
+#[derive(Clone, Copy)]
 pub struct ShearArea(pub u16);
 
 impl Quantity for ShearArea {
@@ -184,7 +184,7 @@ impl Quantity for ShearArea {
 }
 
 // A pressure P.
-#[derive(Clone, Copy, PartialEq, Eq, PartialOrd, Ord, Debug)]
+#[derive(Clone, Copy)]
 pub struct Pressure(pub u64);
 
 impl Quantity for Pressure {
@@ -212,7 +212,7 @@ impl Quantity for Pressure {
 }
 
 // The line load q on a member.
-#[derive(Clone, Copy, PartialEq, Eq, PartialOrd, Ord, Debug)]
+#[derive(Clone, Copy)]
 pub struct LineLoad(pub u64);
 
 impl Quantity for LineLoad {
@@ -240,7 +240,7 @@ impl Quantity for LineLoad {
 }
 
 // The steel factor K = 1000k.
-#[derive(Clone, Copy, PartialEq, Eq, PartialOrd, Ord, Debug)]
+#[derive(Clone, Copy)]
 pub struct SteelFactor(pub u16);
 
 impl Quantity for SteelFactor {
