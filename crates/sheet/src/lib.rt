@@ -91,19 +91,15 @@ impl Header {
     pub fn size(self) -> usize
         ensures { result ≡ header_size self }
     {
-        let own = self.own;
-        let version = own.version();
-        version.size
+        self.own.version().size
     }
 
     // The modulus of the inner bottom: ZDB, and ZB where the header has none.
     pub fn inner_modulus(self) -> u32
         ensures { result ≡ inner_modulus self }
     {
-        let bottom = self.bottom_modulus;
-        let own = self.own;
-        match own {
-            Own::One => bottom,
+        match self.own {
+            Own::One => self.bottom_modulus,
             Own::Two(section) => section.inner_modulus,
         }
     }
@@ -112,12 +108,9 @@ impl Header {
     pub fn too_slender(self) -> bool
         ensures { result ≡ too_slender self }
     {
-        let length = self.length;
-        let wave = self.wave;
-        let own = self.own;
-        match own {
+        match self.own {
             Own::One => false,
-            Own::Two(section) => beyond(length, section.depth, wave),
+            Own::Two(section) => beyond(self.length, section.depth, self.wave),
         }
     }
 }
@@ -247,19 +240,13 @@ impl Refusal {
         ensures { result ≡ place_of self }
     {
         match self {
-            Refusal::SheetShort => 0,
-            Refusal::Version => 0,
-            Refusal::HeaderField(place) => place,
-            Refusal::TooSlender => 0,
-            Refusal::SheetLength => 0,
-            Refusal::OutputShort => 0,
-            Refusal::Kind(place) => place,
-            Refusal::Field(place) => place,
-            Refusal::Order(place) => place,
-            Refusal::NoSuchId => 0,
-            Refusal::NoRoom => 0,
-            Refusal::Text(place) => place,
-            Refusal::FieldCount(place) => place,
+            Refusal::HeaderField(place)
+            | Refusal::Kind(place)
+            | Refusal::Field(place)
+            | Refusal::Order(place)
+            | Refusal::Text(place)
+            | Refusal::FieldCount(place) => place,
+            _ => 0,
         }
     }
 }
