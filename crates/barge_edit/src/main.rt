@@ -77,10 +77,9 @@ fn put(
     out: &mut impl Write,
     err: &mut impl Write,
 ) -> io::Result<()> {
-    let mut fields = [0u32; 13];
-    if !words::record(env, err, FIRST, &mut fields) {
+    let Some(fields) = words::record(env, err, FIRST) else {
         return Ok(());
-    }
+    };
     let mut sheet = [0u8; ENOUGH];
     let Some(got) = console::load(input, err, &mut sheet) else {
         return Ok(());
@@ -100,15 +99,14 @@ fn remove(
         console::say_number(err, b"remove takes one id, and here are ", given);
         return Ok(());
     }
-    let mut id = [0u32; 1];
-    if !words::take(env, err, FIRST, 1, &mut id) {
+    let Some(id) = words::wanted(env, err, FIRST, 1) else {
         return Ok(());
-    }
+    };
     let mut sheet = [0u8; ENOUGH];
     let Some(got) = console::load(input, err, &mut sheet) else {
         return Ok(());
     };
-    let e = remove_in(&mut sheet, got, id[0]);
+    let e = remove_in(&mut sheet, got, id);
     finish(out, err, &sheet, e)
 }
 

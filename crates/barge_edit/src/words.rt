@@ -19,7 +19,7 @@ pub fn given(env: &impl Env, first: usize) -> usize {
 }
 
 // The number that word i is; none where it is missing, far too long or anything else.
-pub fn number(env: &impl Env, i: usize) -> Option<u32> {
+fn number(env: &impl Env, i: usize) -> Option<u32> {
     let mut space = [0u8; LONGEST];
     let end = env.arg(i, &mut space).ok()?;
     decimal::read_number(&space[..end])
@@ -35,24 +35,13 @@ fn refuse(env: &impl Env, err: &mut impl Write, i: usize, place: usize) {
     let _ = err.write_all(b"\n");
 }
 
-// The numbers that so many words from `first` on are, or false with the first that is none said.
-pub fn take(
-    env: &impl Env,
-    err: &mut impl Write,
-    first: usize,
-    count: usize,
-    fields: &mut [u32],
-) -> bool
-    requires { (count ≤ length fields.old) × (first + count < 65536) }
-{
-    for (i, field) in fields[..count].iter_mut().enumerate() {
-        let Some(n) = number(env, first + i) else {
-            refuse(env, err, first + i, i + 1);
-            return false;
-        };
-        *field = n;
+// The number that word i is; where it is none, that is said.
+pub fn wanted(env: &impl Env, err: &mut impl Write, i: usize, place: usize) -> Option<u32> {
+    let n = number(env, i);
+    if n.is_none() {
+        refuse(env, err, i, place);
     }
-    true
+    n
 }
 
 // How many numbers a record of this kind is.
@@ -85,15 +74,9 @@ fn miscounted(err: &mut impl Write, kind: u32, given: usize) {
     }
 }
 
-// The numbers of a record of this kind, or false with what is wrong said. A kind that there is not is told, and the table refuses it with 6.
-fn take_fields(
-    env: &impl Env,
-    err: &mut impl Write,
-    first: usize,
-    kind: u32,
-    fields: &mut [u32],
-) -> bool
-    requires { (13 ≤ length fields.old) × (first < 65000) }
+// The numbers of a record of this kind; none with what is wrong said. A kind that there is not is told, and the table refuses it with 6.
+fn fields(env: &impl Env, err: &mut impl Write, first: usize, kind: u32) -> Option<[u32; 13]>
+    requires { first < 65000 }
 {
     let count = fields_of(kind);
     if kind == 0 || 8 < kind {
@@ -101,25 +84,26 @@ fn take_fields(
     }
     if given(env, first) != count {
         miscounted(err, kind, given(env, first));
-        return false;
+        return None;
     }
-    take(env, err, first, count, fields)
+    let mut fields = [0u32; 13];
+    for (i, field) in fields[..count].iter_mut().enumerate() {
+        *field = wanted(env, err, first + i, i + 1)?;
+    }
+    Some(fields)
 }
 
-// The numbers of a record, from the word `first` on.
-pub fn record(env: &impl Env, err: &mut impl Write, first: usize, fields: &mut [u32]) -> bool
-    requires { (13 ≤ length fields.old) × (first < 65000) }
+// The numbers of a record, from the word `first` on; none with what is wrong said.
+pub fn record(env: &impl Env, err: &mut impl Write, first: usize) -> Option<[u32; 13]>
+    requires { first < 65000 }
 {
     if given(env, first) == 0 {
         console::say(
             err,
             b"a plate takes 11 numbers and a member 13, and here are 0",
         );
-        return false;
+        return None;
     }
-    let Some(kind) = number(env, first) else {
-        refuse(env, err, first, 1);
-        return false;
-    };
-    take_fields(env, err, first, kind, fields)
+    let kind = wanted(env, err, first, 1)?;
+    fields(env, err, first, kind)
 }
