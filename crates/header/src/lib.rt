@@ -69,14 +69,13 @@ fn own_of(version: u8, n: u64) -> Own
     ensures { result ≡ own_at version (unpack (own_widths (numbered version)) n) }
 {
     if version == 2 {
-        let inner_modulus = (n / P37 % P27) as u32;
-        let depth = Span((n / P27 % 1024) as u16);
-        return Own::Two(Section {
-            inner_modulus,
-            depth,
-        });
+        Own::Two(Section {
+            inner_modulus: (n / P37 % P27) as u32,
+            depth: Span((n / P27 % 1024) as u16),
+        })
+    } else {
+        Own::One
     }
-    Own::One
 }
 
 // The header in a number of 96 bits and one of 64, whatever its values.

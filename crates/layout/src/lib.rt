@@ -22,6 +22,7 @@ pub struct Long {
     pub lo: u64,
 }
 
+// Each width has its own two functions: the library has no trait over `from_be_bytes`, and one of ours would have the same bodies in its impls.
 pub fn read_half(s: &[u8]) -> u32
     ensures { result ≡ read_of 4 s.now }
 {

@@ -9,6 +9,14 @@ ghost use Rattle.quantity.specs.laws.Holding.{holds};
 
 // A whole number with its lowest and its highest value.
 pub trait Quantity: Copy {
+    const LOW: u32;
+
+    const HIGH: u32;
+
+    ghost LOW: { ℕ };
+
+    ghost HIGH: { ℕ };
+
     ghost range: { Range };
 
     // The highest number for which the type has room.
@@ -18,14 +26,6 @@ pub trait Quantity: Copy {
     ghost of: { ℕ → Self };
 
     ghost number: { Self → ℕ };
-
-    ghost LOW: { ℕ };
-
-    ghost HIGH: { ℕ };
-
-    const LOW: u32;
-
-    const HIGH: u32;
 
     // The number in the type; one for which it has no room is held as the highest for which it has.
     fn hold(x: u64) -> Self
@@ -48,6 +48,10 @@ pub trait Quantity: Copy {
 pub struct Span(pub u16);
 
 impl Quantity for Span {
+    const LOW: u32 = 0; // cm
+
+    const HIGH: u32 = 13500; // cm
+
     ghost range = { span };
 
     ghost LOW = { span.low };
@@ -62,10 +66,6 @@ impl Quantity for Span {
 
     ghost holds = { holds refl refl (λ x. refl) (λ q. refl) };
 
-    const LOW: u32 = 0; // cm
-
-    const HIGH: u32 = 13500; // cm
-
     fn hold(x: u64) -> Span {
         Span(u16::try_from(x).unwrap_or(u16::MAX))
     }
@@ -76,6 +76,10 @@ impl Quantity for Span {
 pub struct Spacing(pub u16);
 
 impl Quantity for Spacing {
+    const LOW: u32 = 100; // mm
+
+    const HIGH: u32 = 4000; // mm
+
     ghost range = { spacing };
 
     ghost LOW = { spacing.low };
@@ -90,10 +94,6 @@ impl Quantity for Spacing {
 
     ghost holds = { holds refl refl (λ x. refl) (λ q. refl) };
 
-    const LOW: u32 = 100; // mm
-
-    const HIGH: u32 = 4000; // mm
-
     fn hold(x: u64) -> Spacing {
         Spacing(u16::try_from(x).unwrap_or(u16::MAX))
     }
@@ -104,6 +104,10 @@ impl Quantity for Spacing {
 pub struct Thickness(pub u16);
 
 impl Quantity for Thickness {
+    const LOW: u32 = 1; // hundredths of a mm
+
+    const HIGH: u32 = 4000; // hundredths of a mm
+
     ghost range = { thickness };
 
     ghost LOW = { thickness.low };
@@ -118,10 +122,6 @@ impl Quantity for Thickness {
 
     ghost holds = { holds refl refl (λ x. refl) (λ q. refl) };
 
-    const LOW: u32 = 1; // hundredths of a mm
-
-    const HIGH: u32 = 4000; // hundredths of a mm
-
     fn hold(x: u64) -> Thickness {
         Thickness(u16::try_from(x).unwrap_or(u16::MAX))
     }
@@ -132,6 +132,10 @@ impl Quantity for Thickness {
 pub struct Modulus(pub u32);
 
 impl Quantity for Modulus {
+    const LOW: u32 = 1; // tenths of a cm³
+
+    const HIGH: u32 = 100000; // tenths of a cm³
+
     ghost range = { modulus };
 
     ghost LOW = { modulus.low };
@@ -146,10 +150,6 @@ impl Quantity for Modulus {
 
     ghost holds = { holds refl refl (λ x. refl) (λ q. refl) };
 
-    const LOW: u32 = 1; // tenths of a cm³
-
-    const HIGH: u32 = 100000; // tenths of a cm³
-
     fn hold(x: u64) -> Modulus {
         Modulus(u32::try_from(x).unwrap_or(u32::MAX))
     }
@@ -160,6 +160,10 @@ impl Quantity for Modulus {
 pub struct ShearArea(pub u16);
 
 impl Quantity for ShearArea {
+    const LOW: u32 = 1; // hundredths of a cm²
+
+    const HIGH: u32 = 16000; // hundredths of a cm²
+
     ghost range = { shear_area };
 
     ghost LOW = { shear_area.low };
@@ -174,10 +178,6 @@ impl Quantity for ShearArea {
 
     ghost holds = { holds refl refl (λ x. refl) (λ q. refl) };
 
-    const LOW: u32 = 1; // hundredths of a cm²
-
-    const HIGH: u32 = 16000; // hundredths of a cm²
-
     fn hold(x: u64) -> ShearArea {
         ShearArea(u16::try_from(x).unwrap_or(u16::MAX))
     }
@@ -188,6 +188,10 @@ impl Quantity for ShearArea {
 pub struct Pressure(pub u64);
 
 impl Quantity for Pressure {
+    const LOW: u32 = 0; // thousandths of a Pa
+
+    const HIGH: u32 = 200000000; // thousandths of a Pa
+
     ghost range = { pressure };
 
     ghost LOW = { pressure.low };
@@ -202,10 +206,6 @@ impl Quantity for Pressure {
 
     ghost holds = { holds refl refl (λ x. refl) (λ q. refl) };
 
-    const LOW: u32 = 0; // thousandths of a Pa
-
-    const HIGH: u32 = 200000000; // thousandths of a Pa
-
     fn hold(x: u64) -> Pressure {
         Pressure(x)
     }
@@ -216,6 +216,10 @@ impl Quantity for Pressure {
 pub struct LineLoad(pub u64);
 
 impl Quantity for LineLoad {
+    const LOW: u32 = 0; // N/m
+
+    const HIGH: u32 = 416415; // N/m
+
     ghost range = { line_load };
 
     ghost LOW = { line_load.low };
@@ -230,10 +234,6 @@ impl Quantity for LineLoad {
 
     ghost holds = { holds refl refl (λ x. refl) (λ q. refl) };
 
-    const LOW: u32 = 0; // N/m
-
-    const HIGH: u32 = 416415; // N/m
-
     fn hold(x: u64) -> LineLoad {
         LineLoad(x)
     }
@@ -244,6 +244,10 @@ impl Quantity for LineLoad {
 pub struct SteelFactor(pub u16);
 
 impl Quantity for SteelFactor {
+    const LOW: u32 = 500;
+
+    const HIGH: u32 = 1000;
+
     ghost range = { steel_factor };
 
     ghost LOW = { steel_factor.low };
@@ -257,10 +261,6 @@ impl Quantity for SteelFactor {
     ghost number = { λ q. q.0 };
 
     ghost holds = { holds refl refl (λ x. refl) (λ q. refl) };
-
-    const LOW: u32 = 500;
-
-    const HIGH: u32 = 1000;
 
     fn hold(x: u64) -> SteelFactor {
         SteelFactor(u16::try_from(x).unwrap_or(u16::MAX))
