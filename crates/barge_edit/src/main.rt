@@ -43,7 +43,12 @@ fn write_sheet(out: &mut impl Write, err: &mut impl Write, sheet: &[u8]) -> io::
 }
 
 // The new sheet, or the refusal, with a word on a text that was handed over for a sheet.
-fn finish(out: &mut impl Write, err: &mut impl Write, sheet: &[u8], e: Result<usize, Refusal>) -> io::Result<()>
+fn finish(
+    out: &mut impl Write,
+    err: &mut impl Write,
+    sheet: &[u8],
+    e: Result<usize, Refusal>,
+) -> io::Result<()>
     requires { EditInside e (length sheet.now) }
 {
     match e {

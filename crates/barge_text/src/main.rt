@@ -109,7 +109,12 @@ fn text_of(buffer: &[u8], got: usize, out: &mut [u8]) -> Result<usize, Refusal>
 }
 
 // What was made of the input goes to standard output, or the refusal to standard error.
-fn deliver(out: &mut impl Write, err: &mut impl Write, c: Result<usize, Refusal>, made: &[u8]) -> io::Result<()>
+fn deliver(
+    out: &mut impl Write,
+    err: &mut impl Write,
+    c: Result<usize, Refusal>,
+    made: &[u8],
+) -> io::Result<()>
     requires { MadeInside c (length made.now) }
 {
     match c {

@@ -271,7 +271,12 @@ fn write_all(draft: &[u32], out: &mut [u8])
 }
 
 // The records of a sheet whose header is sound. The verdicts go into the output once none of them is turned away.
-fn judge_sheet(h: Header, sheet: &[u8], draft: &mut [u32], out: &mut [u8]) -> Result<Checked, Refusal>
+fn judge_sheet(
+    h: Header,
+    sheet: &[u8],
+    draft: &mut [u32],
+    out: &mut [u8],
+) -> Result<Checked, Refusal>
     requires { (given h ≡ header_for sheet.now (length out.old)) × (h.count ≤ length draft.old) }
     ensures { Checks sheet.now out.old result out.new }
 {

@@ -35,7 +35,13 @@ fn next_line(line: u32) -> u32
 }
 
 // The lines from a place on, each a record's, behind the header's bytes. How many bytes of the draft they fill, or why a line is turned away.
-fn put_records(text: &[u8], at: usize, filled: bool, draft: &mut [u8], head: usize) -> Result<usize, Refusal>
+fn put_records(
+    text: &[u8],
+    at: usize,
+    filled: bool,
+    draft: &mut [u8],
+    head: usize,
+) -> Result<usize, Refusal>
     requires { (length draft.old ≡ draft_size) × (head ≤ length draft.old) }
     ensures { Fills (records_made 2 (lines_left filled text.now at)) (take head draft.old) result draft.new }
 {
