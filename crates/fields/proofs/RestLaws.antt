@@ -10,7 +10,7 @@ use lib.Seq.{drop-drop}
 use Rattle.fields.specs.Number.{digit_of}
 use Rattle.fields.specs.Marks.{Marks, seen, seen_at, by, outside, inside}
 use Rattle.fields.specs.Field.{field_of}
-use Rattle.fields.specs.Rest.{is_bad, is_closed, plain_turn, closed_turn, quoted_turn, turn_of, marks_in}
+use Rattle.fields.specs.Rest.{is_closed, plain_turn, closed_turn, quoted_turn, turn_of, marks_in}
 use Rattle.fields.specs.declared.Num.{Num}
 use Rattle.fields.specs.declared.Place.{Place}
 use Rattle.fields.specs.declared.Seen.{Seen}
@@ -95,11 +95,6 @@ before_end (b ∷ s) (suc at) mode t e f = let h = before_end s at mode t e f in
 
 pub quoted_past : (l : List ℕ) → l ≡ [] → quoted_turn l ≡ Turn.Fault
 quoted_past l e = ap quoted_turn e
-
-pub bad_is : (n : Num) → true ≡ is_bad n → n ≡ Num.Bad
-bad_is Num.Bad e = refl
-bad_is Num.Empty e = absurd (true≢false e)
-bad_is (Num.Value v) e = absurd (true≢false e)
 
 pub closed_is : (p : Place) → true ≡ is_closed p → p ≡ Place.Closed
 closed_is Place.Closed e = refl

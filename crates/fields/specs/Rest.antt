@@ -1,16 +1,10 @@
 -- The rest of a field that is no number, one byte at a time. Private: what `rest` and its parts promise each other.
 use Rattle.std.specs.Prelude.{ℕ, List, [], ◌∷◌, Bool, true, false, cond, eqb}
 use Rattle.fields.specs.Marks.{Marks, seen_at, outside, inside}
-use Rattle.fields.specs.declared.Num.{Num}
 use Rattle.fields.specs.declared.Place.{Place}
 use Rattle.fields.specs.declared.Seen.{Seen}
 use Rattle.fields.specs.declared.Mode.{Mode}
 use Rattle.fields.specs.declared.Turn.{Turn}
-
-abbrev pub is_bad : Num → Bool
-is_bad Num.Bad = true
-is_bad Num.Empty = false
-is_bad (Num.Value v) = false
 
 abbrev pub is_closed : Place → Bool
 is_closed Place.Closed = true

@@ -1,11 +1,11 @@
 // One field of comma-separated text, as a number: what its bytes spell, its quotes taken away, how it ends, and where the next one starts.
 #![tactic(auto)]
 
-ghost use Rattle.std.specs.Prelude.{◌≡◌, ◌<◌, drop};
-ghost use Rattle.fields.specs.Number.{digit_of, longer_of};
+ghost use Rattle.std.specs.Prelude.{◌≡◌, ◌<◌, cond, drop};
+ghost use Rattle.fields.specs.Number.{digit_of, longer_of, next};
 ghost use Rattle.fields.specs.Marks.{feeds, after_feed, seen_at, outside, inside};
 ghost use Rattle.fields.specs.Field.{field_of, field_at};
-ghost use Rattle.fields.specs.Rest.{is_bad, is_closed, plain_turn, closed_turn, quoted_turn, turn_of, marks_in};
+ghost use Rattle.fields.specs.Rest.{is_closed, plain_turn, closed_turn, quoted_turn, turn_of, marks_in};
 
 // What the bytes of a field spell, so far.
 #[derive(Clone, Copy)]
@@ -62,32 +62,23 @@ enum Turn {
     Fault,
 }
 
-const COMMA: u8 = 44;
-
-const QUOTE: u8 = 34;
-
-const LF: u8 = 10;
-
-const CR: u8 = 13;
-
-fn line_feed_at(text: &[u8], at: usize) -> bool
-    ensures { result ≡ feeds (drop at text.now) }
-{
-    if at < text.len() {
-        text[at] == LF
-    } else {
-        false
-    }
-}
-
 // A line feed with nothing behind it ends the last line, and starts none.
 fn after_feed(text: &[u8], at: usize) -> Seen
     ensures { result ≡ after_feed (drop at text.now) }
 {
-    if at < text.len() {
-        Seen::Line
-    } else {
-        Seen::End
+    match text.get(at) {
+        Some(_) => Seen::Line,
+        None => Seen::End,
+    }
+}
+
+// A CR is a byte like any other where no line feed follows it.
+fn after_return(text: &[u8], at: usize) -> Seen
+    ensures { result ≡ cond (feeds (drop at text.now)) Seen.Skip (Seen.Data 13) }
+{
+    match text.get(at) {
+        Some(b'\n') => Seen::Skip,
+        _ => Seen::Data(b'\r'),
     }
 }
 
@@ -95,52 +86,33 @@ fn after_feed(text: &[u8], at: usize) -> Seen
 pub fn look(text: &[u8], at: usize) -> Seen
     ensures { result ≡ seen_at (drop at text.now) }
 {
-    if text.len() <= at {
-        return Seen::End;
+    match text.get(at) {
+        None => Seen::End,
+        Some(b',') => Seen::Comma,
+        Some(b'"') => Seen::Quote,
+        Some(b'\n') => after_feed(text, at + 1),
+        Some(b'\r') => after_return(text, at + 1),
+        Some(&b) => Seen::Data(b),
     }
-    let b = text[at];
-    if b == COMMA {
-        return Seen::Comma;
-    }
-    if b == QUOTE {
-        return Seen::Quote;
-    }
-    if b == LF {
-        return after_feed(text, at + 1);
-    }
-    if b == CR {
-        if line_feed_at(text, at + 1) {
-            return Seen::Skip;
-        }
-    }
-    Seen::Data(b)
 }
 
 // One digit more: none may follow a leading 0, nor nine of them.
+#[tactic(auto, unfolding(crate::specs::Number::longer_of))]
 fn longer(v: u32, d: u32) -> Num
     requires { d < 10 }
     ensures { result ≡ longer_of v d }
 {
-    if v == 0 {
-        return Num::Bad;
-    }
-    if v < 100_000_000 {
-        Num::Value(10 * v + d)
-    } else {
-        Num::Bad
+    match v {
+        1..=99_999_999 => Num::Value(10 * v + d),
+        _ => Num::Bad,
     }
 }
 
-fn digit(num: Num, b: u8) -> Num
-    ensures { result ≡ digit_of num b }
+// A digit behind what was read so far.
+fn next(num: Num, d: u32) -> Num
+    requires { d < 10 }
+    ensures { result ≡ next num d }
 {
-    if b < 48 {
-        return Num::Bad;
-    }
-    if 57 < b {
-        return Num::Bad;
-    }
-    let d = (b - 48) as u32;
     match num {
         Num::Empty => Num::Value(d),
         Num::Value(v) => longer(v, d),
@@ -148,24 +120,20 @@ fn digit(num: Num, b: u8) -> Num
     }
 }
 
-fn is_bad(n: Num) -> bool
-    ensures { result ≡ is_bad n }
+#[tactic(auto, unfolding(crate::specs::Number::digit_of))]
+fn digit(num: Num, b: u8) -> Num
+    ensures { result ≡ digit_of num b }
 {
-    match n {
-        Num::Bad => true,
-        Num::Empty => false,
-        Num::Value(_) => false,
+    match b {
+        b'0'..=b'9' => next(num, (b - b'0') as u32),
+        _ => Num::Bad,
     }
 }
 
 fn is_closed(p: Place) -> bool
     ensures { result ≡ is_closed p }
 {
-    match p {
-        Place::Closed => true,
-        Place::Start => false,
-        Place::Inside => false,
-    }
+    matches!(p, Place::Closed)
 }
 
 fn plain_turn(k: Seen) -> Turn
@@ -175,9 +143,8 @@ fn plain_turn(k: Seen) -> Turn
         Seen::End => Turn::End,
         Seen::Comma => Turn::Comma,
         Seen::Line => Turn::Line,
-        Seen::Skip => Turn::On(Mode::Plain),
+        Seen::Skip | Seen::Data(_) => Turn::On(Mode::Plain),
         Seen::Quote => Turn::Fault,
-        Seen::Data(_) => Turn::On(Mode::Plain),
     }
 }
 
@@ -197,13 +164,10 @@ fn closed_turn(k: Seen) -> Turn
 fn quoted_turn(text: &[u8], at: usize) -> Turn
     ensures { result ≡ quoted_turn (drop at text.now) }
 {
-    if text.len() <= at {
-        return Turn::Fault;
-    }
-    if text[at] == QUOTE {
-        Turn::On(Mode::Closed)
-    } else {
-        Turn::On(Mode::Quoted)
+    match text.get(at) {
+        None => Turn::Fault,
+        Some(b'"') => Turn::On(Mode::Closed),
+        Some(_) => Turn::On(Mode::Quoted),
     }
 }
 
@@ -227,7 +191,7 @@ fn rest(text: &[u8], at: usize, mode: Mode) -> Field
         match turn_at(text, here, m) {
             Turn::On(next) => {
                 m = next;
-                here = here + 1;
+                here += 1;
             }
             Turn::End => {
                 return Field::End(Num::Bad);
@@ -270,11 +234,9 @@ fn plain(text: &[u8], at: usize, num: Num, place: Place) -> Field
             if is_closed(place) {
                 return Field::Fault;
             }
-            let n = digit(num, b);
-            if is_bad(n) {
-                rest(text, at + 1, Mode::Plain)
-            } else {
-                plain(text, at + 1, n, Place::Inside)
+            match digit(num, b) {
+                Num::Bad => rest(text, at + 1, Mode::Plain),
+                n => plain(text, at + 1, n, Place::Inside),
             }
         }
     }
@@ -285,19 +247,13 @@ fn plain(text: &[u8], at: usize, num: Num, place: Place) -> Field
 fn quoted(text: &[u8], at: usize, num: Num) -> Field
     ensures { result ≡ field_of (inside (drop at text.now) at) num }
 {
-    if text.len() <= at {
-        return Field::Fault;
-    }
-    let b = text[at];
-    if b == QUOTE {
-        plain(text, at + 1, num, Place::Closed)
-    } else {
-        let n = digit(num, b);
-        if is_bad(n) {
-            rest(text, at + 1, Mode::Quoted)
-        } else {
-            quoted(text, at + 1, n)
-        }
+    match text.get(at) {
+        None => Field::Fault,
+        Some(b'"') => plain(text, at + 1, num, Place::Closed),
+        Some(&b) => match digit(num, b) {
+            Num::Bad => rest(text, at + 1, Mode::Quoted),
+            n => quoted(text, at + 1, n),
+        },
     }
 }
 

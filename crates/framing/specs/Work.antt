@@ -1,5 +1,5 @@
 -- How a member's scantlings are worked out: the numbers that its rules go by, and the shapes that they take.
-use Rattle.std.specs.Prelude.{ℕ, Result, Ok, Err}
+use Rattle.std.specs.Prelude.{ℕ, Result}
 use Rattle.gauge.specs.declared.Shape.{Shape}
 use Rattle.loads.specs.Sources.{Named, told_load}
 use Rattle.sheet.specs.declared.Header.{Header}

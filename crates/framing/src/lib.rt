@@ -8,14 +8,18 @@ ghost use Rattle.sheet.specs.Record.{of_member};
 ghost use Rattle.sheet.specs.Ranges.{HeaderRanges, MemberRanges};
 ghost use Rattle.verdict.specs.Verdict.{verdict_of};
 ghost use Rattle.verdict.specs.Judged.{told_judged, judged_by};
+ghost use Rattle.framing.specs.Kinds.{number_of};
 ghost use Rattle.framing.specs.Rules.{member_pressure, member_named, member_rules, member_finding};
 ghost use Rattle.framing.specs.Shapes.{stressed_shape, shape4, shape5, shape6};
 ghost use Rattle.framing.specs.Work.{told_work, work_of, told_worked};
 ghost use Rattle.framing.specs.Bounds.{Product, Bounded};
 
-use gauge::Shape;
+mod kinds;
+
+use crate::kinds::Kind;
+use gauge::{Shape, squared};
 use loads::{Line, Load};
-use quantity::{LineLoad, Modulus, Quantity, ShearArea, Spacing, Span, SteelFactor, Thickness};
+use quantity::{LineLoad, Modulus, Quantity, ShearArea, Span, Thickness};
 use sheet::{Header, Member, Refusal};
 use verdict::{Judged, Verdict};
 
@@ -47,78 +51,78 @@ fn product(n: u64, ends: u8, eta: u8, q: Line, x: u64) -> u64
 }
 
 // The web.
-fn rule4(kind: u8, length: Span, factor: SteelFactor, spacing: Spacing) -> Shape
-    ensures { result ≡ shape4 kind length.0 factor.0 spacing.0 }
+fn rule4(kind: Kind, length: Span, m: Member) -> Shape
+    ensures { result ≡ shape4 (number_of kind) length.0 m.factor.0 m.spacing.0 }
 {
     let l = length.0 as u64;
     let l2 = l * l;
-    let k = factor.0 as u64;
-    let s = spacing.0 as u32;
-    if 6 <= kind {
-        return gauge::squared(100, 38000, 8 * l2 * k, 3125);
+    let k = m.factor.0 as u64;
+    let s = m.spacing.0 as u32;
+    match kind {
+        Kind::Longitudinal if l < 12000 => squared(100, 16300 + 45 * s, l2 * k, 6250),
+        Kind::Longitudinal => squared(10, s, 15210 * k, 1),
+        Kind::Floor | Kind::Transverse | Kind::Girder => squared(100, 38000, 8 * l2 * k, 3125),
     }
-    if l < 12000 {
-        return gauge::squared(100, 16300 + 45 * s, l2 * k, 6250);
-    }
-    gauge::squared(10, s, 15210 * k, 1)
 }
 
 // The section modulus.
-fn rule5(kind: u8, bending: u8, eta: u8, stress: u8, q: Line, span: Span) -> Shape
-    requires { Bounded bending eta q.load.0 span.0 }
-    ensures { result ≡ shape5 kind bending eta stress q.load.0 span.0 }
+fn rule5(kind: Kind, m: Member, q: Line) -> Shape
+    requires { Bounded m.bending m.eta q.load.0 m.span.0 }
+    ensures { result ≡ shape5 (number_of kind) m.bending m.eta m.stress q.load.0 m.span.0 }
 {
-    let l = span.0 as u64;
+    let l = m.span.0 as u64;
     let l2 = l * l;
-    if kind < 6 {
-        return stressed(100000000000, 214, stress, product(833, bending, eta, q, l2));
+    match kind {
+        Kind::Longitudinal => {
+            let p = product(833, m.bending, m.eta, q, l2);
+            stressed(100000000000, 214, m.stress, p)
+        }
+        Kind::Floor | Kind::Transverse => at_least(product(29, m.bending, 1, q, l2), 5000000000),
+        Kind::Girder => {
+            let p = product(25, m.bending, m.eta, q, l2);
+            stressed(2000000000, 197, m.stress, p)
+        }
     }
-    if kind < 8 {
-        return at_least(product(29, bending, 1, q, l2), 5000000000);
-    }
-    stressed(2000000000, 197, stress, product(25, bending, eta, q, l2))
 }
 
-// The shear area. A girder's has no η.
-fn rule6(kind: u8, shear: u8, eta: u8, q: Line, span: Span) -> Shape
-    requires { Bounded shear eta q.load.0 span.0 }
-    ensures { result ≡ shape6 kind shear eta q.load.0 span.0 }
+// The shear area. Only a longitudinal's has η.
+fn rule6(kind: Kind, m: Member, q: Line) -> Shape
+    requires { Bounded m.shear m.eta q.load.0 m.span.0 }
+    ensures { result ≡ shape6 (number_of kind) m.shear m.eta q.load.0 m.span.0 }
 {
-    let l = span.0 as u64;
-    if kind < 6 {
-        return at_least(product(9, shear, eta, q, l), 2000000000);
+    let l = m.span.0 as u64;
+    match kind {
+        Kind::Longitudinal => at_least(product(9, m.shear, m.eta, q, l), 2000000000),
+        Kind::Floor | Kind::Transverse => at_least(product(9, m.shear, 1, q, l), 20000000),
+        Kind::Girder => at_least(product(7, m.shear, 1, q, l), 12500000),
     }
-    if kind < 8 {
-        return at_least(product(9, shear, 1, q, l), 20000000);
-    }
-    at_least(product(7, shear, 1, q, l), 12500000)
 }
 
 // A longitudinal bears the sea at its height, the deeper members that of the whole draught.
-fn member_load(h: Header, kind: u8, m: Member) -> Load
-    ensures { told_load result ≡ member_named h kind m }
+fn member_load(h: Header, kind: Kind, m: Member) -> Load
+    ensures { told_load result ≡ member_named h (number_of kind) m }
 {
-    if 6 <= kind {
-        return loads::deep(h.draught, h.wave, h.two_runs);
+    match kind {
+        Kind::Longitudinal => loads::sea(h.draught, h.wave, m.z),
+        Kind::Floor | Kind::Transverse | Kind::Girder => loads::deep(h.draught, h.wave, h.two_runs),
     }
-    loads::sea(h.draught, h.wave, m.z)
 }
 
 // The rules in their order, under the member's load; a later shape is built only where the earlier rules are met.
-fn member_verdict(h: Header, kind: u8, m: Member, load: Load) -> Verdict
-    requires { HeaderRanges h × MemberRanges kind m × (load.pressure.0 ≡ member_pressure h kind m) }
-    ensures { result ≡ verdict_of (member_rules h kind m) }
+fn member_verdict(h: Header, kind: Kind, m: Member, load: Load) -> Verdict
+    requires { HeaderRanges h × MemberRanges (number_of kind) m × (load.pressure.0 ≡ member_pressure h (number_of kind) m) }
+    ensures { result ≡ verdict_of (member_rules h (number_of kind) m) }
 {
-    let web = rule4(kind, h.length, m.factor, m.spacing);
+    let web = rule4(kind, h.length, m);
     if !gauge::meets(web, m.thickness.0 as u32) {
         return verdict::failed(4, web, Thickness::HIGH);
     }
     let q = loads::line_load(load, m.spacing);
-    let bending = rule5(kind, m.bending, m.eta, m.stress, q, m.span);
+    let bending = rule5(kind, m, q);
     if !gauge::meets(bending, m.modulus.0) {
         return verdict::failed(5, bending, Modulus::HIGH);
     }
-    let shear = rule6(kind, m.shear, m.eta, q, m.span);
+    let shear = rule6(kind, m, q);
     if !gauge::meets(shear, m.area.0 as u32) {
         return verdict::failed(6, shear, ShearArea::HIGH);
     }
@@ -140,14 +144,14 @@ pub struct MemberWork {
     pub verdict: Verdict,
 }
 
-fn member_work(h: Header, kind: u8, m: Member, load: Load) -> MemberWork
-    requires { HeaderRanges h × MemberRanges kind m × (told_load load ≡ member_named h kind m) }
-    ensures { told_work result ≡ work_of h kind m }
+fn member_work(h: Header, kind: Kind, m: Member, load: Load) -> MemberWork
+    requires { HeaderRanges h × MemberRanges (number_of kind) m × (told_load load ≡ member_named h (number_of kind) m) }
+    ensures { told_work result ≡ work_of h (number_of kind) m }
 {
     let borne = loads::line_load(load, m.spacing);
-    let web = rule4(kind, h.length, m.factor, m.spacing);
-    let bending = rule5(kind, m.bending, m.eta, m.stress, borne, m.span);
-    let shear = rule6(kind, m.shear, m.eta, borne, m.span);
+    let web = rule4(kind, h.length, m);
+    let bending = rule5(kind, m, borne);
+    let shear = rule6(kind, m, borne);
     let verdict = member_verdict(h, kind, m, load);
     let line = borne.load;
     MemberWork {
@@ -165,6 +169,7 @@ pub fn worked(h: Header, kind: u8, id: u16, m: Member) -> Result<MemberWork, Ref
     ensures { told_worked result ≡ judged_by h (of_member kind id m) (work_of h kind m) }
 {
     verdict::admitted_member(h, kind, id, m)?;
+    let kind = Kind::of(kind);
     Ok(member_work(h, kind, m, member_load(h, kind, m)))
 }
 
@@ -173,6 +178,7 @@ pub fn judge(h: Header, kind: u8, id: u16, m: Member) -> Result<Judged, Refusal>
     ensures { told_judged result ≡ judged_by h (of_member kind id m) (member_finding h kind m) }
 {
     verdict::admitted_member(h, kind, id, m)?;
+    let kind = Kind::of(kind);
     let load = member_load(h, kind, m);
     Ok(Judged {
         verdict: member_verdict(h, kind, m, load),

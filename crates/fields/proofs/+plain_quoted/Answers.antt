@@ -1,4 +1,4 @@
-use Rattle.std.proofs.Common.{ℕ, ◌+◌, ◌<◌, ◌≡◌, List, length, get_or, drop, false, refl, sym, ap, ◌∙◌, arith}
+use Rattle.std.proofs.Common.{ℕ, ◌+◌, ◌<◌, ◌≡◌, List, length, get_or, drop, false, refl, sym, ap, ◌∙◌, arith, ltb-false}
 use Rattle.fields.specs.Number.{digit_of}
 use Rattle.fields.specs.Marks.{Marks, seen_at, outside, inside}
 use Rattle.fields.specs.Field.{field_of}
@@ -8,7 +8,7 @@ use Rattle.fields.specs.declared.Num.TheVariants.{Bad}
 use Rattle.fields.specs.declared.Seen.TheVariants.{End, Comma, Line, Skip, Quote, Data}
 use Rattle.fields.specs.declared.Place.{Place}
 use Rattle.fields.specs.declared.Place.TheVariants.{Start, Inside, Closed}
-use Rattle.fields.proofs.RestLaws.{bad_is, closed_is, open_is}
+use Rattle.fields.proofs.RestLaws.{closed_is, open_is}
 use Rattle.fields.proofs.Laws.{before_end, told, told_quote, told_byte, told_unclosed}
 use Rattle.fields.proofs.+plain_quoted.Goals as goal
 
@@ -22,9 +22,10 @@ to_byte s at place num b x e f g =
     ∙ told s at place num (Data b) place e refl
 
 -- a byte inside quotes
-to_quoted : (s : List ℕ) (at : ℕ) (num x : Num) → at < length s → (get_or s at 0 ≡ 34 → ⊥) → x ≡ digit_of num (get_or s at 0)
+to_quoted : (s : List ℕ) (at b : ℕ) (num x : Num) → at < length s → b ≡ get_or s at 0 → (b ≡ 34 → ⊥) → x ≡ digit_of num b
     → field_of (inside (drop (at + 1) s) (at + 1)) x ≡ field_of (inside (drop at s) at) num
-to_quoted s at num x l e f = ap (λ (n : Num). field_of (inside (drop (at + 1) s) (at + 1)) n) f ∙ sym (told_byte s at num l e)
+to_quoted s at b num x l e f g =
+    ap (λ (n : Num). field_of (inside (drop (at + 1) s) (at + 1)) n) (g ∙ ap (digit_of num) e) ∙ sym (told_byte s at num l (λ q. f (e ∙ q)))
 
 pub plain-overflow_add-result : goal.plain-overflow_add-result
 plain-overflow_add-result t c = omega (arith, before_end c.args.text.now c.args.at Comma (sym c.in-Comma.is ∙ c.look.ensures) refl)
@@ -52,14 +53,14 @@ unfolding field_of
 plain-returns-then-is_closed t c =
     told c.args.text.now c.args.at c.args.place c.args.num (Data _) Closed (sym c.in-Data.is ∙ c.look.ensures) (closed_is _ (sym c.if-is_closed.true ∙ c.is_closed.ensures))
 
-pub plain-overflow_add-at-then-is_bad : goal.plain-overflow_add-at-then-is_bad
-plain-overflow_add-at-then-is_bad t c = omega (arith, before_end c.args.text.now c.args.at (Data _) (sym c.in-Data.is ∙ c.look.ensures) refl)
+pub plain-overflow_add-at-in-Bad : goal.plain-overflow_add-at-in-Bad
+plain-overflow_add-at-in-Bad t c = omega (arith, before_end c.args.text.now c.args.at (Data _) (sym c.in-Data.is ∙ c.look.ensures) refl)
 
-pub plain-overflow_add-at-else-is_bad : goal.plain-overflow_add-at-else-is_bad
-plain-overflow_add-at-else-is_bad t c = omega (arith, before_end c.args.text.now c.args.at (Data _) (sym c.in-Data.is ∙ c.look.ensures) refl)
+pub plain-overflow_add-at-in_default : goal.plain-overflow_add-at-in_default
+plain-overflow_add-at-in_default t c = omega (arith, before_end c.args.text.now c.args.at (Data _) (sym c.in-Data.is ∙ c.look.ensures) refl)
 
-pub plain-plain-requires-else-is_bad : goal.plain-plain-requires-else-is_bad
-plain-plain-requires-else-is_bad t c = (omega (arith, before_end c.args.text.now c.args.at (Data _) (sym c.in-Data.is ∙ c.look.ensures) refl, c.decreases), tt)
+pub plain-plain-requires-in_default : goal.plain-plain-requires-in_default
+plain-plain-requires-in_default t c = (omega (arith, before_end c.args.text.now c.args.at (Data _) (sym c.in-Data.is ∙ c.look.ensures) refl, c.decreases), tt)
 
 pub plain-returns-in-End : goal.plain-returns-in-End
 unfolding field_of
@@ -87,27 +88,32 @@ pub plain-returns-in-Closed : goal.plain-returns-in-Closed
 unfolding field_of digit_of
 plain-returns-in-Closed t c = c.rest.ensures ∙ told c.args.text.now c.args.at c.args.place c.args.num Quote Closed (sym c.in-Quote.is ∙ c.look.ensures) c.in-Closed.is
 
-pub plain-returns-then-is_bad : goal.plain-returns-then-is_bad
-plain-returns-then-is_bad t c =
-    c.rest-then-is_bad.ensures
+pub plain-returns-in-Bad : goal.plain-returns-in-Bad
+plain-returns-in-Bad t c =
+    c.rest-in-Bad.ensures
     ∙ to_byte c.args.text.now c.args.at c.args.place c.args.num c.in-Data.b Bad (sym c.in-Data.is ∙ c.look.ensures) (sym c.if-is_closed.false ∙ c.is_closed.ensures)
-    (sym (bad_is _ (sym c.if-is_bad.true ∙ c.is_bad.ensures)) ∙ c.digit-n.ensures)
+    (sym c.in-Bad.is ∙ c.digit.ensures)
 
-pub plain-returns-else-is_bad : goal.plain-returns-else-is_bad
-plain-returns-else-is_bad t c =
-    c.plain-else-is_bad.ensures
-    ∙ to_byte c.args.text.now c.args.at c.args.place c.args.num c.in-Data.b _ (sym c.in-Data.is ∙ c.look.ensures) (sym c.if-is_closed.false ∙ c.is_closed.ensures) c.digit-n.ensures
+pub plain-returns-in_default : goal.plain-returns-in_default
+plain-returns-in_default t c =
+    c.plain-in_default.ensures
+    ∙ to_byte c.args.text.now c.args.at c.args.place c.args.num c.in-Data.b _ (sym c.in-Data.is ∙ c.look.ensures) (sym c.if-is_closed.false ∙ c.is_closed.ensures) c.digit.ensures
 
-pub quoted-returns-then-text-at : goal.quoted-returns-then-text-at
-quoted-returns-then-text-at t c = sym (told_unclosed _ _ _ c.if-text-at.true)
+pub quoted-returns-in-None : goal.quoted-returns-in-None
+quoted-returns-in-None t c =
+    sym (told_unclosed _ _ _ (ltb-false _ _ (sym c.in-None.ensures.lookup.0)))
 
-pub quoted-returns-then-b-eq-QUOTE : goal.quoted-returns-then-b-eq-QUOTE
-quoted-returns-then-b-eq-QUOTE t c = c.plain.ensures ∙ sym (told_quote _ _ _ c.if-text-at.false c.if-b-eq-QUOTE.true)
+pub quoted-returns-in-Some-eq34 : goal.quoted-returns-in-Some-eq34
+quoted-returns-in-Some-eq34 t c =
+    let there = c.in-Some-eq34.ensures.lookup.3 in
+    c.plain.ensures ∙ sym (told_quote _ _ _ there.0 (sym (there.1 0) ∙ c.in-Some-eq34.field-0-test))
 
-pub quoted-returns-then-is_bad : goal.quoted-returns-then-is_bad
-quoted-returns-then-is_bad t c =
-    c.rest.ensures
-    ∙ to_quoted c.args.text.now c.args.at c.args.num Bad c.if-text-at.false c.if-b-eq-QUOTE.false (sym (bad_is _ (sym c.if-is_bad.true ∙ c.is_bad.ensures)) ∙ c.digit-n.ensures)
+pub quoted-returns-in-Bad : goal.quoted-returns-in-Bad
+quoted-returns-in-Bad t c =
+    let there = c.in-Some.ensures.lookup.3 in
+    c.rest.ensures ∙ to_quoted c.args.text.now c.args.at _ c.args.num Bad there.0 (there.1 0) c.in-Some.field-0-test.1 (sym c.in-Bad.is ∙ c.digit.ensures)
 
-pub quoted-returns-else-is_bad : goal.quoted-returns-else-is_bad
-quoted-returns-else-is_bad t c = c.quoted.ensures ∙ to_quoted c.args.text.now c.args.at c.args.num _ c.if-text-at.false c.if-b-eq-QUOTE.false c.digit-n.ensures
+pub quoted-returns-in_default : goal.quoted-returns-in_default
+quoted-returns-in_default t c =
+    let there = c.in-Some.ensures.lookup.3 in
+    c.quoted.ensures ∙ to_quoted c.args.text.now c.args.at _ c.args.num _ there.0 (there.1 0) c.in-Some.field-0-test.1 c.digit.ensures

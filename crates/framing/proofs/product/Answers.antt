@@ -20,6 +20,5 @@ in_range h =
     let c = mul-le-mul b h.load_high in
     record { first = a; second = b; third = c; whole = mul-le-mul c h.x_high }
 
--- src/lib.rt:46:5
 pub overflow_mul-result-4 : goal.overflow_mul-result-4
 overflow_mul-result-4 c = omega (arith, in_range c.requires)

@@ -1,7 +1,7 @@
 -- Two answers that meet the promise of `worked` are equal.
 -- Assumes nothing.
-use Rattle.std.specs.Prelude.{◌≡◌, refl, Result, Ok, Err}
-use Rattle.std.proofs.Common.{sym, ap, ap₂, ◌∙◌}
+use Rattle.std.specs.Prelude.{◌≡◌, refl, Result}
+use Rattle.std.proofs.Common.{ap, ap₂}
 use Rattle.loads.specs.declared.Load.{Load}
 use Rattle.loads.specs.laws.Only.{load_only}
 use Rattle.loads.specs.Sources.{told_load}
