@@ -1,7 +1,6 @@
 // The line of a text that is at fault, on standard error. Only bytes that print reach a terminal: any other is shown by its number.
-ghost use Rattle.std.specs.Prelude.{◌≡◌, ◌+◌, ◌*◌, ◌≤◌, ◌<◌, length, drop};
+ghost use Rattle.std.specs.Prelude.{◌≡◌, ◌+◌, ◌*◌, ◌≤◌, ◌<◌, length};
 ghost use Rattle.decimal.specs.Laid.{Laid};
-ghost use Rattle.fields.specs.Marks.{feeds};
 ghost use Rattle.barge_text.specs.Shown.{ends_here, IsLine, is_printed, hex_digit, shown_byte, shown};
 
 use std::io::Write;
@@ -11,25 +10,11 @@ const MOST: usize = 120;
 
 const SPACE: usize = 480;
 
-fn feed_at(text: &[u8], at: usize) -> bool
-    ensures { result ≡ feeds (drop at text.now) }
+// Whether a line ends before these bytes: at LF, or at CR with LF behind it.
+fn ends_here(rest: &[u8]) -> bool
+    ensures { result ≡ ends_here rest.now }
 {
-    if at < text.len() {
-        text[at] == b'\n'
-    } else {
-        false
-    }
-}
-
-// Whether a line ends at a byte: at LF, or at CR with LF behind it.
-fn ends_at(text: &[u8], i: usize) -> bool
-    requires { i < length text.now }
-    ensures { result ≡ ends_here (drop i text.now) }
-{
-    if text[i] == b'\r' {
-        return feed_at(text, i + 1);
-    }
-    feed_at(text, i)
+    matches!(rest, [b'\n', ..] | [b'\r', b'\n', ..])
 }
 
 // How many bytes stand before the first line end.
@@ -37,7 +22,7 @@ fn line_length(text: &[u8]) -> usize
     ensures { IsLine text.now result }
 {
     for i in 0..text.len() {
-        if ends_at(text, i) {
+        if ends_here(&text[i..]) {
             return i;
         }
     }

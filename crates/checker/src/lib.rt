@@ -1,7 +1,7 @@
 // A whole sheet and a lent output: why the sheet is turned away, or a verdict for each of its records, each in its own four bytes of the output.
 #![tactic(auto)]
 
-ghost use Rattle.std.specs.Prelude.{◌≡◌, cond, ◌++◌, ◌+◌, ◌*◌, ◌≤◌, eqb, length, drop};
+ghost use Rattle.std.specs.Prelude.{◌≡◌, cond, ◌++◌, ◌+◌, ◌*◌, ◌≤◌, eqb, length, drop, Ok, Err};
 ghost use Rattle.quantity.specs.Range.{modulus};
 ghost use Rattle.layout.specs.Layout.{pack, unpack, Fit};
 ghost use Rattle.layout.specs.Bytes.{written_of};
@@ -60,6 +60,16 @@ fn fault(e: Entry) -> u8
     layout::fault_unless(e.id as u32, 1, 1000, 1, f)
 }
 
+// What the first fault of an entry says, or nothing where there is none.
+fn outcome(f: u8) -> Result<(), Refusal>
+    ensures { result ≡ cond (eqb f 0) (Ok tt) (Err (Refusal.Field f)) }
+{
+    match f {
+        0 => Ok(()),
+        _ => Err(Refusal::Field(f as u32)),
+    }
+}
+
 // The entry in a number, whatever its values.
 fn entry_of(n: u32) -> Entry
     ensures { result ≡ entry_at (unpack verdict_widths n) }
@@ -91,12 +101,9 @@ pub fn read_verdict(s: &[u8]) -> Result<Entry, Refusal>
         return Err(Refusal::SheetShort);
     }
     let n = layout::read_half(s);
-    let e = entry_of(n);
-    let f = fault(e);
-    if f == 0 {
-        return Ok(e);
-    }
-    Err(Refusal::Field(f as u32))
+    let entry = entry_of(n);
+    outcome(fault(entry))?;
+    Ok(entry)
 }
 
 // The writer of a verdict: its number into the first four bytes.
@@ -113,10 +120,7 @@ pub fn write_verdict(e: Entry, out: &mut [u8]) -> Result<(), Refusal>
     if out.len() < VERDICT {
         return Err(Refusal::OutputShort);
     }
-    let f = fault(e);
-    if f != 0 {
-        return Err(Refusal::Field(f as u32));
-    }
+    outcome(fault(e))?;
     write_number(number_of(e), out);
     Ok(())
 }

@@ -8,7 +8,7 @@ ghost use Rattle.std.specs.Process.{exit_status};
 ghost use Rattle.std.specs.Io.{ReadsAtMost};
 ghost use Rattle.std.specs.Io.KnownBytes.{Consumes, IsAtEnd};
 ghost use Rattle.std.specs.IoError.{error_kind};
-ghost use Rattle.console.specs.Console.{Loaded, Came, Broke, said_to, has_gone, begins_text, looks_like_text};
+ghost use Rattle.console.specs.Console.{Loaded, Came, Broke, said_to, has_gone, looks_like_text};
 
 use std::io;
 use std::io::{ErrorKind, Write};
@@ -204,21 +204,12 @@ pub fn status<T: Drop, W>(written: io::Result<T>, err: &Said<W>) -> ExitCode
     }
 }
 
-// Whether a text may begin with a byte: a digit, a quote, or the first byte of a byte-order mark.
-fn begins_text(b: u8) -> bool
-    ensures { result ≡ begins_text b }
-{
-    matches!(b, b'"' | b'0'..=b'9' | 0xEF)
-}
-
-// Whether an input looks like a text, by its first byte.
+// Whether an input looks like a text, by its first byte: a digit, a quote, or the first byte of a byte-order mark.
+#[tactic(auto, unfolding(crate::specs::Console::looks_like_text))]
 pub fn looks_like_text(input: &[u8]) -> bool
     ensures { result ≡ looks_like_text input.now }
 {
-    match input.first() {
-        Some(&b) => begins_text(b),
-        None => false,
-    }
+    matches!(input, [b'"' | b'0'..=b'9' | 0xEF, ..])
 }
 
 // A word to whoever hands over a text where a sheet is read.

@@ -1,7 +1,7 @@
 // The sheet's header: 96 bits in twelve bytes that every version has, and after them the bits that a version has of its own.
 #![tactic(auto)]
 
-ghost use Rattle.std.specs.Prelude.{◌≡◌, cond, ◌≤◌, ◌++◌, length, drop, eqb};
+ghost use Rattle.std.specs.Prelude.{◌≡◌, cond, ◌≤◌, ◌++◌, length, drop, eqb, Ok, Err};
 ghost use Rattle.layout.specs.Layout.{pack, unpack, bytes, Fit};
 ghost use Rattle.layout.specs.Line.{among, fault_from};
 ghost use Rattle.layout.specs.Bytes.{short_of};
@@ -119,25 +119,21 @@ fn number_of(h: Header) -> Short
     Short { hi, lo }
 }
 
-// A faulty version is its own refusal; of another field the place is its number.
-fn refuse(f: u8) -> Refusal
-    ensures { result ≡ cond (eqb f 1) Refusal.Version (Refusal.HeaderField f) }
+// What the first fault of a header says, or nothing where there is none: a faulty version is its own refusal; of another field the place is its number.
+fn outcome(f: u8) -> Result<(), Refusal>
+    ensures { result ≡ cond (eqb f 0) (Ok tt) (Err (cond (eqb f 1) Refusal.Version (Refusal.HeaderField f))) }
 {
-    if f == 1 {
-        Refusal::Version
-    } else {
-        Refusal::HeaderField(f as u32)
+    match f {
+        0 => Ok(()),
+        1 => Err(Refusal::Version),
+        _ => Err(Refusal::HeaderField(f as u32)),
     }
 }
 
 pub fn header_fault(h: Header) -> Result<(), Refusal>
     ensures { told_result result ≡ header_refused (header_fault h) (given tt) }
 {
-    let f = fault(h, 0, 0);
-    if f == 0 {
-        return Ok(());
-    }
-    Err(refuse(f))
+    outcome(fault(h, 0, 0))
 }
 
 // How many bytes a header needs: twelve, in which its version stands, and the version's own where that goes with what the header holds.
@@ -165,11 +161,8 @@ pub fn read_header(s: &[u8]) -> Result<Header, Refusal>
     if s.len() < needs(h) {
         return Err(Refusal::SheetShort);
     }
-    let f = fault(h, n.lo % 8, (rest % P27) as u32);
-    if f == 0 {
-        return Ok(h);
-    }
-    Err(refuse(f))
+    outcome(fault(h, n.lo % 8, (rest % P27) as u32))?;
+    Ok(h)
 }
 
 // What a version has of its own, as a number.
@@ -200,10 +193,7 @@ pub fn write_header(h: Header, out: &mut [u8]) -> Result<(), Refusal>
     if out.len() < needs(h) {
         return Err(Refusal::OutputShort);
     }
-    let f = fault(h, 0, 0);
-    if f != 0 {
-        return Err(refuse(f));
-    }
+    outcome(fault(h, 0, 0))?;
     layout::write_short(out, number_of(h));
     write_own(h.own, &mut out[FIRST..]);
     Ok(())

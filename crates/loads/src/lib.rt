@@ -76,7 +76,8 @@ fn heavier(a: Load, b: Load) -> Load
     b
 }
 
-fn wind(wave: Span) -> u64
+// What the wind adds above the draught.
+pub fn wind(wave: Span) -> u64
     ensures { result ≡ windOf wave.0 }
 {
     if wave.0 == 120 {

@@ -98,13 +98,8 @@ fn earlier(found: Result<(), Refusal>, field: u8, here: Refusal) -> Result<(), R
         return found;
     }
     match found {
-        Ok(()) => Err(here),
-        Err(r) => {
-            if r.place() < here.place() {
-                return Err(r);
-            }
-            Err(here)
-        }
+        Err(r) if r.place() < here.place() => Err(r),
+        _ => Err(here),
     }
 }
 

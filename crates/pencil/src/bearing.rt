@@ -1,21 +1,10 @@
 // The loads that bear on a member: their numbers, and their lines.
 ghost use Rattle.std.specs.Prelude.{◌≡◌};
-ghost use Rattle.loads.specs.Loads.{wind};
 ghost use Rattle.pencil.specs.Numbers.{load_numbers};
 ghost use Rattle.pencil.specs.Trail.{Tells, head_of};
 
 use crate::Section;
 use quantity::Span;
-
-fn wind_of(wave: Span) -> u64
-    ensures { result ≡ wind wave.0 }
-{
-    if wave.0 == 120 {
-        3400 * wave.0 as u64
-    } else {
-        250000
-    }
-}
 
 fn load_numbers(draught: Span, wave: Span, z: Span, tank_top: Span, cargo: u32) -> [u64; 32]
     ensures { result ≡ load_numbers draught.0 wave.0 z.0 tank_top.0 cargo }
@@ -26,7 +15,7 @@ fn load_numbers(draught: Span, wave: Span, z: Span, tank_top: Span, cargo: u32) 
     let waves = 50031 * h;
     let still = 98100 * d.saturating_sub(at);
     let crest = (50150 * h).max(3000000);
-    let wind = wind_of(wave);
+    let wind = loads::wind(wave);
     let tank = 98100 * (tank_top.0 as u64 + 100).saturating_sub(at);
     let relief = (14715 * d).saturating_sub(waves);
     let net = tank.saturating_sub(relief);

@@ -1,3 +1,4 @@
+pub mod Kinds
 pub mod Rules
 pub mod Bounds
 pub mod Shapes

@@ -1,6 +1,8 @@
 // Plates of the bottom and the inner bottom: rules 1, 2 and 3.
 #![tactic(auto)]
 
+mod kinds;
+
 ghost use Rattle.std.specs.Prelude.{◌≡◌, false, ◌*◌, ◌^◌, ◌≤◌, ◌<◌};
 ghost use Rattle.quantity.specs.Range.{thickness, pressure, steel_factor};
 ghost use Rattle.loads.specs.Sources.{told_load};
@@ -13,12 +15,13 @@ ghost use Rattle.verdict.specs.Judged.{told_judged, judged_by};
 ghost use Rattle.plating.specs.Rules.{R, plate_modulus, K2, allowance, is_second, plate_pressure, plate_named, plate_rules, plate_finding};
 ghost use Rattle.plating.specs.Shapes.{square_shape, over_shape, excess_shape, shape1, shape2, first_shape, second_shape, shape3};
 ghost use Rattle.plating.specs.Work.{panel_k2, told_work, work_of, told_worked};
+ghost use Rattle.plating.specs.Kinds.{number_of};
 ghost use Rattle.plating.specs.Bounds.{Panel, greatest_r};
 
+use crate::kinds::Kind;
 use gauge::Shape;
 use loads::Load;
 use quantity::{Quantity, Spacing, Span, SteelFactor, Thickness};
-use sheet::kinds::{is_bottom, is_long};
 use sheet::{Header, Plate, Refusal};
 use verdict::{Judged, Verdict};
 
@@ -55,51 +58,51 @@ fn excess(short: u32, a: u64, n: u64) -> Shape
 }
 
 // c of rule 1.
-fn allowance(kind: u8) -> u32
-    ensures { result ≡ allowance kind }
+fn allowance(kind: Kind) -> u32
+    ensures { result ≡ allowance (number_of kind) }
 {
     match kind {
-        1 => 18500,
-        2 => 11000,
-        _ => 15000,
+        Kind::Bottom => 18500,
+        Kind::LongBottom => 11000,
+        Kind::Inner | Kind::LongInner => 15000,
     }
 }
 
 // Rule 1: what the vessel's length asks.
-fn rule1(kind: u8, length: Span, factor: SteelFactor, spacing: Spacing) -> Shape
-    ensures { result ≡ shape1 kind length.0 factor.0 spacing.0 }
+fn rule1(kind: Kind, length: Span, factor: SteelFactor, spacing: Spacing) -> Shape
+    ensures { result ≡ shape1 (number_of kind) length.0 factor.0 spacing.0 }
 {
     let l = length.0 as u64;
     let k = factor.0 as u64;
     let s = spacing.0 as u32;
     let n = l * l * k;
     let short = allowance(kind) + 36 * s;
-    if is_bottom(kind) {
+    if kind.is_bottom() {
         return excess(short, 1000, 9 * n);
     }
     excess(short, 3125, 8 * n)
 }
 
 // Rule 2: what the pressure asks.
-fn rule2(kind: u8, factor: SteelFactor, spacing: Spacing, load: Load) -> Shape
+fn rule2(kind: Kind, factor: SteelFactor, spacing: Spacing, load: Load) -> Shape
     requires { (factor.0 ≤ steel_factor.high) × (spacing.0 ≤ plate_spacing.high) × (load.pressure.0 ≤ pressure.high) }
-    ensures { result ≡ shape2 kind factor.0 spacing.0 load.pressure.0 }
+    ensures { result ≡ shape2 (number_of kind) factor.0 spacing.0 load.pressure.0 }
 {
     let k = factor.0 as u64;
     let s = spacing.0 as u64;
     let n = s * s * k * load.pressure.0;
-    if is_long(kind) {
+    if kind.is_long() {
         return square(625000000000, 9 * n);
     }
     square(39062500000, n)
 }
 
 // The modulus at the plate: the bottom's, or the inner bottom's.
-fn plate_modulus(h: Header, kind: u8) -> u32
-    ensures { result ≡ plate_modulus h kind }
+fn plate_modulus(h: Header, kind: Kind) -> u32
+    ensures { result ≡ plate_modulus h (number_of kind) }
 {
     let inner = h.inner_modulus();
-    if is_bottom(kind) {
+    if kind.is_bottom() {
         return h.bottom_modulus;
     }
     inner
@@ -125,26 +128,26 @@ fn k2(b1: Span, b2: Span) -> u64
 }
 
 // Whether the second form of rule 3 replaces the first.
-fn is_second(kind: u8, factor: SteelFactor, r: u64) -> bool
+fn is_second(kind: Kind, factor: SteelFactor, r: u64) -> bool
     requires { (factor.0 ≤ steel_factor.high) × (r ≤ greatest_r) }
-    ensures { result ≡ is_second kind factor.0 r }
+    ensures { result ≡ is_second (number_of kind) factor.0 r }
 {
     let k = factor.0 as u64;
     match kind {
-        1 => 121000000000 < 1156 * k * r,
-        2 => 625000000000 < 6084 * k * r,
-        _ => false,
+        Kind::Bottom => 121000000000 < 1156 * k * r,
+        Kind::LongBottom => 625000000000 < 6084 * k * r,
+        Kind::Inner | Kind::LongInner => false,
     }
 }
 
 // Rule 3 while the hull's stress is small.
-fn first_form(kind: u8, spacing: Spacing, b1: Span, b2: Span, r: u64) -> Shape
-    requires { Panel kind spacing.0 b1.0 }
-    ensures { result ≡ first_shape kind spacing.0 (K2 b1.0 b2.0) r }
+fn first_form(kind: Kind, spacing: Spacing, b1: Span, b2: Span, r: u64) -> Shape
+    requires { Panel (number_of kind) spacing.0 b1.0 }
+    ensures { result ≡ first_shape (number_of kind) spacing.0 (K2 b1.0 b2.0) r }
 {
     let s = spacing.0 as u64;
     let n = s * s;
-    if is_long(kind) {
+    if kind.is_long() {
         return square_over(100000000, 1521 * n, r);
     }
     let side = k2(b1, b2);
@@ -152,9 +155,16 @@ fn first_form(kind: u8, spacing: Spacing, b1: Span, b2: Span, r: u64) -> Shape
 }
 
 // Rule 3 on the bottom where the hull's stress is great.
-fn second_form(kind: u8, factor: SteelFactor, spacing: Spacing, b1: Span, b2: Span, r: u64) -> Shape
-    requires { Panel kind spacing.0 b1.0 × (factor.0 ≤ steel_factor.high) }
-    ensures { result ≡ second_shape kind factor.0 spacing.0 (K2 b1.0 b2.0) r }
+fn second_form(
+    kind: Kind,
+    factor: SteelFactor,
+    spacing: Spacing,
+    b1: Span,
+    b2: Span,
+    r: u64,
+) -> Shape
+    requires { Panel (number_of kind) spacing.0 b1.0 × (factor.0 ≤ steel_factor.high) }
+    ensures { result ≡ second_shape (number_of kind) factor.0 spacing.0 (K2 b1.0 b2.0) r }
 {
     if LIMIT <= r {
         return Shape::Never;
@@ -163,7 +173,7 @@ fn second_form(kind: u8, factor: SteelFactor, spacing: Spacing, b1: Span, b2: Sp
     let k = factor.0 as u64;
     let s = spacing.0 as u64;
     let n = s * s * k;
-    if is_long(kind) {
+    if kind.is_long() {
         return square(10 * left, 1681 * n);
     }
     let side = k2(b1, b2);
@@ -171,9 +181,9 @@ fn second_form(kind: u8, factor: SteelFactor, spacing: Spacing, b1: Span, b2: Sp
 }
 
 // Rule 3: what the hull's bending asks. A greater moment may ask for less, where the second form sets in.
-fn rule3(kind: u8, factor: SteelFactor, spacing: Spacing, b1: Span, b2: Span, r: u64) -> Shape
-    requires { Panel kind spacing.0 b1.0 × (factor.0 ≤ steel_factor.high) × (r ≤ greatest_r) }
-    ensures { result ≡ shape3 kind factor.0 spacing.0 (K2 b1.0 b2.0) r }
+fn rule3(kind: Kind, factor: SteelFactor, spacing: Spacing, b1: Span, b2: Span, r: u64) -> Shape
+    requires { Panel (number_of kind) spacing.0 b1.0 × (factor.0 ≤ steel_factor.high) × (r ≤ greatest_r) }
+    ensures { result ≡ shape3 (number_of kind) factor.0 spacing.0 (K2 b1.0 b2.0) r }
 {
     if is_second(kind, factor, r) {
         return second_form(kind, factor, spacing, b1, b2, r);
@@ -182,19 +192,19 @@ fn rule3(kind: u8, factor: SteelFactor, spacing: Spacing, b1: Span, b2: Span, r:
 }
 
 // P on the plate, and what it comes from.
-fn load(h: Header, kind: u8, p: Plate) -> Load
-    ensures { told_load result ≡ plate_named h kind p }
+fn load(h: Header, kind: Kind, p: Plate) -> Load
+    ensures { told_load result ≡ plate_named h (number_of kind) p }
 {
-    if is_bottom(kind) {
+    if kind.is_bottom() {
         return loads::bottom(h.draught, h.wave, p.z, p.ballast, p.tank_top);
     }
     loads::inner(p.cargo, p.z, p.ballast, p.tank_top)
 }
 
 // The first rule that the plate fails under its load, and the thickness that this rule requires. A later rule is formed only where the earlier ones pass.
-fn plate_verdict(h: Header, kind: u8, p: Plate, load: Load) -> Verdict
-    requires { HeaderRanges h × PlateRanges kind p × (load.pressure.0 ≡ plate_pressure h kind p) }
-    ensures { result ≡ verdict_of (plate_rules h kind p) }
+fn plate_verdict(h: Header, kind: Kind, p: Plate, load: Load) -> Verdict
+    requires { HeaderRanges h × PlateRanges (number_of kind) p × (load.pressure.0 ≡ plate_pressure h (number_of kind) p) }
+    ensures { result ≡ verdict_of (plate_rules h (number_of kind) p) }
 {
     let top = Thickness::HIGH;
     let t = p.thickness.0 as u32;
@@ -236,19 +246,19 @@ pub struct PlateWork {
 }
 
 // K2 where the plate's framing is transverse.
-fn panel_k2(kind: u8, b1: Span, b2: Span) -> u64
-    requires { is_long kind ≡ false → 0 < b1.0 }
-    ensures { result ≡ panel_k2 kind b1.0 b2.0 }
+fn panel_k2(kind: Kind, b1: Span, b2: Span) -> u64
+    requires { is_long (number_of kind) ≡ false → 0 < b1.0 }
+    ensures { result ≡ panel_k2 (number_of kind) b1.0 b2.0 }
 {
-    if is_long(kind) {
+    if kind.is_long() {
         return 0;
     }
     k2(b1, b2)
 }
 
-fn plate_work(h: Header, kind: u8, p: Plate, load: Load) -> PlateWork
-    requires { HeaderRanges h × PlateRanges kind p × (told_load load ≡ plate_named h kind p) }
-    ensures { told_work result ≡ work_of h kind p }
+fn plate_work(h: Header, kind: Kind, p: Plate, load: Load) -> PlateWork
+    requires { HeaderRanges h × PlateRanges (number_of kind) p × (told_load load ≡ plate_named h (number_of kind) p) }
+    ensures { told_work result ≡ work_of h (number_of kind) p }
 {
     let modulus = plate_modulus(h, kind);
     let stress = hull_stress(h.moment, modulus);
@@ -276,6 +286,7 @@ pub fn worked(h: Header, kind: u8, id: u16, p: Plate) -> Result<PlateWork, Refus
     ensures { told_worked result ≡ judged_by h (of_plate kind id p) (work_of h kind p) }
 {
     verdict::admitted_plate(h, kind, id, p)?;
+    let kind = Kind::of(kind);
     Ok(plate_work(h, kind, p, load(h, kind, p)))
 }
 
@@ -284,6 +295,7 @@ pub fn judge(h: Header, kind: u8, id: u16, p: Plate) -> Result<Judged, Refusal>
     ensures { told_judged result ≡ judged_by h (of_plate kind id p) (plate_finding h kind p) }
 {
     verdict::admitted_plate(h, kind, id, p)?;
+    let kind = Kind::of(kind);
     let load = load(h, kind, p);
     Ok(Judged {
         verdict: plate_verdict(h, kind, p, load),

@@ -4,7 +4,7 @@
 mod member;
 mod plate;
 
-ghost use Rattle.std.specs.Prelude.{◌≡◌, cond, ◌+◌, ◌*◌, eqb};
+ghost use Rattle.std.specs.Prelude.{◌≡◌, cond, ◌+◌, ◌*◌, eqb, Ok, Err};
 ghost use Rattle.layout.specs.Layout.{Fit};
 ghost use Rattle.layout.specs.Bytes.{long_of, read_of};
 ghost use Rattle.sheet.specs.Refusals.{given, record_refused, told_result};
@@ -58,25 +58,16 @@ fn number_of(r: Record) -> Long
     }
 }
 
-// A faulty kind is its own refusal, with the record; of another field the place holds the record and the field.
-fn refuse(i: u16, f: u8) -> Refusal
-    ensures { result ≡ cond (eqb f 1) (Refusal.Kind i) (Refusal.Field (32 * i + f)) }
-{
-    if f == 1 {
-        Refusal::Kind(i as u32)
-    } else {
-        Refusal::Field(32 * i as u32 + f as u32)
-    }
-}
-
-// What the first fault of record i says, or nothing where there is none.
+// What the first fault of record i says, or nothing where there is none: a faulty kind is its own refusal, with the record; of another field the place holds
+// the record and the field.
 fn outcome(i: u16, f: u8) -> Result<(), Refusal>
-    ensures { told_result result ≡ record_refused i f (given tt) }
+    ensures { result ≡ cond (eqb f 0) (Ok tt) (Err (cond (eqb f 1) (Refusal.Kind i) (Refusal.Field (32 * i + f)))) }
 {
-    if f == 0 {
-        return Ok(());
+    match f {
+        0 => Ok(()),
+        1 => Err(Refusal::Kind(i as u32)),
+        _ => Err(Refusal::Field(32 * i as u32 + f as u32)),
     }
-    Err(refuse(i, f))
 }
 
 // The first fault of a record that is record i of a sheet.
@@ -109,11 +100,8 @@ pub fn read_record_as(s: &[u8], i: u16) -> Result<Record, Refusal>
     }
     let n = layout::read_long(s);
     let r = record_of(n);
-    let f = fault(r, spare_of(n));
-    if f == 0 {
-        return Ok(r);
-    }
-    Err(refuse(i, f))
+    outcome(i, fault(r, spare_of(n)))?;
+    Ok(r)
 }
 
 // The record in the first sixteen bytes as it stands, for whoever has it judged next; fewer bytes are read as 0.
@@ -141,10 +129,7 @@ pub fn write_record(r: Record, out: &mut [u8]) -> Result<(), Refusal>
     if out.len() < 16 {
         return Err(Refusal::OutputShort);
     }
-    let f = fault(r, 0);
-    if f != 0 {
-        return Err(refuse(0, f));
-    }
+    outcome(0, fault(r, 0))?;
     layout::write_long(out, number_of(r));
     Ok(())
 }

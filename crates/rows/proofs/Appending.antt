@@ -3,13 +3,13 @@
 use Prim.Native.Nat.{ℕ, zero, suc, ◌+◌, ◌*◌, ◌<◌, ◌≤◌, min}
 use mathlib.Core.Path.{◌≡◌, refl, sym, ap, ◌∙◌}
 use mathlib.Core.List.{List, [], ◌∷◌}
-use mathlib.Core.Bool.{true, false, ◌&&◌}
+use mathlib.Core.Bool.{Bool, true, false, ◌&&◌}
 use native.Mathlib.Omega.{arith}
-use lib.ListN.{length, get_or, take, drop, length-drop, drop_of_length-le}
+use lib.ListN.{length, get_or, take, drop, length-drop}
 use lib.Seq.{drop-cons}
 use Rattle.std.proofs.Common.{add-one}
 use lib.Dec.{ltb}
-use borrow.Author.Tests.{lt-ltb, le-ltb}
+use borrow.Author.Tests.{lt-ltb, ltb-true}
 use Rattle.layout.specs.Layout.{pack, unpack, bytes, Fit}
 use Rattle.layout.specs.laws.Laws.{unpack_pack}
 use Rattle.rows.specs.Pack.{appended, fields_from, fields_of, below, joined, packed_on}
@@ -32,27 +32,34 @@ next_one ns i h = drop-cons ns i 0 h ∙ ap (λ (k : ℕ). get_or ns i 0 ∷ dro
 
 -- ---- each below its limit
 
--- the numbers from i on say what all of them say
-pub record Testing (ls vs : List ℕ) (i : ℕ) : Type 0 where
-  pub rest : below (drop i ls) (drop i vs) ≡ below ls vs
+both_left : (a b : Bool) → (a && b) ≡ true → a ≡ true
+both_left true b e = refl
+both_left false b e = e
 
-pub untested : (ls vs : List ℕ) → Testing ls vs 0
-untested ls vs = record { rest = refl }
+both_right : (a b : Bool) → (a && b) ≡ true → b ≡ true
+both_right true b e = e
+both_right false b e = cc
 
-module _ (ls vs : List ℕ) (i : ℕ) (t : Testing ls vs i) where
-  step : i < length ls → i < length vs → (ltb (get_or vs i 0) (get_or ls i 0) && below (drop (i + 1) ls) (drop (i + 1) vs)) ≡ below ls vs
-  unfolding below
-  step h k = rw (next_one ls i h, next_one vs i k) at t.rest
+pub all_below : (ls vs : List ℕ) → length vs ≡ length ls → ((k : ℕ) → k < length vs → get_or vs k 0 < get_or ls k 0) → below ls vs ≡ true
+unfolding below
+all_below [] [] e f = refl
+all_below [] (v ∷ vs) e f = absurd (omega arith)
+all_below (l ∷ ls) [] e f = absurd (omega arith)
+all_below (l ∷ ls) (v ∷ vs) e f = rw (lt-ltb v l (f zero (omega arith))) (all_below ls vs (omega arith) (λ k h. f (suc k) (omega arith)))
 
-  pub one_below : i < length ls → i < length vs → get_or vs i 0 < get_or ls i 0 → Testing ls vs (i + 1)
-  one_below h k l = record { rest = rw (lt-ltb (get_or vs i 0) (get_or ls i 0) l) at (step h k) }
+pub each_below : (ls vs : List ℕ) → below ls vs ≡ true → (k : ℕ) → k < length vs → get_or vs k 0 < get_or ls k 0
+unfolding below
+each_below [] [] e k h = absurd (omega arith)
+each_below [] (v ∷ vs) e k h = cc
+each_below (l ∷ ls) [] e k h = absurd (omega arith)
+each_below (l ∷ ls) (v ∷ vs) e zero h = ltb-true v l (both_left (ltb v l) (below ls vs) e)
+each_below (l ∷ ls) (v ∷ vs) e (suc k) h = each_below ls vs (both_right (ltb v l) (below ls vs) e) k (omega arith)
 
-  pub one_above : i < length ls → i < length vs → get_or ls i 0 ≤ get_or vs i 0 → false ≡ below ls vs
-  one_above h k l = rw (le-ltb (get_or vs i 0) (get_or ls i 0) l) at (step h k)
-
-  pub all_below : length ls ≤ i → length vs ≤ i → true ≡ below ls vs
-  unfolding below
-  all_below h k = rw (drop_of_length-le ls {i = i} h, drop_of_length-le vs {i = i} k) at t.rest
+-- two answers that are both true or neither
+pub same : (a b : Bool) → (a ≡ true → b ≡ true) → (b ≡ true → a ≡ true) → a ≡ b
+same true b f g = sym (f refl)
+same false true f g = g refl
+same false false f g = refl
 
 -- ---- appended
 

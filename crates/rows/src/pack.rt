@@ -28,12 +28,7 @@ pub fn fits(nums: &[u32], limits: &[u32]) -> bool
     requires { length nums.now ≡ length limits.now }
     ensures { result ≡ below limits.now nums.now }
 {
-    for (&n, &limit) in nums.iter().zip(limits) {
-        if limit <= n {
-            return false;
-        }
-    }
-    true
+    nums.iter().zip(limits).all(|(n, limit)| n < limit)
 }
 
 // The numbers, one behind the other; what the bytes held before goes out at the front.

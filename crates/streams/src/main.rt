@@ -26,19 +26,18 @@ enum Stream {
     Edits,
     Texts,
     Vectors,
-    None,
 }
 
-// By its bytes as one number, with zeros behind them.
-fn asked(env: &impl Env) -> Stream {
+// By the word, with zeros behind it.
+fn asked(env: &impl Env) -> Option<Stream> {
     let mut word = [0u8; 8];
     let _ = env.arg(1, &mut word);
-    match layout::read_word(&word) {
-        0x7368656574730000 => Stream::Sheets,
-        0x6564697473000000 => Stream::Edits,
-        0x7465787473000000 => Stream::Texts,
-        0x766563746f727300 => Stream::Vectors,
-        _ => Stream::None,
+    match &word {
+        b"sheets\0\0" => Some(Stream::Sheets),
+        b"edits\0\0\0" => Some(Stream::Edits),
+        b"texts\0\0\0" => Some(Stream::Texts),
+        b"vectors\0" => Some(Stream::Vectors),
+        _ => None,
     }
 }
 
@@ -76,7 +75,6 @@ fn answered(
         Stream::Edits => edits::print(from, to, head, out),
         Stream::Texts => texts::print(to, head, input, out),
         Stream::Vectors => vectors::print(to, head, input, out),
-        Stream::None => Ok(false),
     }
 }
 
@@ -161,11 +159,10 @@ fn main(rt: HostRuntime) -> ExitCode {
     let mut err = Said::new(rt.stderr());
     let mut input = [0u8; LONGEST];
     let mut out = [0u8; LONGEST];
-    let stream = asked(&rt);
-    if let Stream::None = stream {
+    let Some(stream) = asked(&rt) else {
         let said = err.write_all(b"streams: the word is sheets, edits, texts or vectors\n");
         return console::status(said, &err);
-    }
+    };
     for _ in 0..4294967296usize {
         match turn(&mut from, &mut to, stream, &mut input, &mut out) {
             Ok(true) => {}

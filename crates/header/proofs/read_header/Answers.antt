@@ -1,4 +1,8 @@
 -- `header::read_header` meets its contract.
+use Rattle.std.specs.Prelude.{Err}
+use Rattle.std.proofs.Common.{rules}
+use Rattle.sheet.specs.Refusals.{told_result}
+use Rattle.sheet.specs.laws.RefusalLaws.{goes_on, stops}
 use native.Mathlib.Omega.{arith}
 use Prim.Native.Nat.{ℕ, ◌+◌, ◌*◌, ◌%◌, ◌^◌, ◌<◌}
 use mathlib.Core.Path.{◌≡◌, refl, sym, ap, ◌∙◌}
@@ -36,18 +40,20 @@ returns-then-s-needs c =
 
 -- src/lib.rt:182:9
 -- LOOK: κs/given
-pub returns-then-f-eq0 : goal.returns-then-f-eq0
-returns-then-f-eq0 c =
-    let a = c.args in
-    read_good a.s.now c.if-s-lt-FIRST.false _ _ _ c.read_short-n.ensures (word (goal.at.returns-then-f-eq0 c).After-read_word-rest) c.header_of-h.ensures
-    (omega (arith, c.if-s-needs.false, c.needs.ensures)) _ _ _
-    (spare c.read_short-n.result.hi c.read_short-n.result.lo (omega (arith, c.struct_known-1.given))) refl c.fault-f.ensures c.if-f-eq0.true
-
--- src/lib.rt:167:1
--- LOOK: κs/given
 pub returns : goal.returns
 returns c =
     let a = c.args in
-    read_bad a.s.now c.if-s-lt-FIRST.false _ _ _ c.read_short-n.ensures (word (goal.at.returns c).After-read_word-rest) c.header_of-h.ensures
+    read_good a.s.now c.if-s-lt-FIRST.false _ _ _ c.read_short-n.ensures (word (goal.at.returns c).After-read_word-rest) c.header_of-h.ensures
     (omega (arith, c.if-s-needs.false, c.needs.ensures)) _ _ _
-    (spare c.read_short-n.result.hi c.read_short-n.result.lo (omega (arith, c.struct_known-1.given))) refl c.fault-f.ensures _ c.refuse.ensures c.if-f-eq0.false
+    (spare c.read_short-n.result.hi c.read_short-n.result.lo (omega (arith, c.struct_known-1.given))) refl c.fault.ensures (goes_on _ _ _ (sym c.outcome.ensures ∙ c.in_ok-outcome.was))
+
+-- src/lib.rt:167:1
+-- LOOK: κs/given
+pub returns-in_err-outcome : goal.returns-in_err-outcome
+returns-in_err-outcome c =
+    let passed_on : c.from_residual.result ≡ Err c.in_err-outcome.field-0.0 = search rules in
+    let stopped = stops _ _ _ (sym c.outcome.ensures ∙ c.in_err-outcome.was) in
+    let a = c.args in
+    ap told_result passed_on ∙ read_bad a.s.now c.if-s-lt-FIRST.false _ _ _ c.read_short-n.ensures (word (goal.at.returns-in_err-outcome c).After-read_word-rest) c.header_of-h.ensures
+    (omega (arith, c.if-s-needs.false, c.needs.ensures)) _ _ _
+    (spare c.read_short-n.result.hi c.read_short-n.result.lo (omega (arith, c.struct_known-1.given))) refl c.fault.ensures _ stopped.1 stopped.0

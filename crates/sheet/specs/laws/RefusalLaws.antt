@@ -51,6 +51,21 @@ refused_place e = cc
 pub given_same : {A : Type 0} {a b : A} → ◌≡◌ {A = Answer A} (given a) (given b) → a ≡ b
 given_same e = cc
 
+-- what a test of the first faulty field answers: it goes on exactly where there is none, and else the refusal is that of the field
+pub goes_on : (f : ℕ) (r : Refusal) (u : Unit {0}) → cond (eqb f 0) (Ok tt) (Err r) ≡ Ok u → f ≡ 0
+goes_on f r u e = go (eqb f 0) refl e
+  where
+    go : (t : Bool) → eqb f 0 ≡ t → cond t (Ok tt) (Err r) ≡ Ok u → f ≡ 0
+    go true z d = eqb-true f 0 z
+    go false z d = given_refused (sym (ap told_result d))
+
+pub stops : (f : ℕ) (r x : Refusal) → cond (eqb f 0) (Ok (tt {0})) (Err r) ≡ Err x → (f ≡ 0 → ⊥) × (x ≡ r)
+stops f r x e = go (eqb f 0) refl e
+  where
+    go : (t : Bool) → eqb f 0 ≡ t → cond t (Ok (tt {0})) (Err r) ≡ Err x → (f ≡ 0 → ⊥) × (x ≡ r)
+    go true z d = given_refused (ap told_result d)
+    go false z d = let s = sym (ap told_result d) in (eqb-false f 0 z, refusal_only x r (refused_number s) (refused_place s))
+
 -- two answers of the code that say the same, where what is told of a value tells it from others
 pub as_only : {A B : Type 0} (f : A → B) → ((x y : A) → f x ≡ f y → x ≡ y) → (a : Answer B) (q r : Result A Refusal) → told_as f q ≡ a → told_as f r ≡ a → q ≡ r
 as_only f apart a (Ok x) (Ok y) d e = ap Ok (apart x y (given_same (d ∙ sym e)))

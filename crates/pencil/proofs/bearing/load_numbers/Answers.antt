@@ -20,4 +20,4 @@ overflow_add-result-4 c = omega (arith, half c)
 pub returns : goal.returns
 unfolding load_numbers
 returns c =
-    rw (c.ceil_div-half.ensures, c.saturating_sub-net.ensures, c.saturating_sub-relief.ensures, c.saturating_sub-tank.ensures, c.wind_of-wind.ensures, c.max-crest.ensures, c.saturating_sub-still.ensures)
+    rw (c.ceil_div-half.ensures, c.saturating_sub-net.ensures, c.saturating_sub-relief.ensures, c.saturating_sub-tank.ensures, c.wind-wind.ensures, c.max-crest.ensures, c.saturating_sub-still.ensures)
