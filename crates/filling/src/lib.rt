@@ -15,26 +15,20 @@ use text::{Line, LineEnd};
 fn is_empty(text: &[u8], at: usize) -> bool
     ensures { result ≡ blank_by true (seen_at (drop at text.now)) true }
 {
-    match fields::look(text, at) {
-        Seen::End => true,
-        Seen::Comma => true,
-        Seen::Line => true,
-        Seen::Skip => true,
-        Seen::Quote => false,
-        Seen::Data(_) => false,
-    }
+    matches!(
+        fields::look(text, at),
+        Seen::End | Seen::Comma | Seen::Line | Seen::Skip
+    )
 }
 
 // Whether nothing but filling comes from a row's start on.
 fn is_rest(text: &[u8], at: usize) -> bool
     ensures { result ≡ blank true (drop at text.now) }
 {
-    let mut here = at;
-    while here < text.len() {
+    for here in at..text.len() {
         if !is_empty(text, here) {
             return false;
         }
-        here += 1;
     }
     true
 }
@@ -49,14 +43,6 @@ fn end_before(text: &[u8], next: usize) -> LineEnd
     LineEnd::More(next)
 }
 
-// A field is a byte at least, so that they cannot be more than there are bytes.
-fn one_more(count: usize) -> usize
-    requires { count < 2 ^ 63 }
-    ensures { result ≡ count + 1 }
-{
-    count + 1
-}
-
 // The fields up to the last that is not empty, by the next one.
 fn kept_by(empty: bool, kept: usize, count: usize) -> usize
     ensures { result ≡ cond empty kept count }
@@ -69,17 +55,18 @@ fn count_at(text: &[u8], at: usize) -> Line
     ensures { Counts (line_left true text.now at) result }
 {
     let mut here = at;
+    // a field is a byte at least, so that they cannot be more than there are bytes
     let mut count: usize = 0;
     let mut kept: usize = 1;
     loop {
         let empty = is_empty(text, here);
         match text::field_from(text, here) {
-            Field::Comma { num: _, next } => {
-                count = one_more(count);
+            Field::Comma { next, .. } => {
+                count += 1;
                 kept = kept_by(empty, kept, count);
                 here = next;
             }
-            Field::Line { num: _, next } => {
+            Field::Line { next, .. } => {
                 return Line {
                     count: kept_by(empty, kept, count + 1),
                     end: end_before(text, next),

@@ -66,9 +66,8 @@ fn value(num: Num) -> u32
     ensures { result ≡ value_of num }
 {
     match num {
-        Num::Empty => 1_000_000_000,
         Num::Value(v) => v,
-        Num::Bad => 1_000_000_000,
+        Num::Empty | Num::Bad => 1_000_000_000,
     }
 }
 
@@ -76,18 +75,9 @@ fn value(num: Num) -> u32
 fn store(nums: &mut [u32], i: usize, num: Num)
     ensures { nums.new ≡ set nums.old i (value_of num) }
 {
-    let v = value(num);
     if i < nums.len() {
-        nums[i] = v;
+        nums[i] = value(num);
     }
-}
-
-// A field is a byte at least, so that they cannot be more than there are bytes.
-fn one_more(count: usize) -> usize
-    requires { count < 2 ^ 63 }
-    ensures { result ≡ count + 1 }
-{
-    count + 1
 }
 
 // The line that starts at a place: its numbers go over the first of `nums`, as far as there is room.
@@ -95,13 +85,14 @@ pub fn line_at(text: &[u8], at: usize, nums: &mut [u32]) -> Line
     ensures { Reads (line_at text.now at) nums.old result nums.new }
 {
     let mut here = at;
+    // a field is a byte at least, so that they cannot be more than there are bytes
     let mut count: usize = 0;
     loop {
         match field_from(text, here) {
             Field::Comma { num, next } => {
                 store(nums, count, num);
                 here = next;
-                count = one_more(count);
+                count += 1;
             }
             Field::Line { num, next } => {
                 store(nums, count, num);
@@ -133,8 +124,7 @@ fn next_start(text: &[u8], at: usize) -> usize
 {
     let mut none = [0u32; 1];
     let line = line_at(text, at, &mut none);
-    let end = line.end;
-    match end {
+    match line.end {
         LineEnd::More(next) => next,
         LineEnd::Last => at,
         LineEnd::Fault => at,
@@ -146,14 +136,12 @@ pub fn line_start(text: &[u8], line: u32) -> usize
     ensures { result ≡ line_start text.now line }
 {
     let mut here: usize = 0;
-    let mut i: u32 = 1;
-    while i < line {
+    for i in 1..line {
         let next = next_start(text, here);
         if next == here {
             return here;
         }
         here = next;
-        i += 1;
     }
     here
 }

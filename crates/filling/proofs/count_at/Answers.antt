@@ -1,4 +1,4 @@
-use Rattle.std.proofs.Common.{ℕ, ◌≡◌, ◌+◌, Bool, cond, List, refl, sym, ap, ap₂, ◌∙◌, arith}
+use Rattle.std.proofs.Common.{ℕ, ◌≡◌, ◌+◌, Bool, cond, List, refl, sym, ap, ◌∙◌, arith}
 use Rattle.filling.specs.laws.RowLaws.{one_left}
 use Rattle.filling.specs.laws.StepLaws.{counted, empty_at, at_comma, at_line, at_end, at_fault}
 use Rattle.filling.proofs.count_at.Goals as goal
@@ -21,13 +21,13 @@ loop-next-preserved c =
     let l = c.loop-next in
     let s = c.args.text.now in
     let g = at_comma s l.here c.in-Comma.num c.in-Comma.next (sym c.field_from.ensures ∙ c.in-Comma.is) in
-    let kept : c.kept_by-kept.result ≡ cond c.is_empty-empty.result l.kept c.one_more-count.result = c.kept_by-kept.ensures in (
-      omega (arith, c.one_more-count.ensures, g.on),
-      omega (arith, c.one_more-count.ensures, g.on, g.within),
+    let kept : c.kept_by-kept.result ≡ cond c.is_empty-empty.result l.kept (l.count + 1) = c.kept_by-kept.ensures in (
+      omega (arith, g.on),
+      omega (arith, g.on, g.within),
       l.invariant.2 ∙ g.end,
       l.invariant.3
           ∙ g.count l.count l.kept
-          ∙ ap₂ (counted s c.in-Comma.next) (sym c.one_more-count.ensures) (ap₂ {C = ℕ} (λ (t : Bool) (k : ℕ). cond t l.kept k) (sym c.is_empty-empty.ensures) (sym c.one_more-count.ensures) ∙ sym kept),
+          ∙ ap (counted s c.in-Comma.next (l.count + 1)) (ap (λ (t : Bool). cond t l.kept (l.count + 1)) (sym c.is_empty-empty.ensures) ∙ sym kept),
     )
 
 pub returns-in-Line : goal.returns-in-Line

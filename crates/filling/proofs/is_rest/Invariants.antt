@@ -1,10 +1,7 @@
-use Rattle.std.proofs.Common.{◌≡◌, ◌-◌, true, length, drop}
+use Rattle.std.proofs.Common.{◌≡◌, true, drop}
 use Rattle.filling.specs.Filling.{blank}
 use Rattle.filling.proofs.is_rest.Given as goal
 
 -- whether what is left is blank is the answer
 abbrev pub invariant-loop-here : goal.invariant-loop-here
 invariant-loop-here l = blank true (drop l.here l.text) ≡ blank true (drop l.at l.text)
-
-abbrev pub decreases-loop-here : goal.decreases-loop-here
-decreases-loop-here l = length l.text - l.here

@@ -1,4 +1,4 @@
-use Rattle.std.proofs.Common.{sym, ◌∙◌, arith}
+use Rattle.std.proofs.Common.{refl, sym, ◌∙◌, arith}
 use Rattle.fields.specs.Number.{value_of}
 use Rattle.text.specs.laws.LineLaws.{goes, at_line, at_end, at_fault}
 use Rattle.text.proofs.Reading.{go_on, ends, stops}
@@ -12,9 +12,9 @@ loop-num-smaller c =
 pub loop-num-preserved : goal.loop-num-preserved
 loop-num-preserved c =
     let g = goes c.args.text.now c.loop-num.here c.in-Comma.num c.in-Comma.next (sym c.field_from.ensures ∙ c.in-Comma.is) in (
-      omega (arith, c.one_more-count.ensures, g.on),
-      omega (arith, c.one_more-count.ensures, g.on, g.within),
-      go_on _ _ _ _ _ c.loop-num.invariant.2 (value_of c.in-Comma.num) _ g.line _ c.store.ensures _ c.one_more-count.ensures,
+      omega (arith, g.on),
+      omega (arith, g.on, g.within),
+      go_on _ _ _ _ _ c.loop-num.invariant.2 (value_of c.in-Comma.num) _ g.line _ c.store.ensures _ refl,
     )
 
 pub returns-in-Line : goal.returns-in-Line
