@@ -6,6 +6,7 @@ use Rattle.loads.specs.declared.Source.{Source}
 use Rattle.loads.specs.declared.Source.TheVariants.{SeaBelow, SeaAbove, Ballast, Cargo}
 use Rattle.loads.specs.declared.Load.{Load}
 use Rattle.loads.specs.declared.Line.{Line}
+use Rattle.loads.specs.Loads.{wind}
 use Rattle.loads.specs.Sources.{number_of, Named, NamedLine, told_load, told_line, line_named, sea_named, bottom_named, inner_named, deep_named}
 
 -- the source of a number
@@ -47,6 +48,9 @@ inner_only cargo z is_ballast zL = load_only (inner_named cargo z is_ballast zL)
 
 pub deep_only : (D0 H : ℕ) (two_runs : Bool) (a b : Load) → told_load a ≡ deep_named D0 H two_runs → told_load b ≡ deep_named D0 H two_runs → a ≡ b
 deep_only D0 H two_runs = load_only (deep_named D0 H two_runs)
+
+pub wind_only : (H a b : ℕ) → a ≡ wind H → b ≡ wind H → a ≡ b
+wind_only H a b p q = p ∙ sym q
 
 pub line_load_only : (n : Named) (S : ℕ) (a b : Line) → told_line a ≡ line_named n S → told_line b ≡ line_named n S → a ≡ b
 line_load_only n S a b p q =

@@ -5,7 +5,7 @@ use Rattle.std.proofs.Common.{sym, ap, ◌∙◌, arith, le-leb, eq-eqb, ne_eqb}
 use Rattle.std.proofs.Math.Decide.{dec_le}
 use Rattle.std.proofs.lemmas.Bool.{lt-leb}
 use Rattle.quantity.specs.Range.{Range, from, within, span, spacing, thickness, modulus, shear_area, pressure, line_load, steel_factor}
-use Rattle.quantity.specs.Made.{Held, held, refused, Makes, told}
+use Rattle.quantity.specs.Made.{Held, held, refused, Makes, told, held_below}
 use Rattle.quantity.specs.declared.Span.{Span}
 use Rattle.quantity.specs.declared.Spacing.{Spacing}
 use Rattle.quantity.specs.declared.Thickness.{Thickness}
@@ -61,6 +61,10 @@ line_load_only = only (λ q. q.0) (λ x. record { 0 = x }) (λ q. refl) line_loa
 
 pub steel_factor_only : (low high x : ℕ) (a b : Option SteelFactor) → Makes steel_factor low high x (told (λ q. q.0) a) → Makes steel_factor low high x (told (λ q. q.0) b) → a ≡ b
 steel_factor_only = only (λ q. q.0) (λ x. record { 0 = x }) (λ q. refl) steel_factor
+
+-- and so are two values that hold a number
+pub hold_only : {A : Type 0} (top x : ℕ) (of : ℕ → A) (a b : A) → a ≡ of (held_below top x) → b ≡ of (held_below top x) → a ≡ b
+hold_only top x of a b p q = p ∙ sym q
 
 -- a range of one value
 pub one_value : (a x : ℕ) → within (from a a) x ≡ eqb x a
