@@ -1,9 +1,9 @@
--- The kinds of member by their numbers in a record.
+-- The kinds of member as the document numbers them.
 use Rattle.std.specs.Prelude.{ℕ}
 use Rattle.framing.specs.declared.kinds.Kind.{Kind}
 use Rattle.framing.specs.declared.kinds.Kind.TheVariants.{Longitudinal, Floor, Transverse, Girder}
 
--- the number that stands for a kind of member in its record
+-- the number of a kind of member
 abbrev pub number_of : Kind → ℕ
 number_of Longitudinal = 5
 number_of Floor = 6

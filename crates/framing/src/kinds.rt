@@ -1,9 +1,8 @@
 // The kinds of member that the rules tell apart.
-#![tactic(auto)]
-
 ghost use Rattle.std.specs.Prelude.{◌≡◌, ◌*◌, ◌≤◌};
 ghost use Rattle.framing.specs.Kinds.{number_of};
 
+// 5 to 8, in the order of the cases.
 #[derive(Clone, Copy)]
 pub enum Kind {
     Longitudinal,

@@ -6,6 +6,7 @@ ghost use Rattle.loads.specs.Loads.{water, wind as windOf, ballast as ballastOf,
 ghost use Rattle.loads.specs.Sources.{number_of, told_load, told_line, line_named, heavier as heavierOf, sea_named, tank_named, bottom_named, inner_named, deep_named};
 
 use quantity::{LineLoad, Pressure, Spacing, Span};
+use std::cmp::Ordering;
 
 // What a pressure comes from.
 #[derive(Clone, Copy)]
@@ -62,18 +63,12 @@ fn load_of(p: u64, source: Source) -> Load
 fn heavier(a: Load, b: Load) -> Load
     ensures { told_load result ≡ heavierOf (told_load a) (told_load b) }
 {
-    if a.pressure.0 < b.pressure.0 {
-        return b;
+    match a.pressure.0.cmp(&b.pressure.0) {
+        Ordering::Less => b,
+        Ordering::Greater => a,
+        Ordering::Equal if a.source.number() < b.source.number() => a,
+        Ordering::Equal => b,
     }
-    if b.pressure.0 < a.pressure.0 {
-        return a;
-    }
-    let first = a.source;
-    let second = b.source;
-    if first.number() < second.number() {
-        return a;
-    }
-    b
 }
 
 // What the wind adds above the draught.
@@ -153,7 +148,7 @@ fn still_water(draught: Span, two_runs: bool) -> u64
 {
     let d = draught.0 as u64;
     if two_runs {
-        return (564075 * d + 9) / 10;
+        return gauge::ceil_div(564075 * d, 10);
     }
     WATER * d
 }

@@ -7,7 +7,6 @@ use Rattle.loads.specs.Loads.{water, two_run_water, deep_pressure}
 use Rattle.loads.specs.laws.Bounds.{either}
 use Rattle.loads.proofs.deep.Goals as goal
 
--- src/lib.rt:178:13
 pub overflow_add-still_water : goal.overflow_add-still_water
 overflow_add-still_water c =
     let a = c.args in
@@ -16,7 +15,6 @@ overflow_add-still_water c =
     let most = either a.two_runs (two_run_water a.draught.0) (water a.draught.0) 6428983500 two (omega arith) in
     omega (arith, c.still_water.ensures, most)
 
--- src/lib.rt:174:1
 pub returns : goal.returns
 unfolding deep_pressure
 returns c = rw c.still_water.ensures at c.load_of.ensures

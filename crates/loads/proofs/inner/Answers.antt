@@ -3,7 +3,6 @@ use mathlib.Core.Path.{◌≡◌, ap, ap₂, ◌∙◌}
 use Rattle.loads.specs.Sources.{told_load, tank_named, heavier, inner_named}
 use Rattle.loads.proofs.inner.Goals as goal
 
--- src/lib.rt:157:9
 pub returns-then-ballast : goal.returns-then-ballast
 unfolding inner_named
 returns-then-ballast c =
@@ -11,7 +10,6 @@ returns-then-ballast c =
     let decided : told_load c.heavier.result ≡ heavier (told_load c.load_of-loaded.result) (told_load c.load_of.result) = c.heavier.ensures in
     rw c.if-ballast.true (decided ∙ ap₂ heavier c.load_of-loaded.ensures (filled ∙ ap tank_named c.tank.ensures))
 
--- src/lib.rt:152:1
 pub returns : goal.returns
 unfolding inner_named
 returns c = rw c.if-ballast.false c.load_of-loaded.ensures

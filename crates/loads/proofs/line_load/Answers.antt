@@ -8,7 +8,6 @@ use Rattle.loads.specs.Sources.{number_of, NamedLine}
 use Rattle.loads.proofs.Parts.{ceil_parts}
 use Rattle.loads.proofs.line_load.Goals as goal
 
--- src/lib.rt:182:1
 pub returns : goal.returns
 unfolding line_load ceil_of
 returns c = ap {B = NamedLine} (λ (q : ℕ). record { load = q; source = number_of c.args.load.source }) (ceil_parts _ _ 1000000 (lit< tt))

@@ -3,12 +3,10 @@ use borrow.Author.Tests.{le-leb, lt-leb}
 use Rattle.loads.specs.Loads.{sea}
 use Rattle.loads.proofs.sea.Goals as goal
 
--- src/lib.rt:110:9
 pub returns-then-at-d : goal.returns-then-at-d
 unfolding sea
 returns-then-at-d c = rw (le-leb _ _ c.if-at-d.true) c.load_of.ensures
 
--- src/lib.rt:103:1
 pub returns : goal.returns
 unfolding sea
 returns c =
