@@ -74,13 +74,12 @@ struct Quotient {
     left: u64,
 }
 
-// X = step·x − short and X² ≥ right, of a shape.
+// X = step·x − short and X² ≥ right, of a shape; what the registers show where nothing meets it is 1, 0 and 0.
 #[derive(Drop)]
 struct Parts {
     step: u32,
     short: u32,
     right: u64,
-    never: bool,
 }
 
 // X of a number, and its square.

@@ -2,7 +2,7 @@
 ghost use Rattle.std.specs.Prelude.{◌≡◌, ◌<◌};
 ghost use Rattle.pencil.specs.Trail.{Tells, step_line, ruled as ruledOf, verdict_line};
 
-use crate::numbers::{rule_numbers, taken_apart};
+use crate::numbers::{is_never, rule_numbers};
 use crate::{Rule, Section};
 use verdict::Verdict;
 
@@ -31,10 +31,10 @@ pub fn ruled(front: [u8; 6], tried: u8, unit: u8, last: u8, rule: Rule) -> Secti
     ensures { Tells (ruledOf front tried unit last rule.p rule.a rule.per rule.shape rule.top rule.has rule.more) result }
 {
     let own = rule_numbers(rule);
-    let parts = taken_apart(rule.shape);
+    let never = is_never(rule.shape);
     let first = own[8];
     let least = own[14];
-    let step = step_line(tried, unit, parts.never, first, least, rule.top as u64);
+    let step = step_line(tried, unit, never, first, least, rule.top as u64);
     let some = (0 < least) as u8;
     let short = ((rule.has as u64) < least) as u8;
     let result = 77 + 3 * unit + some * (1 + short);

@@ -3,7 +3,7 @@ ghost use Rattle.framing.specs.Work.{told_work as toldMember};
 ghost use Rattle.pencil.specs.Trail.{Tells, member_first, member_second, member_third};
 
 use crate::lines::{ruled, verdict_line};
-use crate::numbers::{divide, taken_apart, times};
+use crate::numbers::{divide, is_never, times};
 use crate::{Rule, Section};
 use framing::MemberWork;
 use quantity::{Modulus, Quantity, ShearArea, Thickness};
@@ -44,8 +44,7 @@ pub fn member_second(kind: u8, m: Member, w: MemberWork) -> Section
     let l2 = m.span.0 as u64 * m.span.0 as u64;
     let q = w.line.0;
     let load = w.load;
-    let parts = taken_apart(w.bending);
-    let never = 3 * (parts.never as u8);
+    let never = 3 * (is_never(w.bending) as u8);
     let plain = m.bending as u64;
     let eta = m.eta as u64;
     let ratio = divide(times(load.pressure.0, m.spacing.0 as u64), 1000000);

@@ -1,6 +1,6 @@
 // Numbers that the lines of a trail show: products, quotients, and what is worked out of a rule's shape.
 ghost use Rattle.std.specs.Prelude.{◌-◌, ◌≡◌};
-ghost use Rattle.pencil.specs.Numbers.{product, rule_numbers};
+ghost use Rattle.pencil.specs.Numbers.{product, is_never, rule_numbers};
 ghost use Rattle.pencil.specs.Code.{Divided, PartsOf, Tries};
 
 use crate::{Parts, Quotient, Rule, Tried};
@@ -26,7 +26,14 @@ pub fn divide(p: u64, a: u64) -> Quotient
     }
 }
 
-pub fn taken_apart(d: Shape) -> Parts
+// Whether no number meets a shape.
+pub fn is_never(d: Shape) -> bool
+    ensures { result ≡ is_never d }
+{
+    matches!(d, Shape::Never)
+}
+
+fn taken_apart(d: Shape) -> Parts
     ensures { PartsOf d result }
 {
     match d {
@@ -34,19 +41,16 @@ pub fn taken_apart(d: Shape) -> Parts
             step: 1,
             short: 0,
             right: 0,
-            never: true,
         },
         Shape::Floor(n) => Parts {
             step: 1,
             short: 0,
             right: n,
-            never: false,
         },
         Shape::Square { step, short, n } => Parts {
             step,
             short,
             right: n,
-            never: false,
         },
     }
 }

@@ -5,7 +5,7 @@ ghost use Rattle.pencil.specs.Trail.{Tells, plate_first, plate_second, bending_l
 ghost use Rattle.pencil.specs.Code.{FormTold};
 
 use crate::lines::{ruled, verdict_line};
-use crate::numbers::{divide, taken_apart, times};
+use crate::numbers::{divide, is_never, times};
 use crate::{Form, Rule, Section};
 use plating::PlateWork;
 use quantity::{Quantity, Spacing, SteelFactor, Thickness};
@@ -123,13 +123,13 @@ pub fn plate_third(h: Header, kind: u8, p: Plate, w: PlateWork) -> Section
     let r = w.stress;
     let x = p.b1.0 as u64;
     let y = p.b2.0 as u64;
-    let parts = taken_apart(w.third);
+    let never = is_never(w.third);
     let ratio = divide(1000000 * h.moment as u64, w.modulus as u64);
     let side = divide(1000 * (x * x + y * y), x * x);
     let fork = times((6084 - (kind == 1) as u64 * 4928) * p.factor.0 as u64, r);
     let form = form_of(is_long(kind), w.is_second, p.spacing, p.factor, w.k2, r);
     let limit = divide(times(form.a, 16000000), form.panel);
-    let front = bending_lines(kind, h.version, side.whole, w.is_second, parts.never);
+    let front = bending_lines(kind, h.version, side.whole, w.is_second, never);
     let rule = Rule {
         p: form.p,
         a: form.a,
