@@ -1,5 +1,5 @@
 -- What is known of what is made of an input, and what is printed of a text.
-use Rattle.std.specs.Prelude.{ℕ, ◌≤◌, ◌≡◌, cond, List, length, take, eqb, Result, Ok, Err}
+use Rattle.std.specs.Prelude.{ℕ, ◌≤◌, ◌≡◌, cond, List, length, take, eqb, Option, Some, None, Result, Ok, Err}
 use Rattle.sheet.specs.Versions.{longest_sheet}
 use Rattle.sheet.specs.Refusals.{Answer, given, refused}
 use Rattle.checker.specs.Check.{◌then◌}
@@ -21,6 +21,11 @@ abbrev pub line_in : Answer ℕ → ℕ
 line_in (given n) = 0
 line_in (refused number place) = cond (eqb number 14) place (cond (eqb number 15) place 0)
 
+-- the number of a line, 0 where there is none
+abbrev pub number_or_0 : Option ℕ → ℕ
+number_or_0 None = 0
+number_or_0 (Some n) = n
+
 -- ---- what is printed of a text
 
 -- what `barge` prints of the sheet that it is, looked at again without its filling where a line is at fault, or the refusal
@@ -40,4 +45,4 @@ pub record Shows (t : List ℕ) (p : Page) : Type 0 where
 -- What the answer to a text is: what is printed, and the line that it is turned away by.
 pub record Replies (s : List ℕ) (r : Reply) : Type 0 where
   pub page : Shows (printed_text s) r.page
-  pub line : r.line ≡ line_in (length_of (table_from s longest_sheet))
+  pub line : number_or_0 r.line ≡ line_in (length_of (table_from s longest_sheet))

@@ -11,7 +11,7 @@ ghost use Rattle.sheet.specs.Versions.{enough};
 ghost use Rattle.report.specs.Pieces.{refusal_text};
 ghost use Rattle.sheet_csv.specs.Read.{Converts};
 ghost use Rattle.sheet_csv.specs.Write.{text_from};
-ghost use Rattle.barge_text.specs.Convert.{MadeInside, line_in, printed_by, Shows, Replies};
+ghost use Rattle.barge_text.specs.Convert.{MadeInside, line_in, number_or_0, printed_by, Shows, Replies};
 
 use console::Said;
 use report::Page;
@@ -36,11 +36,11 @@ enum Task {
     Check,
 }
 
-// What is printed of a text, and the line that it is turned away by, 0 where there is none.
+// What is printed of a text, and the line that it is turned away by.
 #[derive(Drop)]
 struct Reply {
     page: Page,
-    line: u32,
+    line: Option<u32>,
 }
 
 fn print(out: &mut impl Write, err: &mut impl Write, bytes: &[u8]) -> io::Result<()> {
@@ -51,22 +51,22 @@ fn print(out: &mut impl Write, err: &mut impl Write, bytes: &[u8]) -> io::Result
     written
 }
 
-// The line that a refusal names, which 14 and 15 do; else 0.
-fn line_of(r: Refusal) -> u32
-    ensures { result ≡ line_in (told r) }
+// The line that a refusal names, which 14 and 15 do.
+fn line_of(r: Refusal) -> Option<u32>
+    ensures { number_or_0 result ≡ line_in (told r) }
 {
     match r {
-        Refusal::Text(line) | Refusal::FieldCount(line) => line,
-        _ => 0,
+        Refusal::Text(line) | Refusal::FieldCount(line) => Some(line),
+        _ => None,
     }
 }
 
 // The same of what was converted.
-fn line_at_fault(c: Result<usize, Refusal>) -> u32
-    ensures { result ≡ line_in (told_result c) }
+fn line_at_fault(c: Result<usize, Refusal>) -> Option<u32>
+    ensures { number_or_0 result ≡ line_in (told_result c) }
 {
     match c {
-        Ok(_) => 0,
+        Ok(_) => None,
         Err(r) => line_of(r),
     }
 }
@@ -130,7 +130,9 @@ fn make_sheet(out: &mut impl Write, err: &mut impl Write, text: &[u8]) -> io::Re
     let mut sheet = [0u8; sheet::LONGEST];
     let c = sheet_csv::read_table(text, &mut sheet);
     let written = deliver(out, err, c, &sheet);
-    show::line(err, text, line_at_fault(c));
+    if let Some(line) = line_at_fault(c) {
+        show::line(err, text, line);
+    }
     written
 }
 
@@ -150,8 +152,10 @@ fn make_text(
 fn check(out: &mut impl Write, err: &mut impl Write, text: &[u8]) -> io::Result<()> {
     let r = answer(text);
     let written = print(out, err, &r.page.bytes[..r.page.len]);
-    if console::is_read(written) {
-        show::line(err, text, r.line);
+    if let Some(line) = r.line
+        && console::is_read(written)
+    {
+        show::line(err, text, line);
     }
     written
 }

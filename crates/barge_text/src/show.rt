@@ -99,11 +99,8 @@ fn print_first(err: &mut impl Write, text: &[u8]) {
     print_line(err, &text[..len]);
 }
 
-// The line with this number, the first being 1; 0 is none, and shows nothing.
+// The line with this number, the first being 1.
 pub fn line(err: &mut impl Write, text: &[u8], number: u32) {
-    if number == 0 {
-        return;
-    }
     let _ = write!(err, "line {number}: ");
     let at = text::line_start(text, number);
     if at < text.len() {

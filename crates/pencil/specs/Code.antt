@@ -5,7 +5,7 @@ use Rattle.pencil.specs.declared.Quotient.{Quotient}
 use Rattle.pencil.specs.declared.Parts.{Parts}
 use Rattle.pencil.specs.declared.Tried.{Tried}
 use Rattle.pencil.specs.declared.Form.{Form}
-use Rattle.pencil.specs.Numbers.{product, is_never, step_of, short_of, right_of}
+use Rattle.pencil.specs.Numbers.{product, step_of, short_of, right_of}
 use Rattle.pencil.specs.Trail.{FormParts}
 
 -- p over a, and what remains
@@ -17,7 +17,6 @@ pub record PartsOf (d : Shape) (q : Parts) : Type 0 where
   pub step : q.step ≡ step_of d
   pub short : q.short ≡ short_of d
   pub right : q.right ≡ right_of d
-  pub never : q.never ≡ is_never d
 
 -- X, and its square
 pub record Tries (n : ℕ) (t : Tried) : Type 0 where

@@ -5,6 +5,7 @@ ghost use Rattle.pencil.specs.Trail.{Tells, head_of};
 
 use crate::Section;
 use quantity::Span;
+use sheet::Header;
 
 fn load_numbers(draught: Span, wave: Span, z: Span, tank_top: Span, cargo: u32) -> [u64; 32]
     ensures { result ≡ load_numbers draught.0 wave.0 z.0 tank_top.0 cargo }
@@ -57,30 +58,21 @@ fn load_numbers(draught: Span, wave: Span, z: Span, tank_top: Span, cargo: u32) 
 }
 
 // Which member it is, and the loads that bear on it.
-pub fn head_of(
-    kind: u8,
-    draught: Span,
-    wave: Span,
-    two_runs: bool,
-    z: Span,
-    tank_top: Span,
-    cargo: u32,
-    ballast: bool,
-) -> Section
-    ensures { Tells (head_of kind draught.0 wave.0 two_runs z.0 tank_top.0 cargo ballast) result }
+pub fn head_of(h: Header, kind: u8, z: Span, tank_top: Span, cargo: u32, ballast: bool) -> Section
+    ensures { Tells (head_of kind h.draught.0 h.wave.0 h.two_runs z.0 tank_top.0 cargo ballast) result }
 {
-    let own = load_numbers(draught, wave, z, tank_top, cargo);
+    let own = load_numbers(h.draught, h.wave, z, tank_top, cargo);
     let lift = own[10];
     let waves = own[2];
     let filled = own[9];
     let relief = own[11];
-    let above = (draught.0 < z.0) as u8;
+    let above = (h.draught.0 < z.0) as u8;
     let tank = ballast as u8;
     let lines = [
         kind,
         23,
         9 + above,
-        above * (11 + (wave.0 == 120) as u8),
+        above * (11 + (h.wave.0 == 120) as u8),
         tank * 13,
         tank * (14 + (lift < waves) as u8),
         tank * (16 + (filled < relief) as u8),
@@ -97,6 +89,6 @@ pub fn head_of(
     if kind == 5 {
         return Section { lines, own };
     }
-    let lines = [kind, 23, 20 + two_runs as u8, 22, 0, 0, 0, 0, 0];
+    let lines = [kind, 23, 20 + h.two_runs as u8, 22, 0, 0, 0, 0, 0];
     Section { lines, own }
 }

@@ -23,6 +23,7 @@ use crate::members::{member_first, member_second, member_third};
 use crate::plates::{plate_first, plate_second, plate_third};
 use crate::writing::put_work;
 use framing::MemberWork;
+use gauge::Shape;
 use plating::PlateWork;
 use quantity::Span;
 use sheet::{Body, Header, Member, Plate, Record, Refusal};
@@ -54,19 +55,31 @@ struct Work {
     three: Section,
 }
 
+// A rule of a section: its right side p over a, what is taken off for each unit of S, its shape, the gauge's last, what the member has, and seven more numbers
+// that its first lines show.
+#[derive(Clone, Copy)]
+struct Rule {
+    p: u64,
+    a: u64,
+    per: u64,
+    shape: Shape,
+    top: u32,
+    has: u32,
+    more: [u64; 7],
+}
+
 #[derive(Drop)]
 struct Quotient {
     whole: u64,
     left: u64,
 }
 
-// X = step·x − short and X² ≥ right, of a shape.
+// X = step·x − short and X² ≥ right, of a shape; what the registers show where nothing meets it is 1, 0 and 0.
 #[derive(Drop)]
 struct Parts {
     step: u32,
     short: u32,
     right: u64,
-    never: bool,
 }
 
 // X of a number, and its square.
@@ -125,9 +138,7 @@ fn plate_work(h: Header, kind: u8, id: u16, p: Plate, w: PlateWork) -> Work
         h.version as u64,
         0,
     ];
-    let head = head_of(
-        kind, h.draught, h.wave, h.two_runs, p.z, p.tank_top, p.cargo, p.ballast,
-    );
+    let head = head_of(h, kind, p.z, p.tank_top, p.cargo, p.ballast);
     let one = plate_first(h, kind, p, w);
     let two = plate_second(kind, p, w);
     let three = plate_third(h, kind, p, w);
@@ -181,7 +192,7 @@ fn member_work(h: Header, kind: u8, id: u16, m: Member, w: MemberWork) -> Work
         h.version as u64,
         0,
     ];
-    let head = head_of(kind, h.draught, h.wave, h.two_runs, m.z, Span(0), 0, false);
+    let head = head_of(h, kind, m.z, Span(0), 0, false);
     let one = member_first(h, kind, m, w);
     let two = member_second(kind, m, w);
     let three = member_third(kind, m, w);

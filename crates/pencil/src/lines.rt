@@ -2,9 +2,8 @@
 ghost use Rattle.std.specs.Prelude.{◌≡◌, ◌<◌};
 ghost use Rattle.pencil.specs.Trail.{Tells, step_line, ruled as ruledOf, verdict_line};
 
-use crate::Section;
-use crate::numbers::{rule_numbers, taken_apart};
-use gauge::Shape;
+use crate::numbers::{is_never, rule_numbers};
+use crate::{Rule, Section};
 use verdict::Verdict;
 
 fn step_line(tried: u8, unit: u8, never: bool, first: u64, least: u64, top: u64) -> u8
@@ -27,29 +26,17 @@ fn step_line(tried: u8, unit: u8, never: bool, first: u64, least: u64, top: u64)
 }
 
 // The lines of a rule: those up to its right side, the last step, and what the member has.
-pub fn ruled(
-    front: [u8; 6],
-    tried: u8,
-    unit: u8,
-    last: u8,
-    p: u64,
-    a: u64,
-    per: u64,
-    d: Shape,
-    top: u32,
-    has: u32,
-    more: [u64; 7],
-) -> Section
+pub fn ruled(front: [u8; 6], tried: u8, unit: u8, last: u8, rule: Rule) -> Section
     requires { (tried < 100) × (unit < 3) }
-    ensures { Tells (ruledOf front tried unit last p a per d top has more) result }
+    ensures { Tells (ruledOf front tried unit last rule.p rule.a rule.per rule.shape rule.top rule.has rule.more) result }
 {
-    let own = rule_numbers(p, a, per, d, top, has, more);
-    let parts = taken_apart(d);
+    let own = rule_numbers(rule);
+    let never = is_never(rule.shape);
     let first = own[8];
     let least = own[14];
-    let step = step_line(tried, unit, parts.never, first, least, top as u64);
+    let step = step_line(tried, unit, never, first, least, rule.top as u64);
     let some = (0 < least) as u8;
-    let short = ((has as u64) < least) as u8;
+    let short = ((rule.has as u64) < least) as u8;
     let result = 77 + 3 * unit + some * (1 + short);
     let lines = [
         front[0], front[1], front[2], front[3], front[4], front[5], step, result, last,

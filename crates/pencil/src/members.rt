@@ -2,9 +2,9 @@
 ghost use Rattle.framing.specs.Work.{told_work as toldMember};
 ghost use Rattle.pencil.specs.Trail.{Tells, member_first, member_second, member_third};
 
-use crate::Section;
 use crate::lines::{ruled, verdict_line};
-use crate::numbers::{divide, taken_apart, times};
+use crate::numbers::{divide, is_never, times};
+use crate::{Rule, Section};
 use framing::MemberWork;
 use quantity::{Modulus, Quantity, ShearArea, Thickness};
 use sheet::{Header, Member};
@@ -15,45 +15,27 @@ pub fn member_first(h: Header, kind: u8, m: Member, w: MemberWork) -> Section
     let l2 = h.length.0 as u64 * h.length.0 as u64;
     let factor = m.factor;
     let k = factor.0 as u64;
-    let per = 45 * m.spacing.0 as u64;
-    let d = w.web;
-    let top = Thickness::HIGH;
-    let has = m.thickness.0 as u32;
-    let none = [0u64; 7];
+    let rule = Rule {
+        p: 0,
+        a: 1,
+        per: 45 * m.spacing.0 as u64,
+        shape: w.web,
+        top: Thickness::HIGH,
+        has: m.thickness.0 as u32,
+        more: [0; 7],
+    };
     if 6 <= kind {
         let p = times(8 * l2, k);
-        return ruled(
-            [53, 0, 0, 0, 0, 0],
-            65,
-            0,
-            0,
-            p,
-            3125,
-            per,
-            d,
-            top,
-            has,
-            none,
-        );
+        let rule = Rule { p, a: 3125, ..rule };
+        return ruled([53, 0, 0, 0, 0, 0], 65, 0, 0, rule);
     }
     if h.length.0 < 12000 {
         let p = times(l2, k);
-        return ruled(
-            [51, 0, 0, 0, 0, 0],
-            65,
-            0,
-            0,
-            p,
-            6250,
-            per,
-            d,
-            top,
-            has,
-            none,
-        );
+        let rule = Rule { p, a: 6250, ..rule };
+        return ruled([51, 0, 0, 0, 0, 0], 65, 0, 0, rule);
     }
     let p = times(15210, k);
-    ruled([52, 0, 0, 0, 0, 0], 65, 0, 0, p, 1, per, d, top, has, none)
+    ruled([52, 0, 0, 0, 0, 0], 65, 0, 0, Rule { p, ..rule })
 }
 
 pub fn member_second(kind: u8, m: Member, w: MemberWork) -> Section
@@ -62,62 +44,31 @@ pub fn member_second(kind: u8, m: Member, w: MemberWork) -> Section
     let l2 = m.span.0 as u64 * m.span.0 as u64;
     let q = w.line.0;
     let load = w.load;
-    let d = w.bending;
-    let parts = taken_apart(d);
-    let never = 3 * (parts.never as u8);
+    let never = 3 * (is_never(w.bending) as u8);
     let plain = m.bending as u64;
     let eta = m.eta as u64;
     let ratio = divide(times(load.pressure.0, m.spacing.0 as u64), 1000000);
-    let more = [ratio.whole, ratio.left, 0, 0, 0, 0, 0];
-    let has = m.modulus.0;
+    let rule = Rule {
+        p: 0,
+        a: 5000000000,
+        per: 0,
+        shape: w.bending,
+        top: Modulus::HIGH,
+        has: m.modulus.0,
+        more: [ratio.whole, ratio.left, 0, 0, 0, 0, 0],
+    };
     if kind < 6 {
         let p = times(times(833 * plain * eta, q), l2);
         let a = 100000000000 * 214u64.saturating_sub(m.stress as u64);
-        return ruled(
-            [54, 57 + never, 0, 0, 0, 0],
-            0,
-            1,
-            0,
-            p,
-            a,
-            0,
-            d,
-            Modulus::HIGH,
-            has,
-            more,
-        );
+        return ruled([54, 57 + never, 0, 0, 0, 0], 0, 1, 0, Rule { p, a, ..rule });
     }
     if kind < 8 {
         let p = times(times(29 * plain, q), l2);
-        return ruled(
-            [56, 59, 0, 0, 0, 0],
-            0,
-            1,
-            0,
-            p,
-            5000000000,
-            0,
-            d,
-            Modulus::HIGH,
-            has,
-            more,
-        );
+        return ruled([56, 59, 0, 0, 0, 0], 0, 1, 0, Rule { p, ..rule });
     }
     let p = times(times(25 * plain * eta, q), l2);
     let a = 2000000000 * 197u64.saturating_sub(m.stress as u64);
-    ruled(
-        [55, 58 + never, 0, 0, 0, 0],
-        0,
-        1,
-        0,
-        p,
-        a,
-        0,
-        d,
-        Modulus::HIGH,
-        has,
-        more,
-    )
+    ruled([55, 58 + never, 0, 0, 0, 0], 0, 1, 0, Rule { p, a, ..rule })
 }
 
 pub fn member_third(kind: u8, m: Member, w: MemberWork) -> Section
@@ -125,57 +76,27 @@ pub fn member_third(kind: u8, m: Member, w: MemberWork) -> Section
 {
     let l = m.span.0 as u64;
     let q = w.line.0;
-    let d = w.shear;
-    let verdict = w.verdict;
-    let last = verdict_line(verdict);
-    let top = ShearArea::HIGH;
-    let has = m.area.0 as u32;
-    let none = [0u64; 7];
+    let last = verdict_line(w.verdict);
     let shear = m.shear as u64;
+    let rule = Rule {
+        p: 0,
+        a: 12500000,
+        per: 0,
+        shape: w.shear,
+        top: ShearArea::HIGH,
+        has: m.area.0 as u32,
+        more: [0; 7],
+    };
     if kind < 6 {
         let p = times(times(9 * shear * m.eta as u64, q), l);
-        return ruled(
-            [62, 0, 0, 0, 0, 0],
-            0,
-            2,
-            last,
-            p,
-            2000000000,
-            0,
-            d,
-            top,
-            has,
-            none,
-        );
+        let a = 2000000000;
+        return ruled([62, 0, 0, 0, 0, 0], 0, 2, last, Rule { p, a, ..rule });
     }
     if kind < 8 {
         let p = times(times(9 * shear, q), l);
-        return ruled(
-            [63, 0, 0, 0, 0, 0],
-            0,
-            2,
-            last,
-            p,
-            20000000,
-            0,
-            d,
-            top,
-            has,
-            none,
-        );
+        let a = 20000000;
+        return ruled([63, 0, 0, 0, 0, 0], 0, 2, last, Rule { p, a, ..rule });
     }
     let p = times(times(7 * shear, q), l);
-    ruled(
-        [64, 0, 0, 0, 0, 0],
-        0,
-        2,
-        last,
-        p,
-        12500000,
-        0,
-        d,
-        top,
-        has,
-        none,
-    )
+    ruled([64, 0, 0, 0, 0, 0], 0, 2, last, Rule { p, ..rule })
 }

@@ -1,9 +1,9 @@
 // Numbers that the lines of a trail show: products, quotients, and what is worked out of a rule's shape.
 ghost use Rattle.std.specs.Prelude.{◌-◌, ◌≡◌};
-ghost use Rattle.pencil.specs.Numbers.{product, rule_numbers};
+ghost use Rattle.pencil.specs.Numbers.{product, is_never, rule_numbers};
 ghost use Rattle.pencil.specs.Code.{Divided, PartsOf, Tries};
 
-use crate::{Parts, Quotient, Tried};
+use crate::{Parts, Quotient, Rule, Tried};
 use gauge::Shape;
 
 // a·b, and 0 where it is past 64 bits.
@@ -26,7 +26,14 @@ pub fn divide(p: u64, a: u64) -> Quotient
     }
 }
 
-pub fn taken_apart(d: Shape) -> Parts
+// Whether no number meets a shape.
+pub fn is_never(d: Shape) -> bool
+    ensures { result ≡ is_never d }
+{
+    matches!(d, Shape::Never)
+}
+
+fn taken_apart(d: Shape) -> Parts
     ensures { PartsOf d result }
 {
     match d {
@@ -34,19 +41,16 @@ pub fn taken_apart(d: Shape) -> Parts
             step: 1,
             short: 0,
             right: 0,
-            never: true,
         },
         Shape::Floor(n) => Parts {
             step: 1,
             short: 0,
             right: n,
-            never: false,
         },
         Shape::Square { step, short, n } => Parts {
             step,
             short,
             right: n,
-            never: false,
         },
     }
 }
@@ -59,38 +63,31 @@ fn try_number(step: u64, t: u64, short: u64) -> Tried
     Tried { x, square }
 }
 
-pub fn rule_numbers(
-    p: u64,
-    a: u64,
-    per: u64,
-    d: Shape,
-    top: u32,
-    has: u32,
-    more: [u64; 7],
-) -> [u64; 32]
-    ensures { result ≡ rule_numbers p a per d top has more }
+pub fn rule_numbers(rule: Rule) -> [u64; 32]
+    ensures { result ≡ rule_numbers rule.p rule.a rule.per rule.shape rule.top rule.has rule.more }
 {
-    let worked = gauge::worked_in(d, top);
+    let worked = gauge::worked_in(rule.shape, rule.top);
     let root = worked.root;
     let first = worked.first;
     let answer = worked.least;
     let least = gauge::number(answer) as u64;
-    let parts = taken_apart(d);
+    let parts = taken_apart(rule.shape);
     let step = parts.step as u64;
     let short = parts.short as u64;
-    let side = divide(p, a);
+    let side = divide(rule.p, rule.a);
     let over = divide(short + root % 4294967296, step);
     let at_first = try_number(step, first, short);
     let beside = least.saturating_sub((least == first) as u64);
     let at_other = try_number(step, beside, short);
-    let margin = least.abs_diff(has as u64);
+    let margin = least.abs_diff(rule.has as u64);
+    let more = rule.more;
     [
         0,
         side.whole,
         side.left,
         parts.right,
         root,
-        per,
+        rule.per,
         over.whole,
         over.left,
         first,
@@ -101,8 +98,8 @@ pub fn rule_numbers(
         at_other.square,
         least,
         margin,
-        has as u64,
-        top as u64,
+        rule.has as u64,
+        rule.top as u64,
         more[0],
         more[1],
         more[2],

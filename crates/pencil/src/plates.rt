@@ -5,8 +5,8 @@ ghost use Rattle.pencil.specs.Trail.{Tells, plate_first, plate_second, bending_l
 ghost use Rattle.pencil.specs.Code.{FormTold};
 
 use crate::lines::{ruled, verdict_line};
-use crate::numbers::{divide, taken_apart, times};
-use crate::{Form, Section};
+use crate::numbers::{divide, is_never, times};
+use crate::{Form, Rule, Section};
 use plating::PlateWork;
 use quantity::{Quantity, Spacing, SteelFactor, Thickness};
 use sheet::kinds::is_long;
@@ -16,51 +16,26 @@ pub fn plate_first(h: Header, kind: u8, p: Plate, w: PlateWork) -> Section
     ensures { Tells (plate_first h kind p (toldPlate w)) result }
 {
     let n = h.length.0 as u64 * h.length.0 as u64 * p.factor.0 as u64;
-    let per = 36 * p.spacing.0 as u64;
-    let d = w.first;
-    let top = Thickness::HIGH;
-    let has = p.thickness.0 as u32;
-    let none = [0u64; 7];
+    let rule = Rule {
+        p: 9 * n,
+        a: 1000,
+        per: 36 * p.spacing.0 as u64,
+        shape: w.first,
+        top: Thickness::HIGH,
+        has: p.thickness.0 as u32,
+        more: [0; 7],
+    };
     match kind {
-        1 => ruled(
-            [24, 0, 0, 0, 0, 0],
-            65,
-            0,
-            0,
-            9 * n,
-            1000,
-            per,
-            d,
-            top,
-            has,
-            none,
-        ),
-        2 => ruled(
-            [25, 0, 0, 0, 0, 0],
-            65,
-            0,
-            0,
-            9 * n,
-            1000,
-            per,
-            d,
-            top,
-            has,
-            none,
-        ),
-        _ => ruled(
-            [26, 0, 0, 0, 0, 0],
-            65,
-            0,
-            0,
-            8 * n,
-            3125,
-            per,
-            d,
-            top,
-            has,
-            none,
-        ),
+        1 => ruled([24, 0, 0, 0, 0, 0], 65, 0, 0, rule),
+        2 => ruled([25, 0, 0, 0, 0, 0], 65, 0, 0, rule),
+        _ => {
+            let rule = Rule {
+                p: 8 * n,
+                a: 3125,
+                ..rule
+            };
+            ruled([26, 0, 0, 0, 0, 0], 65, 0, 0, rule)
+        }
     }
 }
 
@@ -71,38 +46,24 @@ pub fn plate_second(kind: u8, p: Plate, w: PlateWork) -> Section
     let load = w.load;
     let n = times(s * s * p.factor.0 as u64, load.pressure.0);
     let long = times(9, n);
-    let d = w.second;
-    let top = Thickness::HIGH;
-    let has = p.thickness.0 as u32;
-    let none = [0u64; 7];
+    let rule = Rule {
+        p: n,
+        a: 39062500000,
+        per: 0,
+        shape: w.second,
+        top: Thickness::HIGH,
+        has: p.thickness.0 as u32,
+        more: [0; 7],
+    };
     if is_long(kind) {
-        return ruled(
-            [28, 0, 0, 0, 0, 0],
-            68,
-            0,
-            0,
-            long,
-            625000000000,
-            0,
-            d,
-            top,
-            has,
-            none,
-        );
+        let rule = Rule {
+            p: long,
+            a: 625000000000,
+            ..rule
+        };
+        return ruled([28, 0, 0, 0, 0, 0], 68, 0, 0, rule);
     }
-    ruled(
-        [27, 0, 0, 0, 0, 0],
-        68,
-        0,
-        0,
-        n,
-        39062500000,
-        0,
-        d,
-        top,
-        has,
-        none,
-    )
+    ruled([27, 0, 0, 0, 0, 0], 68, 0, 0, rule)
 }
 
 // The lines of rule 3: up to R, K2, the fork and the form.
@@ -160,39 +121,31 @@ pub fn plate_third(h: Header, kind: u8, p: Plate, w: PlateWork) -> Section
     ensures { Tells (plate_third h kind p (toldPlate w)) result }
 {
     let r = w.stress;
-    let d = w.third;
-    let verdict = w.verdict;
     let x = p.b1.0 as u64;
     let y = p.b2.0 as u64;
-    let parts = taken_apart(d);
+    let never = is_never(w.third);
     let ratio = divide(1000000 * h.moment as u64, w.modulus as u64);
     let side = divide(1000 * (x * x + y * y), x * x);
     let fork = times((6084 - (kind == 1) as u64 * 4928) * p.factor.0 as u64, r);
     let form = form_of(is_long(kind), w.is_second, p.spacing, p.factor, w.k2, r);
     let limit = divide(times(form.a, 16000000), form.panel);
-    let front = bending_lines(kind, h.version, side.whole, w.is_second, parts.never);
-    let more = [
-        ratio.whole,
-        ratio.left,
-        side.whole,
-        side.left,
-        fork,
-        limit.whole,
-        limit.left,
-    ];
-    let top = Thickness::HIGH;
-    let has = p.thickness.0 as u32;
-    ruled(
-        front,
-        68,
-        0,
-        verdict_line(verdict),
-        form.p,
-        form.a,
-        0,
-        d,
-        top,
-        has,
-        more,
-    )
+    let front = bending_lines(kind, h.version, side.whole, w.is_second, never);
+    let rule = Rule {
+        p: form.p,
+        a: form.a,
+        per: 0,
+        shape: w.third,
+        top: Thickness::HIGH,
+        has: p.thickness.0 as u32,
+        more: [
+            ratio.whole,
+            ratio.left,
+            side.whole,
+            side.left,
+            fork,
+            limit.whole,
+            limit.left,
+        ],
+    };
+    ruled(front, 68, 0, verdict_line(w.verdict), rule)
 }

@@ -11,38 +11,66 @@ fn print_field(to: &mut impl Write, n: u32) -> io::Result<()> {
 
 fn print_line(to: &mut impl Write, answer: u64, fields: [u32; 13]) -> io::Result<()> {
     write!(to, "{answer}")?;
-    let mut i: usize = 0;
-    while i < 13 {
-        print_field(to, fields[i])?;
-        i += 1;
+    for field in fields {
+        print_field(to, field)?;
     }
     to.write_all(b"\n")
 }
 
-fn read(to: &mut impl Write, what: u32, bytes: &[u8]) -> io::Result<()> {
-    if what == 0 {
-        let mut h = [0u32; 10];
-        let answer = yard::yard_read_header(bytes, &mut h);
-        print_line(
-            to,
-            answer,
-            [
-                h[0], h[1], h[2], h[3], h[4], h[5], h[6], h[7], h[8], h[9], 0, 0, 0,
-            ],
-        )
-    } else {
-        let mut f = [0u32; 13];
-        let answer = yard::yard_read_record(bytes, &mut f);
-        print_line(to, answer, f)
+// What is read or written.
+#[derive(Clone, Copy)]
+enum Item {
+    Header,
+    Record,
+}
+
+#[derive(Clone, Copy)]
+enum Task {
+    Read(Item),
+    Write(Item),
+}
+
+impl Task {
+    // By a case's first number.
+    fn of(number: u32) -> Option<Task> {
+        match number {
+            0 => Some(Task::Read(Item::Header)),
+            1 => Some(Task::Read(Item::Record)),
+            2 => Some(Task::Write(Item::Header)),
+            3 => Some(Task::Write(Item::Record)),
+            _ => None,
+        }
     }
 }
 
-fn write(to: &mut impl Write, what: u32, f: [u32; 13], out: &mut [u8]) -> io::Result<()> {
-    if what == 2 {
-        let h = [f[0], f[1], f[2], f[3], f[4], f[5], f[6], f[7], f[8], f[9]];
-        print_line(to, yard::yard_write_header(&h, out), f)
-    } else {
-        print_line(to, yard::yard_write_record(&f, out), f)
+fn read(to: &mut impl Write, item: Item, bytes: &[u8]) -> io::Result<()> {
+    match item {
+        Item::Header => {
+            let mut h = [0u32; 10];
+            let answer = yard::yard_read_header(bytes, &mut h);
+            print_line(
+                to,
+                answer,
+                [
+                    h[0], h[1], h[2], h[3], h[4], h[5], h[6], h[7], h[8], h[9], 0, 0, 0,
+                ],
+            )
+        }
+        Item::Record => {
+            let mut f = [0u32; 13];
+            let answer = yard::yard_read_record(bytes, &mut f);
+            print_line(to, answer, f)
+        }
+    }
+}
+
+fn write(to: &mut impl Write, item: Item, f: [u32; 13], out: &mut [u8]) -> io::Result<()> {
+    match item {
+        Item::Header => {
+            let h = [f[0], f[1], f[2], f[3], f[4], f[5], f[6], f[7], f[8], f[9]];
+            print_line(to, yard::yard_write_header(&h, out), f)
+        }
+        Item::Record => print_line(to, yard::yard_write_record(&f, out), f),
     }
 }
 
@@ -52,18 +80,18 @@ pub fn print(
     input: &[u8],
     out: &mut [u8],
 ) -> io::Result<bool> {
-    let what = parts::number(head, 0);
-    if 3 < what {
+    let Some(task) = Task::of(parts::number(head, 0)) else {
         return Ok(false);
+    };
+    match task {
+        Task::Read(item) => read(to, item, input)?,
+        Task::Write(item) => {
+            if input.len() < 56 {
+                return Ok(false);
+            }
+            write(to, item, parts::fields(input), out)?;
+            to.write_all(out)?;
+        }
     }
-    if what < 2 {
-        read(to, what, input)?;
-        return Ok(true);
-    }
-    if input.len() < 56 {
-        return Ok(false);
-    }
-    write(to, what, parts::fields(input), out)?;
-    to.write_all(out)?;
     Ok(true)
 }

@@ -7,4 +7,4 @@ use Rattle.pencil.proofs.lines.ruled.Goals as goal
 pub returns : goal.returns
 unfolding ruled rule_numbers
 returns c =
-    record { lines = rw (c.step_line-step.ensures, c.taken_apart-parts.ensures.never, c.rule_numbers-own.ensures); own = c.rule_numbers-own.ensures }
+    record { lines = rw (c.step_line-step.ensures, c.is_never-never.ensures, c.rule_numbers-own.ensures); own = c.rule_numbers-own.ensures }

@@ -60,6 +60,6 @@ returns c =
     (c.try_number-at_other.ensures.x ∙ tried_same t.step beside t.short)
     (c.try_number-at_other.ensures.square ∙ ap (λ (x : ℕ). product x x) (tried_same t.step beside t.short))
     least
-    (c.abs_diff-margin.ensures ∙ ap (λ (l : ℕ). (l - c.args.has) + (c.args.has - l)) least ∙ apart_same _ c.args.has)
+    (c.abs_diff-margin.ensures ∙ ap (λ (l : ℕ). (l - c.args.rule.has) + (c.args.rule.has - l)) least ∙ apart_same _ c.args.rule.has)
     t.step
     t.short

@@ -40,7 +40,7 @@ returns c =
     let fa = f.a ∙ ap (λ (x : Bool). (form x).a) long in
     let fp = f.panel ∙ ap (λ (x : Bool). (form x).panel) long in
     ruled_same a.w.third thickness.high a.p.thickness.0
-    (c.bending_lines-front.ensures ∙ ap₂ (λ (x : ℕ) (y : Bool). bending_lines a.kind a.h.version x a.w.is_second y) s.whole c.taken_apart-parts.ensures.never)
+    (c.bending_lines-front.ensures ∙ ap₂ (λ (x : ℕ) (y : Bool). bending_lines a.kind a.h.version x a.w.is_second y) s.whole c.is_never-never.ensures)
     c.verdict_line.ensures
     (f.p ∙ ap (λ (x : Bool). (form x).p) long)
     fa
