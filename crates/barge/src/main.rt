@@ -28,8 +28,9 @@ fn tell<W: Write>(out: &mut W, err: &mut impl Write, sheet: &[u8], got: usize) -
     ensures { OnOk result ((input : List ℕ) → take got sheet.now ≡ take (length sheet.now) input → Appends (W.contents out.old) (W.contents out.new) (text_of input)) }
 {
     let page = answer(sheet, got);
-    let written = out.write_all(&page.bytes[..page.len]);
-    if page.bytes[0] == b'r' && console::is_read(written) {
+    let text = page.bytes;
+    let written = out.write_all(&text[..page.len]);
+    if text[0] == b'r' && console::is_read(written) {
         console::hint(err, &sheet[..got]);
     }
     written

@@ -75,7 +75,9 @@ fn put_trail(h: Header, r: Record, page: &mut [u8], at: usize) -> usize
     ensures { Writes (trail_text h r ∷ []) trailRoom (spot page.old at) (spot page.new result) }
 {
     let trail = pencil::trail_of(h, r);
-    wording::put_text(&trail.bytes[..trail.len], page, at)
+    let len = trail.len;
+    let bytes = trail.bytes;
+    wording::put_text(&bytes[..len], page, at)
 }
 
 // What is to be printed of record i.
@@ -85,7 +87,19 @@ fn piece_of(h: Header, records: &[u8], i: u16, asked: u32, begun: bool) -> Piece
 {
     let mut bytes = [0u8; ROOM];
     match record_at(records, i) {
-        Ok(r) if is_wanted(asked, r.id) => {
+        Err(_) => Piece {
+            bytes,
+            len: 0,
+            begun,
+        },
+        Ok(r) => {
+            if !is_wanted(asked, r.id) {
+                return Piece {
+                    bytes,
+                    len: 0,
+                    begun,
+                };
+            }
             let at = put_lead(begun, &mut bytes);
             let len = put_trail(h, r, &mut bytes, at);
             Piece {
@@ -94,11 +108,6 @@ fn piece_of(h: Header, records: &[u8], i: u16, asked: u32, begun: bool) -> Piece
                 begun: true,
             }
         }
-        _ => Piece {
-            bytes,
-            len: 0,
-            begun,
-        },
     }
 }
 
@@ -115,7 +124,9 @@ fn print_record<W: Write>(
     ensures { IfOk result (λ b. Written (piece_of h asked begun (record_of records.now i)) (W.contents out.old) (W.contents out.new) b) }
 {
     let piece = piece_of(h, records, i, asked, begun);
-    out.write_all(&piece.bytes[..piece.len])?;
+    let len = piece.len;
+    let bytes = piece.bytes;
+    out.write_all(&bytes[..len])?;
     Ok(piece.begun)
 }
 
