@@ -14,7 +14,7 @@ use std::io;
 use std::io::{ErrorKind, Write};
 use std::process::ExitCode;
 
-// Reads until the space is full or nothing comes any more.
+// Reads until the space is full or nothing comes any more. No `for` fits: each read gives as many bytes as it likes.
 fn read_full<R: io::Read>(input: &mut R, space: &mut [u8]) -> io::Result<usize>
     ensures bound { ReadsAtMost result space.new }
     ensures bytes { IfOk result (λ n. Consumes (R.remaining input.old) (R.remaining input.new) (take n space.new)) }

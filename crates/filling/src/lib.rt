@@ -54,6 +54,7 @@ fn kept_by(empty: bool, kept: usize, count: usize) -> usize
 fn count_at(text: &[u8], at: usize) -> Line
     ensures { Counts (line_left true text.now at) result }
 {
+    // the field says where the next one is
     let mut here = at;
     // a field is a byte at least, so that they cannot be more than there are bytes
     let mut count: usize = 0;

@@ -100,7 +100,7 @@ pub fn write_long(out: &mut [u8], n: Long)
 }
 
 // One line of a layout, as the search for the first fault asks it: the field's number where x lies outside low..high, else what the later
-// fields gave.
+// fields gave, 0 where there is no fault, as the definitions count fields.
 pub fn fault_unless(x: u32, low: u32, high: u32, field: u8, rest: u8) -> u8
     ensures { result ≡ cond (within (from low high) x) rest field }
 {

@@ -23,7 +23,7 @@ pub const LONGEST: usize = 16 * (MOST as usize) + 8;
 // Room for a refusal's line: the word, and numbers of at most two digits and ten.
 const REFUSAL: usize = 22;
 
-// The text of an answer, and how many bytes of the page it takes; the others are 0.
+// The text of an answer, and how many bytes of the page it takes; the others are 0. An array with a length: there is no heap.
 #[derive(Clone, Copy)]
 pub struct Page {
     pub bytes: [u8; LONGEST],

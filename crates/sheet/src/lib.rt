@@ -183,6 +183,7 @@ pub enum Body {
 
 #[derive(Clone, Copy)]
 pub struct Record {
+    // 1 to 8; a number, so that one that is no kind can be held, and refused
     pub kind: u8,
     pub id: u16,
     pub body: Body,

@@ -45,6 +45,7 @@ fn put_records(
     requires { (length draft.old ≡ draft_size) × (head ≤ length draft.old) }
     ensures { Fills (records_made 2 (lines_left filled text.now at)) (take head draft.old) result draft.new }
 {
+    // the row says where the next line is
     let mut here = at;
     let mut line: u32 = 2;
     let mut end = head;

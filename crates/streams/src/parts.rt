@@ -11,7 +11,7 @@ use std::io::{Read, Write};
 // A refusal's longest line; a length's has fewer bytes.
 pub const LINE: usize = 22;
 
-// Reads until the space is full, and returns how many bytes came: a read that fails is taken for the end.
+// Reads until the space is full, and returns how many bytes came: a read that fails is taken for the end. No `for` fits: each read gives as many as it likes.
 pub fn fill(input: &mut impl Read, space: &mut [u8]) -> usize
     ensures { result ≤ length space.new }
 {

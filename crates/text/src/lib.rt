@@ -84,6 +84,7 @@ fn store(nums: &mut [u32], i: usize, num: Num)
 pub fn line_at(text: &[u8], at: usize, nums: &mut [u32]) -> Line
     ensures { Reads (line_at text.now at) nums.old result nums.new }
 {
+    // the field says where the next one is
     let mut here = at;
     // a field is a byte at least, so that they cannot be more than there are bytes
     let mut count: usize = 0;

@@ -11,7 +11,7 @@ use gauge::Shape;
 use loads::Source;
 use sheet::{Header, Member, Plate, Refusal};
 
-// Rule 0 is a pass. Required is 0 on a pass, and where nothing in the gauge will do.
+// Rule 0 is a pass. Required is 0 on a pass, and where nothing in the gauge will do: the numbers of the document, which the definitions speak of.
 #[derive(Clone, Copy)]
 pub struct Verdict {
     pub rule: u8,
