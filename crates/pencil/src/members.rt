@@ -15,27 +15,23 @@ pub fn member_first(h: Header, kind: u8, m: Member, w: MemberWork) -> Section
     let l2 = h.length.0 as u64 * h.length.0 as u64;
     let factor = m.factor;
     let k = factor.0 as u64;
+    let (line, p, a) = if 6 <= kind {
+        (53, times(8 * l2, k), 3125)
+    } else if h.length.0 < 12000 {
+        (51, times(l2, k), 6250)
+    } else {
+        (52, times(15210, k), 1)
+    };
     let rule = Rule {
-        p: 0,
-        a: 1,
+        p,
+        a,
         per: 45 * m.spacing.0 as u64,
         shape: w.web,
         top: Thickness::HIGH,
         has: m.thickness.0 as u32,
         more: [0; 7],
     };
-    if 6 <= kind {
-        let p = times(8 * l2, k);
-        let rule = Rule { p, a: 3125, ..rule };
-        return ruled([53, 0, 0, 0, 0, 0], 65, 0, 0, rule);
-    }
-    if h.length.0 < 12000 {
-        let p = times(l2, k);
-        let rule = Rule { p, a: 6250, ..rule };
-        return ruled([51, 0, 0, 0, 0, 0], 65, 0, 0, rule);
-    }
-    let p = times(15210, k);
-    ruled([52, 0, 0, 0, 0, 0], 65, 0, 0, Rule { p, ..rule })
+    ruled([line, 0, 0, 0, 0, 0], 65, 0, 0, rule)
 }
 
 pub fn member_second(kind: u8, m: Member, w: MemberWork) -> Section
