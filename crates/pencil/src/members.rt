@@ -74,25 +74,21 @@ pub fn member_third(kind: u8, m: Member, w: MemberWork) -> Section
     let q = w.line.0;
     let last = verdict_line(w.verdict);
     let shear = m.shear as u64;
+    let (line, p, a) = if kind < 6 {
+        (62, times(times(9 * shear * m.eta as u64, q), l), 2000000000)
+    } else if kind < 8 {
+        (63, times(times(9 * shear, q), l), 20000000)
+    } else {
+        (64, times(times(7 * shear, q), l), 12500000)
+    };
     let rule = Rule {
-        p: 0,
-        a: 12500000,
+        p,
+        a,
         per: 0,
         shape: w.shear,
         top: ShearArea::HIGH,
         has: m.area.0 as u32,
         more: [0; 7],
     };
-    if kind < 6 {
-        let p = times(times(9 * shear * m.eta as u64, q), l);
-        let a = 2000000000;
-        return ruled([62, 0, 0, 0, 0, 0], 0, 2, last, Rule { p, a, ..rule });
-    }
-    if kind < 8 {
-        let p = times(times(9 * shear, q), l);
-        let a = 20000000;
-        return ruled([63, 0, 0, 0, 0, 0], 0, 2, last, Rule { p, a, ..rule });
-    }
-    let p = times(times(7 * shear, q), l);
-    ruled([64, 0, 0, 0, 0, 0], 0, 2, last, Rule { p, ..rule })
+    ruled([line, 0, 0, 0, 0, 0], 0, 2, last, rule)
 }
