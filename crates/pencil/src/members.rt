@@ -15,27 +15,23 @@ pub fn member_first(h: Header, kind: u8, m: Member, w: MemberWork) -> Section
     let l2 = h.length.0 as u64 * h.length.0 as u64;
     let factor = m.factor;
     let k = factor.0 as u64;
+    let (line, p, a) = if 6 <= kind {
+        (53, times(8 * l2, k), 3125)
+    } else if h.length.0 < 12000 {
+        (51, times(l2, k), 6250)
+    } else {
+        (52, times(15210, k), 1)
+    };
     let rule = Rule {
-        p: 0,
-        a: 1,
+        p,
+        a,
         per: 45 * m.spacing.0 as u64,
         shape: w.web,
         top: Thickness::HIGH,
         has: m.thickness.0 as u32,
         more: [0; 7],
     };
-    if 6 <= kind {
-        let p = times(8 * l2, k);
-        let rule = Rule { p, a: 3125, ..rule };
-        return ruled([53, 0, 0, 0, 0, 0], 65, 0, 0, rule);
-    }
-    if h.length.0 < 12000 {
-        let p = times(l2, k);
-        let rule = Rule { p, a: 6250, ..rule };
-        return ruled([51, 0, 0, 0, 0, 0], 65, 0, 0, rule);
-    }
-    let p = times(15210, k);
-    ruled([52, 0, 0, 0, 0, 0], 65, 0, 0, Rule { p, ..rule })
+    ruled([line, 0, 0, 0, 0, 0], 65, 0, 0, rule)
 }
 
 pub fn member_second(kind: u8, m: Member, w: MemberWork) -> Section
@@ -78,25 +74,21 @@ pub fn member_third(kind: u8, m: Member, w: MemberWork) -> Section
     let q = w.line.0;
     let last = verdict_line(w.verdict);
     let shear = m.shear as u64;
+    let (line, p, a) = if kind < 6 {
+        (62, times(times(9 * shear * m.eta as u64, q), l), 2000000000)
+    } else if kind < 8 {
+        (63, times(times(9 * shear, q), l), 20000000)
+    } else {
+        (64, times(times(7 * shear, q), l), 12500000)
+    };
     let rule = Rule {
-        p: 0,
-        a: 12500000,
+        p,
+        a,
         per: 0,
         shape: w.shear,
         top: ShearArea::HIGH,
         has: m.area.0 as u32,
         more: [0; 7],
     };
-    if kind < 6 {
-        let p = times(times(9 * shear * m.eta as u64, q), l);
-        let a = 2000000000;
-        return ruled([62, 0, 0, 0, 0, 0], 0, 2, last, Rule { p, a, ..rule });
-    }
-    if kind < 8 {
-        let p = times(times(9 * shear, q), l);
-        let a = 20000000;
-        return ruled([63, 0, 0, 0, 0, 0], 0, 2, last, Rule { p, a, ..rule });
-    }
-    let p = times(times(7 * shear, q), l);
-    ruled([64, 0, 0, 0, 0, 0], 0, 2, last, Rule { p, ..rule })
+    ruled([line, 0, 0, 0, 0, 0], 0, 2, last, rule)
 }
