@@ -1,5 +1,5 @@
 // The words of the command line as numbers.
-ghost use Rattle.std.specs.Prelude.{◌≡◌, ◌+◌, ◌≤◌, ◌<◌, length};
+ghost use Rattle.std.specs.Prelude.{◌≡◌, ◌<◌};
 ghost use Rattle.barge_edit.specs.Office.{fields_of};
 
 use std::env::{Env, FillError};

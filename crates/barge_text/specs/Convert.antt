@@ -21,10 +21,10 @@ abbrev pub line_in : Answer ℕ → ℕ
 line_in (given n) = 0
 line_in (refused number place) = cond (eqb number 14) place (cond (eqb number 15) place 0)
 
--- the number of a line, 0 where there is none
-abbrev pub number_or_0 : Option ℕ → ℕ
-number_or_0 None = 0
-number_or_0 (Some n) = n
+-- the same, none where there is none
+abbrev pub line_of : Answer ℕ → Option ℕ
+line_of (given n) = None
+line_of (refused number place) = cond (eqb number 14) (Some place) (cond (eqb number 15) (Some place) None)
 
 -- ---- what is printed of a text
 
@@ -45,4 +45,4 @@ pub record Shows (t : List ℕ) (p : Page) : Type 0 where
 -- What the answer to a text is: what is printed, and the line that it is turned away by.
 pub record Replies (s : List ℕ) (r : Reply) : Type 0 where
   pub page : Shows (printed_text s) r.page
-  pub line : number_or_0 r.line ≡ line_in (length_of (table_from s longest_sheet))
+  pub line : r.line ≡ line_of (length_of (table_from s longest_sheet))

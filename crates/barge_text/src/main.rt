@@ -11,7 +11,7 @@ ghost use Rattle.sheet.specs.Versions.{enough};
 ghost use Rattle.report.specs.Pieces.{refusal_text};
 ghost use Rattle.sheet_csv.specs.Read.{Converts};
 ghost use Rattle.sheet_csv.specs.Write.{text_from};
-ghost use Rattle.barge_text.specs.Convert.{MadeInside, line_in, number_or_0, printed_by, Shows, Replies};
+ghost use Rattle.barge_text.specs.Convert.{MadeInside, line_of, printed_by, Shows, Replies};
 
 use console::Said;
 use report::Page;
@@ -53,7 +53,7 @@ fn print(out: &mut impl Write, err: &mut impl Write, bytes: &[u8]) -> io::Result
 
 // The line that a refusal names, which 14 and 15 do.
 fn line_of(r: Refusal) -> Option<u32>
-    ensures { number_or_0 result ≡ line_in (told r) }
+    ensures { result ≡ line_of (told r) }
 {
     match r {
         Refusal::Text(line) | Refusal::FieldCount(line) => Some(line),
@@ -63,7 +63,7 @@ fn line_of(r: Refusal) -> Option<u32>
 
 // The same of what was converted.
 fn line_at_fault(c: Result<usize, Refusal>) -> Option<u32>
-    ensures { number_or_0 result ≡ line_in (told_result c) }
+    ensures { result ≡ line_of (told_result c) }
 {
     match c {
         Ok(_) => None,

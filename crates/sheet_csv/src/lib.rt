@@ -1,4 +1,5 @@
-// Sheets in and out as comma-separated text: a line for the header's fields and one for each record's. A conversion answers how many bytes it wrote, or why none.
+// Sheets in and out as comma-separated text: a line for the header's fields and one for each record's. A conversion answers how many bytes it wrote, or
+// why none.
 #![tactic(auto)]
 
 mod page;

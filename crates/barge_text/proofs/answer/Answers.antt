@@ -2,7 +2,7 @@
 use mathlib.Core.Path.{ap, ◌∙◌}
 use lib.ListN.{replicate}
 use Rattle.sheet.specs.Versions.{longest_sheet}
-use Rattle.barge_text.specs.Convert.{line_in}
+use Rattle.barge_text.specs.Convert.{line_of}
 use Rattle.barge_text.specs.laws.ConvertLaws.{made_printed}
 use Rattle.barge_text.proofs.answer.Goals as goal
 
@@ -14,5 +14,5 @@ returns c =
         inside = c.page_by-page.ensures.inside;
         text = c.page_by-page.ensures.text ∙ made_printed s (replicate longest_sheet 0) c.read_table-c.result c.read_table-c.new.out c.read_table-c.ensures;
       };
-      line = c.line_at_fault-line.ensures ∙ ap line_in c.read_table-c.ensures.answer;
+      line = c.line_at_fault-line.ensures ∙ ap line_of c.read_table-c.ensures.answer;
     }

@@ -1,6 +1,7 @@
 -- What is made of the input is in the output, what is printed of a text is what is printed of its sheet, and no more of a sheet has to be read than is.
 -- Assumes nothing.
-use Rattle.std.specs.Prelude.{ℕ, ◌≤◌, ◌≡◌, refl, List, [], ◌∷◌, ◌++◌, length, take, drop, Result, Ok, Err}
+use Rattle.std.specs.Prelude.{ℕ, ◌≤◌, ◌≡◌, refl, List, [], ◌∷◌, ◌++◌, length, take, drop, Result, Ok, Err, Bool, true, false, cond, eqb, Option, Some, None}
+use Rattle.std.specs.Option.{unwrap_or}
 use Rattle.std.proofs.Common.{sym, ap, ap₂, ◌∙◌, arith, length-append, take_at, take-take}
 use Rattle.sheet.specs.declared.Refusal.{Refusal}
 use Rattle.sheet.specs.Versions.{longest_sheet, enough}
@@ -14,7 +15,7 @@ use Rattle.report.specs.Pieces.{refusal_text}
 use Rattle.sheet_csv.specs.Read.{length_of, output_by, Converts}
 use Rattle.sheet_csv.specs.Table.{table_from}
 use Rattle.sheet_csv.specs.Write.{text_from}
-use Rattle.barge_text.specs.Convert.{MadeInside, printed_text, printed_by}
+use Rattle.barge_text.specs.Convert.{MadeInside, line_in, line_of, printed_text, printed_by}
 
 -- ---- the output
 
@@ -55,3 +56,15 @@ unfolding text_from sound_sheet
 text_cut n s size l =
     let cut : sheet_in (take n s) room ≡ sheet_in s room = sym (sheet_cut (take n s) room) ∙ ap (λ (b : List ℕ). sheet_in b room) (take-take enough n s l) ∙ sheet_cut s room in
     rw cut
+
+-- ---- the line that a text is turned away by
+
+-- as a number, 0 where there is none
+pub line_number : (a : Answer ℕ) → unwrap_or (line_of a) 0 ≡ line_in a
+line_number (given n) = refl
+line_number (refused number place) = go (eqb number 14) (eqb number 15)
+  where
+    go : (t u : Bool) → unwrap_or (cond t (Some place) (cond u (Some place) None)) 0 ≡ cond t place (cond u place 0)
+    go true u = refl
+    go false true = refl
+    go false false = refl

@@ -1,6 +1,6 @@
 -- The bytes that the lines of a text make, by the first of them.
 -- Assumes nothing.
-use Rattle.std.specs.Prelude.{ℕ, ◌+◌, ◌-◌, ◌≤◌, ◌<◌, ◌≡◌, refl, Bool, true, false, not, ◌&&◌, length, take, eqb, Option, Some, None, Ok, Err}
+use Rattle.std.specs.Prelude.{ℕ, ◌+◌, ◌-◌, ◌≤◌, ◌<◌, ◌≡◌, refl, Bool, true, false, not, ◌&&◌, length, take, eqb, Option, Some, None, Result, Ok, Err}
 use Rattle.std.proofs.Common.{sym, ap₂, subst, ◌∙◌, arith, length-append, take_at}
 use Rattle.std.proofs.Math.Path.{ap}
 use mathlib.Core.List.{List, [], ◌++◌, map, append-nil, append_assoc}
@@ -110,8 +110,14 @@ pub record Bytes (r : Row) (b : List ℕ) : Type 0 where
   pub inside : r.size ≤ length r.bytes
   pub size : r.size ≡ length b
 
-pub row_says : (r : Row) (m : Made) → told_row (Ok r) ≡ shown (given m) → (end_by r.next ≡ m.end) × Bytes r m.bytes
-row_says r m e =
+abbrev pub RowSays : Result Row Refusal → Answer Made → Type 0
+RowSays (Ok r) (given m) = (end_by r.next ≡ m.end) × Bytes r m.bytes
+RowSays (Ok r) (refused k q) = ⊥
+RowSays (Err x) (given m) = ⊥
+RowSays (Err x) (refused k q) = told {A = LineEnd} x ≡ refused k q
+
+pub row_says : (r : Result Row Refusal) (a : Answer Made) → told_row r ≡ shown a → RowSays r a
+row_says (Ok r) (given m) e =
     let size : r.size ≡ length m.bytes = ap (λ (w : Shown). w.size) e in
     let bytes : r.bytes ≡ m.bytes ++ zeros (20 - length m.bytes) = ap (λ (w : Shown). w.bytes) e in (
       given_same (ap (λ (w : Shown). w.answer) e),
@@ -121,6 +127,9 @@ row_says r m e =
         size = size;
       },
     )
+row_says (Ok r) (refused k q) e = given_refused (ap (λ (w : Shown). w.answer) e)
+row_says (Err x) (given m) e = given_refused (sym (ap (λ (w : Shown). w.answer) e))
+row_says (Err x) (refused k q) e = ap (λ (w : Shown). w.answer) e
 
 -- so what all lines make, by whether another line comes behind the code's row
 module _ (R : Lines → Answer (List ℕ)) (whole : Answer (List ℕ)) (filled : Bool) (s : List ℕ) (at : ℕ) (r : Row) (a : Answer Made) (shows : told_row (Ok r) ≡ shown a) (says : Says R whole filled s at a) where
@@ -138,11 +147,11 @@ module _ (R : Lines → Answer (List ℕ)) (whole : Answer (List ℕ)) (filled :
     where
       go : (x : Answer Made) → a ≡ x → Says R whole filled s at x → told_row (Ok r) ≡ shown x → Goes n
       go (given m) f g t =
-          let h = row_says r m t in
+          let h = row_says (Ok r) (given m) t in
           let end : m.end ≡ LineEnd.More n = sym h.0 ∙ ap end_by e in
           let t = subst (λ (z : LineEnd). SaysEnd R whole filled s at m.bytes z) end g in
           record { made = m.bytes; bytes = h.1; line = f ∙ ap (λ (z : LineEnd). given (record { bytes = m.bytes; end = z })) end; on = t.0; within = t.1; rest = t.2 }
-      go (refused k q) f g t = given_refused (ap (λ (w : Shown). w.answer) t)
+      go (refused k q) f g t = absurd (row_says (Ok r) (refused k q) t)
 
   -- the last line
   pub record Stops : Type 0 where
@@ -156,15 +165,15 @@ module _ (R : Lines → Answer (List ℕ)) (whole : Answer (List ℕ)) (filled :
     where
       go : (x : Answer Made) → a ≡ x → Says R whole filled s at x → told_row (Ok r) ≡ shown x → Stops
       go (given m) f g t =
-          let h = row_says r m t in
+          let h = row_says (Ok r) (given m) t in
           let end : m.end ≡ LineEnd.Last = sym h.0 ∙ ap end_by e in
           record { made = m.bytes; bytes = h.1; line = f ∙ ap (λ (z : LineEnd). given (record { bytes = m.bytes; end = z })) end; rest = subst (λ (z : LineEnd). SaysEnd R whole filled s at m.bytes z) end g }
-      go (refused k q) f g t = given_refused (ap (λ (w : Shown). w.answer) t)
+      go (refused k q) f g t = absurd (row_says (Ok r) (refused k q) t)
 
 -- a line that is turned away
 pub row_refused : (R : Lines → Answer (List ℕ)) (whole : Answer (List ℕ)) (filled : Bool) (s : List ℕ) (at : ℕ) (a : Answer Made) (x : Refusal) → told_row (Err x) ≡ shown a → Says R whole filled s at a → whole ≡ told x
-row_refused R whole filled s at (given m) x t g = given_refused (sym (ap (λ (w : Shown). w.answer) t))
-row_refused R whole filled s at (refused k q) x t g = let h = ap (λ (w : Shown). w.answer) t in g ∙ sym (ap₂ refused (refused_number h) (refused_place h))
+row_refused R whole filled s at (given m) x t g = absurd (row_says (Err x) (given m) t)
+row_refused R whole filled s at (refused k q) x t g = let h = row_says (Err x) (refused k q) t in g ∙ sym (ap₂ refused (refused_number h) (refused_place h))
 
 -- ---- how many bytes a line has
 
