@@ -18,5 +18,4 @@ pub returns : goal.returns
 returns c =
     let a = c.args in
     let r = of_member a.kind a.id a.m in
-    let second : told_result c.member_outcome.result ≡ record_refused {A = Unit {0}} 0 (record_fault r 0) (given (tt {0})) = c.member_outcome.ensures in
-    second ∙ then_record a.h r (sym c.header_fault.ensures ∙ ap told_result c.in_ok-header_fault.was)
+    c.member_outcome.ensures ∙ then_record a.h r (sym c.header_fault.ensures ∙ ap told_result c.in_ok-header_fault.was)

@@ -18,5 +18,4 @@ pub returns : goal.returns
 returns c =
     let a = c.args in
     let r = of_plate a.kind a.id a.p in
-    let second : told_result c.plate_outcome.result ≡ record_refused {A = Unit {0}} 0 (record_fault r 0) (given (tt {0})) = c.plate_outcome.ensures in
-    second ∙ then_record a.h r (sym c.header_fault.ensures ∙ ap told_result c.in_ok-header_fault.was)
+    c.plate_outcome.ensures ∙ then_record a.h r (sym c.header_fault.ensures ∙ ap told_result c.in_ok-header_fault.was)
