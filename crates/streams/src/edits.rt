@@ -3,24 +3,40 @@
 // it then stands.
 ghost use Rattle.std.specs.Prelude.{◌≡◌, ◌≤◌, length};
 ghost use Rattle.edit.specs.Edit.{Edits};
-ghost use Rattle.streams.specs.Edits.{asked_edit, length_after};
+ghost use Rattle.streams.specs.Edits.{IsEdit, edit_of, length_after};
 
 use crate::parts;
 use sheet::Refusal;
 use std::io;
 use std::io::{Read, Write};
 
-// The edit that a form asks for.
-fn edited(buf: &mut [u8], len: usize, form: &[u8]) -> Result<usize, Refusal>
-    requires { 56 ≤ length form.now }
-    ensures { Edits (asked_edit form.now buf.old len) buf.old result buf.new }
-{
-    if parts::number(form, 0) == 0 {
-        let f = parts::fields(form);
-        return edit::put_numbers(buf, len, f);
+#[derive(Clone, Copy)]
+enum Edit {
+    Put([u32; 13]),
+    Remove(u32),
+}
+
+impl Edit {
+    // By a form's first number.
+    fn of(form: &[u8]) -> Option<Edit>
+        requires { 56 ≤ length form.now }
+        ensures { IsEdit form.now result }
+    {
+        match parts::number(form, 0) {
+            0 => Some(Edit::Put(parts::fields(form))),
+            1 => Some(Edit::Remove(parts::number(form, 1))),
+            _ => None,
+        }
     }
-    let id = parts::number(form, 1);
-    edit::remove(buf, len, id)
+}
+
+fn edited(asked: Edit, buf: &mut [u8], len: usize) -> Result<usize, Refusal>
+    ensures { Edits (edit_of asked buf.old len) buf.old result buf.new }
+{
+    match asked {
+        Edit::Put(fields) => edit::put_numbers(buf, len, fields),
+        Edit::Remove(id) => edit::remove(buf, len, id),
+    }
 }
 
 // The length that the next edit finds: a refusal leaves it.
@@ -44,10 +60,10 @@ fn one_edit(
     if got < 56 {
         return Ok(None);
     }
-    if 1 < parts::number(&form, 0) {
+    let Some(asked) = Edit::of(&form) else {
         return Ok(None);
-    }
-    let e = edited(buf, len, &form);
+    };
+    let e = edited(asked, buf, len);
     parts::print(out, e, buf)?;
     Ok(Some(length_after(len, e)))
 }
