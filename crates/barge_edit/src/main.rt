@@ -47,11 +47,11 @@ fn finish(
     out: &mut impl Write,
     err: &mut impl Write,
     sheet: &[u8],
-    e: Result<usize, Refusal>,
+    edited: Result<usize, Refusal>,
 ) -> io::Result<()>
-    requires { EditInside e (length sheet.now) }
+    requires { EditInside edited (length sheet.now) }
 {
-    match e {
+    match edited {
         Ok(len) => write_sheet(out, err, &sheet[..len]),
         Err(r) => {
             let _ = report::print_refusal(err, r);
@@ -89,8 +89,8 @@ fn put(
     let Some(got) = console::load(input, err, &mut sheet) else {
         return Ok(());
     };
-    let e = put_in(&mut sheet, got, fields);
-    finish(out, err, &sheet, e)
+    let edited = put_in(&mut sheet, got, fields);
+    finish(out, err, &sheet, edited)
 }
 
 fn remove(
@@ -111,8 +111,8 @@ fn remove(
     let Some(got) = console::load(input, err, &mut sheet) else {
         return Ok(());
     };
-    let e = remove_in(&mut sheet, got, id);
-    finish(out, err, &sheet, e)
+    let edited = remove_in(&mut sheet, got, id);
+    finish(out, err, &sheet, edited)
 }
 
 // By the first letter of the command.

@@ -62,10 +62,10 @@ fn line_of(r: Refusal) -> Option<u32>
 }
 
 // The same of what was converted.
-fn line_at_fault(c: Result<usize, Refusal>) -> Option<u32>
-    ensures { result ≡ line_of (told_result c) }
+fn line_at_fault(converted: Result<usize, Refusal>) -> Option<u32>
+    ensures { result ≡ line_of (told_result converted) }
 {
-    match c {
+    match converted {
         Ok(_) => None,
         Err(r) => line_of(r),
     }
@@ -80,11 +80,11 @@ fn refusal_page(r: Refusal) -> Page
 }
 
 // What is printed of what a text was converted to.
-fn page_by(c: Result<usize, Refusal>, sheet: &[u8]) -> Page
-    requires { MadeInside c (length sheet.now) }
-    ensures { Shows (printed_by c sheet.now) result }
+fn page_by(converted: Result<usize, Refusal>, sheet: &[u8]) -> Page
+    requires { MadeInside converted (length sheet.now) }
+    ensures { Shows (printed_by converted sheet.now) result }
 {
-    match c {
+    match converted {
         Ok(n) => report::page_of(&sheet[..n]),
         Err(r) => refusal_page(r),
     }
@@ -94,9 +94,9 @@ fn answer(text: &[u8]) -> Reply
     ensures { Replies text.now result }
 {
     let mut sheet = [0u8; sheet::LONGEST];
-    let c = sheet_csv::read_table(text, &mut sheet);
-    let page = page_by(c, &sheet);
-    let line = line_at_fault(c);
+    let converted = sheet_csv::read_table(text, &mut sheet);
+    let page = page_by(converted, &sheet);
+    let line = line_at_fault(converted);
     Reply { page, line }
 }
 
@@ -112,12 +112,12 @@ fn text_of(buffer: &[u8], got: usize, out: &mut [u8]) -> Result<usize, Refusal>
 fn deliver(
     out: &mut impl Write,
     err: &mut impl Write,
-    c: Result<usize, Refusal>,
+    converted: Result<usize, Refusal>,
     made: &[u8],
 ) -> io::Result<()>
-    requires { MadeInside c (length made.now) }
+    requires { MadeInside converted (length made.now) }
 {
-    match c {
+    match converted {
         Ok(n) => print(out, err, &made[..n]),
         Err(r) => {
             let _ = report::print_refusal(err, r);
@@ -128,9 +128,9 @@ fn deliver(
 
 fn make_sheet(out: &mut impl Write, err: &mut impl Write, text: &[u8]) -> io::Result<()> {
     let mut sheet = [0u8; sheet::LONGEST];
-    let c = sheet_csv::read_table(text, &mut sheet);
-    let written = deliver(out, err, c, &sheet);
-    if let Some(line) = line_at_fault(c) {
+    let converted = sheet_csv::read_table(text, &mut sheet);
+    let written = deliver(out, err, converted, &sheet);
+    if let Some(line) = line_at_fault(converted) {
         show::line(err, text, line);
     }
     written
@@ -145,8 +145,8 @@ fn make_text(
     requires { (enough ≤ length buffer.now) × (got ≤ length buffer.now) }
 {
     let mut text = [0u8; sheet_csv::LONGEST];
-    let c = text_of(buffer, got, &mut text);
-    deliver(out, err, c, &text)
+    let converted = text_of(buffer, got, &mut text);
+    deliver(out, err, converted, &text)
 }
 
 fn check(out: &mut impl Write, err: &mut impl Write, text: &[u8]) -> io::Result<()> {

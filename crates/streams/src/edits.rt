@@ -40,10 +40,10 @@ fn edited(asked: Edit, buf: &mut [u8], len: usize) -> Result<usize, Refusal>
 }
 
 // The length that the next edit finds: a refusal leaves it.
-fn length_after(len: usize, e: Result<usize, Refusal>) -> usize
-    ensures { result ≡ length_after len e }
+fn length_after(len: usize, answer: Result<usize, Refusal>) -> usize
+    ensures { result ≡ length_after len answer }
 {
-    e.unwrap_or(len)
+    answer.unwrap_or(len)
 }
 
 // The edit that comes next, and the length behind it; none where it does not come whole.
@@ -63,9 +63,9 @@ fn one_edit(
     let Some(asked) = Edit::of(&form) else {
         return Ok(None);
     };
-    let e = edited(asked, buf, len);
-    parts::print(out, e, buf)?;
-    Ok(Some(length_after(len, e)))
+    let answer = edited(asked, buf, len);
+    parts::print(out, answer, buf)?;
+    Ok(Some(length_after(len, answer)))
 }
 
 // So many edits, or false where they do not come whole.

@@ -59,22 +59,22 @@ pub fn fields(form: &[u8]) -> [u32; 13]
 }
 
 // The line of an answer: a length, or a refusal.
-pub fn put_line(c: Result<usize, Refusal>, line: &mut [u8]) -> usize
-    requires { (22 ≤ length line.old) × ShortLine (told_result c) }
-    ensures { Laid line.old 0 (line_for (told_result c)) result line.new }
+pub fn put_line(answer: Result<usize, Refusal>, line: &mut [u8]) -> usize
+    requires { (22 ≤ length line.old) × ShortLine (told_result answer) }
+    ensures { Laid line.old 0 (line_for (told_result answer)) result line.new }
 {
-    match c {
+    match answer {
         Ok(n) => decimal::write_number(n as u64, b"\n", line),
         Err(x) => report::write_refusal(x, line).unwrap_or(0),
     }
 }
 
 // The line, and the bytes that it speaks of.
-pub fn print(out: &mut impl Write, c: Result<usize, Refusal>, bytes: &[u8]) -> io::Result<()>
-    requires { ShortLine (told_result c) }
+pub fn print(out: &mut impl Write, answer: Result<usize, Refusal>, bytes: &[u8]) -> io::Result<()>
+    requires { ShortLine (told_result answer) }
 {
     let mut line = [0u8; LINE];
-    let end = put_line(c, &mut line);
+    let end = put_line(answer, &mut line);
     out.write_all(&line[..end])?;
     out.write_all(bytes)
 }

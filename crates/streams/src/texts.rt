@@ -45,8 +45,8 @@ fn answer(task: Task, input: &[u8], out: &mut [u8], line: &mut [u8]) -> usize
     requires { (length out.old ≤ 65536) × (22 ≤ length line.old) }
     ensures { Answers (asked (number_of task) input.now (length out.old)) out.old out.new result line.new }
 {
-    let c = converted(task, input, out);
-    parts::put_line(c, line)
+    let answer = converted(task, input, out);
+    parts::put_line(answer, line)
 }
 
 pub fn print(to: &mut impl Write, head: &[u8; 20], input: &[u8], out: &mut [u8]) -> io::Result<bool>

@@ -34,19 +34,19 @@ fn packed_refusal(r: Refusal) -> u64
     number * NUMBER + r.place() as u64
 }
 
-fn packed_outcome(o: Result<(), Refusal>) -> u64
-    ensures { result ≡ fine (told_result o) }
+fn packed_outcome(outcome: Result<(), Refusal>) -> u64
+    ensures { result ≡ fine (told_result outcome) }
 {
-    match o {
+    match outcome {
         Ok(()) => 0,
         Err(r) => packed_refusal(r),
     }
 }
 
-fn packed_checked(c: Result<Checked, Refusal>) -> u64
-    ensures { result ≡ packed (told_checked c) }
+fn packed_checked(checked: Result<Checked, Refusal>) -> u64
+    ensures { result ≡ packed (told_checked checked) }
 {
-    match c {
+    match checked {
         Ok(totals) => (totals.n as u64) * COUNT + totals.failed as u64,
         Err(r) => packed_refusal(r),
     }

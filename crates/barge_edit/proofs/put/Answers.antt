@@ -7,5 +7,5 @@ use Rattle.barge_edit.proofs.put.Goals as goal
 
 pub finish-requires : goal.finish-requires
 finish-requires g c =
-    let e = c.put_in-e.result in
-    subst (λ (n : ℕ). EditInside e n) (sym c.put_in-e.auto.buffer) (put_inside _ _ _ e _ c.put_in-e.ensures.edits)
+    let e = c.put_in-edited.result in
+    subst (λ (n : ℕ). EditInside e n) (sym c.put_in-edited.auto.buffer) (put_inside _ _ _ e _ c.put_in-edited.ensures.edits)

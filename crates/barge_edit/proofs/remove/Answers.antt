@@ -7,5 +7,5 @@ use Rattle.barge_edit.proofs.remove.Goals as goal
 
 pub finish-requires : goal.finish-requires
 finish-requires g c =
-    let e = c.remove_in-e.result in
-    subst (λ (n : ℕ). EditInside e n) (sym c.remove_in-e.auto.buffer) (remove_inside _ _ _ e _ c.remove_in-e.ensures.edits)
+    let e = c.remove_in-edited.result in
+    subst (λ (n : ℕ). EditInside e n) (sym c.remove_in-edited.auto.buffer) (remove_inside _ _ _ e _ c.remove_in-edited.ensures.edits)

@@ -12,7 +12,7 @@ returns c =
     record {
       page = record {
         inside = c.page_by-page.ensures.inside;
-        text = c.page_by-page.ensures.text ∙ made_printed s (replicate longest_sheet 0) c.read_table-c.result c.read_table-c.new.out c.read_table-c.ensures;
+        text = c.page_by-page.ensures.text ∙ made_printed s (replicate longest_sheet 0) c.read_table-converted.result c.read_table-converted.new.out c.read_table-converted.ensures;
       };
-      line = c.line_at_fault-line.ensures ∙ ap line_of c.read_table-c.ensures.answer;
+      line = c.line_at_fault-line.ensures ∙ ap line_of c.read_table-converted.ensures.answer;
     }

@@ -11,4 +11,4 @@ deliver-requires g c =
     let a = c.args in
     let b = a.buffer.now in
     let first = take a.got b in
-    made_inside _ _ c.text_of-c.result c.text_of-c.new.out c.text_of-c.auto.out (c.text_of-c.ensures first (sym (take_all (length b) first (simp length-take (omega arith)))))
+    made_inside _ _ c.text_of-converted.result c.text_of-converted.new.out c.text_of-converted.auto.out (c.text_of-converted.ensures first (sym (take_all (length b) first (simp length-take (omega arith)))))

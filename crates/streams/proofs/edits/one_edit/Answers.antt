@@ -25,5 +25,5 @@ inside (refused k p) b l w = tt
 
 pub print-requires : goal.print-requires
 print-requires g c =
-    let told = c.edited-e.ensures.answer in
+    let told = c.edited-answer.ensures.answer in
     subst ShortLine (sym told) (inside _ c.args.buf.now c.requires (edit_within _ c.args.buf.now _))

@@ -12,7 +12,7 @@ within text k l =
     omega (arith, most, l.place, k)
 
 pub slice_bounds-line-end : goal.slice_bounds-line-end
-slice_bounds-line-end g c = within (line_for (told_result c.args.c)) c.put_line-end.auto.line c.put_line-end.ensures
+slice_bounds-line-end g c = within (line_for (told_result c.args.answer)) c.put_line-end.auto.line c.put_line-end.ensures
 
 pub slice_bounds-write_all-end : goal.slice_bounds-write_all-end
-slice_bounds-write_all-end g c = sym (length-take-le _ _ (within (line_for (told_result c.args.c)) c.put_line-end.auto.line c.put_line-end.ensures))
+slice_bounds-write_all-end g c = sym (length-take-le _ _ (within (line_for (told_result c.args.answer)) c.put_line-end.auto.line c.put_line-end.ensures))

@@ -17,10 +17,10 @@ inside (refused m p) o after l k e = tt
 
 pub returns : goal.returns
 returns c =
-    let text = line_for (told_result c.converted-c.result) in
+    let text = line_for (told_result c.converted-answer.result) in
     let room = laid_inside c.args.line.now text c.put_line.ensures c.put_line.auto.line in
     record {
       inside = omega (arith, room, c.put_line.ensures.place, c.put_line.auto.line);
-      line = laid_taken c.args.line.now text c.put_line.ensures ∙ ap line_for c.converted-c.ensures.answer;
-      bytes = c.converted-c.ensures.bytes;
+      line = laid_taken c.args.line.now text c.put_line.ensures ∙ ap line_for c.converted-answer.ensures.answer;
+      bytes = c.converted-answer.ensures.bytes;
     }
