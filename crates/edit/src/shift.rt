@@ -2,12 +2,15 @@
 ghost use Rattle.std.specs.Prelude.{◌≡◌, ◌+◌, ◌-◌, ◌≤◌, length};
 ghost use Rattle.edit.specs.Steps.{opened, closed, cleared};
 
-// The bytes from `at` up to `end` go sixteen places up.
+// The bytes from `at` up to `end` go sixteen places up, the last first. No `copy_within`: upwards it becomes a call of memmove, which the static library
+// would ask of whoever links it.
 pub(crate) fn open(buf: &mut [u8], at: usize, end: usize)
     requires { (at ≤ end) × (end + 16 ≤ length buf.old) }
     ensures { buf.new ≡ opened buf.old at end }
 {
-    buf.copy_within(at..end, at + 16);
+    for k in (at..end).rev() {
+        buf[k + 16] = buf[k];
+    }
 }
 
 // The bytes from `at` + 16 up to `end` go sixteen places down.
