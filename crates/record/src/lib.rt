@@ -26,6 +26,7 @@ fn fault(r: Record, spare: u32) -> u8
 }
 
 // The record in a number, whatever its values: up to kind 4 a plate, else a member.
+#[inline(always)]
 fn record_of(n: Long) -> Record
     ensures { result ≡ record_at (long_of n) }
 {
@@ -105,6 +106,7 @@ pub fn read_record_as(s: &[u8], i: u16) -> Result<Record, Refusal>
 }
 
 // The record in the first sixteen bytes as it stands, for whoever has it judged next; fewer bytes are read as 0.
+#[inline(always)]
 pub fn record_in(s: &[u8]) -> Raw
     ensures { result ≡ raw_at (read_of 16 s.now) }
 {
