@@ -5,7 +5,11 @@ pub const P6: u64 = 1 << 6;
 
 pub const P7: u64 = 1 << 7;
 
+pub const P8: u64 = 1 << 8;
+
 pub const P12: u64 = 1 << 12;
+
+pub const P16: u64 = 1 << 16;
 
 pub const P18: u64 = 1 << 18;
 
@@ -19,6 +23,8 @@ pub const P28: u64 = 1 << 28;
 
 pub const P30: u64 = 1 << 30;
 
+pub const P32: u64 = 1 << 32;
+
 pub const P36: u64 = 1 << 36;
 
 pub const P37: u64 = 1 << 37;
@@ -30,6 +36,8 @@ pub const P40: u64 = 1 << 40;
 pub const P41: u64 = 1 << 41;
 
 pub const P46: u64 = 1 << 46;
+
+pub const P48: u64 = 1 << 48;
 
 pub const P49: u64 = 1 << 49;
 
