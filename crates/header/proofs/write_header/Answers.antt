@@ -34,7 +34,7 @@ returns-then-out-needs c = write_under _ _ (omega (arith, c.if-out-needs.true, c
 pub returns-in_err-outcome : goal.returns-in_err-outcome
 returns-in_err-outcome c =
     let passed_on : c.from_residual.result ≡ Err c.in_err-outcome.field-0.0 = search rules in
-    let stopped = stops _ _ _ (sym c.outcome.ensures ∙ c.in_err-outcome.was) in
+    let stopped = stops c.fault.result _ _ (sym c.outcome.ensures ∙ c.in_err-outcome.was) in
     let a = c.args in
     subst (λ (r : Result (Unit {0}) Refusal). Writes (write_header a.h a.out.now) (told_result r) a.out.now) (sym passed_on)
     (write_bad a.h a.out.now _ (omega (arith, c.if-out-needs.false, c.needs.ensures)) c.fault.ensures _ stopped.1 stopped.0)

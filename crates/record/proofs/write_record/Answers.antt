@@ -19,7 +19,7 @@ returns-then-out-lt16 c = write_short _ _ c.if-out-lt16.true
 pub returns-in_err-outcome : goal.returns-in_err-outcome
 returns-in_err-outcome c =
     let passed_on : c.from_residual.result ≡ Err c.in_err-outcome.field-0.0 = search rules in
-    let stopped = stops _ _ _ (sym c.outcome.ensures ∙ c.in_err-outcome.was) in
+    let stopped = stops c.fault.result _ _ (sym c.outcome.ensures ∙ c.in_err-outcome.was) in
     let a = c.args in
     subst (λ (x : Result (Unit {0}) Refusal). Writes (write_record a.r a.out.now) (told_result x) a.out.now) (sym passed_on)
     (write_bad a.r a.out.now _ c.if-out-lt16.false c.fault.ensures _ stopped.1 stopped.0)
