@@ -25,7 +25,8 @@ fn fault(r: Record, spare: u32) -> u8
     }
 }
 
-// The record in a number, whatever its values: up to kind 4 a plate, else a member.
+// The record in a number, whatever its values: up to kind 4 a plate, else a member. As a call it would fill every field, also for whoever asks the id
+// alone.
 #[inline(always)]
 fn record_of(n: Long) -> Record
     ensures { result ≡ record_at (long_of n) }
